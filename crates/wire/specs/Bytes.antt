@@ -4,10 +4,10 @@ use mathlib.Core.List.{List}
 use Prim.Native.Nat.{ℕ, _+_, _*_, _%_, _<_}
 use lib.ListN.{getD}
 
--- a byte, widened: the same number, below 256
-pub record Byte (b r : ℕ) : Type 0 where
-  pub same : r ≡ b
-  pub small : r < 256
+-- a number that was read: what it is, and that it is below a bound
+pub record Below (bound value r : ℕ) : Type 0 where
+  pub same : r ≡ value
+  pub small : r < bound
 
 -- "A loop is a 12-bit length in the low bits of two bytes"
 abbrev pub len12 : ℕ → ℕ → ℕ

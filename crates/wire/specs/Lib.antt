@@ -1,5 +1,8 @@
--- What the layers above share: tests, loops, bytes as numbers, and the laws of parts of lists.
+-- What the layers above share: tests, loops, bytes and digits as numbers, readings, and the laws of parts of lists.
 pub mod If
 pub mod Trail
 pub mod Bytes
+pub mod Number
+pub mod Reading
+pub mod Digits
 pub mod Parts

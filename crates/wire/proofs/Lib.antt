@@ -1,0 +1,4 @@
+-- The laws that the proofs cite, and what holds of the answers.
+pub mod NextDigit
+pub mod SomeBits
+pub mod Unique

@@ -1,0 +1,35 @@
+-- The number in three bytes from a place on.
+use Rattle.wire.specs.Number.{number-after}
+use denote.Ref.{now}
+use borrow.Author.Needs.{needs}
+use Rattle.wire.proofs.numbers.number24_at.Statement.{statement}
+use Rattle.wire.proofs.numbers.number24_at.Tie as tie
+
+after-requires : tie.Need-after-requires
+after-requires c κs = search needs
+
+byte-at-requires : tie.Need-byte-at-requires
+byte-at-requires c κs = search needs
+
+byte-at-requires-2 : tie.Need-byte-at-requires-2
+byte-at-requires-2 c κs = search needs
+
+byte-at-requires-3 : tie.Need-byte-at-requires-3
+byte-at-requires-3 c κs = search needs
+
+number24-requires : tie.Need-number24-requires
+number24-requires c κs = search needs
+
+returns : tie.Need-returns
+returns c = cc (number-after 3 (now (c .before .before .before .before .before .before .args .s)) (c .before .before .before .before .before .before .args .i))
+
+pub number24-at-spec : {M : Type 1} → statement M
+number24-at-spec =
+    tie.close
+    (tie.spec
+    after-requires
+    byte-at-requires
+    byte-at-requires-2
+    byte-at-requires-3
+    number24-requires
+    returns)
