@@ -1,0 +1,19 @@
+-- Laws that several proofs cite, and the theorems.
+pub mod Marks
+pub mod Runs
+pub mod Seam
+pub mod Rooms
+pub mod Turns
+pub mod Goes
+pub mod Beside
+pub mod Keeps
+pub mod Kept
+pub mod Payloads
+pub mod Outcomes
+pub mod Stands
+pub mod Agrees
+pub mod NoSpan
+pub mod Demand3
+pub mod WrongCollectors
+pub mod Promise
+pub mod Table

@@ -1,0 +1,129 @@
+-- From the code's answer for a packet's payload to the outcome of the call.
+use mathlib.Core.Path.{_≡_, refl, sym, ap, _∙_, subst}
+use mathlib.Core.Bool.{Bool, true, false}
+use mathlib.Core.List.{List, [], _∷_, _++_, append-nil, map, map-id, flatten}
+use Prim.Native.Nat.{ℕ, _+_, _%_, _^_, _≤_, _<_}
+use native.Mathlib.Nat.{zero-add, add-zero}
+use native.Mathlib.Omega.{arith}
+use lib.ListN.{length, take, drop, length-append}
+use Rattle.wire.specs.If.{if_then_else_}
+use Rattle.collector.specs.Each.{Each}
+use Rattle.collector.specs.Rules.{Fate, pointer, delivered, broken, filler, skipped, in-hand, Story, sameFate, bytesOf, countOf, handOf, marked, given, settled, brokenOff, holding, joined, plain, goesOn, payload}
+use Rattle.collector.specs.Answer as Answer
+use Rattle.collector.specs.Answer.{came}
+use Rattle.collector.specs.Collected.{over, recordAfter, takenTo}
+use Rattle.collector.specs.Inside.{CanStand, Fit, Ends, Small, pointCount, countedOf}
+use Rattle.collector.specs.declared.Record.{Record}
+use Rattle.collector.specs.declared.Last.the-variants.{Counter}
+use Rattle.collector.specs.declared.Answer.the-variants.{Taken}
+use Rattle.collector.specs.declared.stretch.Came.{Came}
+use Rattle.collector.proofs.Marks.{bytesOf-more, bytesOf-marked, settled-hand, settled-marked}
+use Rattle.collector.proofs.Beside.{Beside, beside-payload}
+use Rattle.collector.proofs.Keeps.{each-of, keep-goes, keep-sections, keep-payload}
+use Rattle.collector.proofs.Kept.{Any, Kept, keeps-kept, points-kept, kept-holding, delivered-in, keeps-points}
+use Rattle.collector.proofs.Payloads.{plain-sections, any, same-hand, more-sections, small-of}
+
+-- ---- the story of a payload
+
+pub kept-payload : (start : Bool) (h bs : List ℕ) → Kept plain (h ++ bs) (payload plain start (holding h) bs)
+kept-payload start h bs = keep-payload plain Any (Kept plain) (keeps-kept plain) (points-kept plain) start h (holding h) bs (any bs) (kept-holding plain h)
+
+-- the pointer byte is counted once
+no-point : (h : List ℕ) → countOf pointer (marked in-hand h) ≡ 0
+no-point h = ap length (bytesOf-marked pointer in-hand h)
+
+points-payload : (start : Bool) (h bs : List ℕ) → 0 < length bs → countOf pointer (payload plain start (holding h) bs .marks) ≡ pointCount start
+points-payload false h bs k = keep-goes plain Any _ (keeps-points plain 0) h (holding h) bs (any bs) (no-point h)
+points-payload true h [] k = absurd (omega arith)
+points-payload true h (p ∷ bs) k =
+    let first : countOf pointer (given pointer p (holding h) .marks) ≡ 1 = ap length (bytesOf-more pointer pointer (marked in-hand h) (p ∷ [])) ∙ length-append (bytesOf pointer (marked in-hand h)) (p ∷ []) ∙ ap (λ (n : ℕ). n + 1) (no-point h) in
+    let f : Story ℕ = goesOn plain (given pointer p (holding h)) (take p bs) in
+    let y = keep-goes plain Any _ (keeps-points plain 1) [] (given pointer p (holding h)) (take p bs) (any (take p bs)) first in
+    keep-sections plain Any _ (keeps-points plain 1) [] (brokenOff f) (drop p bs) (any (drop p bs)) (keeps-points plain 1 .breaks [] f y)
+
+-- ---- what a break in the counter takes stays apart from the packet
+
+-- n bytes of one fate: broken off
+abbrev lost : ℕ → Fate → ℕ
+lost n pointer = 0
+lost n delivered = 0
+lost n broken = n
+lost n filler = 0
+lost n skipped = 0
+lost n in-hand = 0
+
+lost-count : (h : List ℕ) (f : Fate) → countOf f (brokenOff (holding h) .marks) ≡ lost (length h) f
+lost-count h pointer = ap (countOf pointer) (settled-marked broken in-hand h) ∙ ap length (bytesOf-marked pointer broken h)
+lost-count h delivered = ap (countOf delivered) (settled-marked broken in-hand h) ∙ ap length (bytesOf-marked delivered broken h)
+lost-count h broken = ap (countOf broken) (settled-marked broken in-hand h) ∙ ap length (bytesOf-marked broken broken h)
+lost-count h filler = ap (countOf filler) (settled-marked broken in-hand h) ∙ ap length (bytesOf-marked filler broken h)
+lost-count h skipped = ap (countOf skipped) (settled-marked broken in-hand h) ∙ ap length (bytesOf-marked skipped broken h)
+lost-count h in-hand = ap (countOf in-hand) (settled-marked broken in-hand h) ∙ ap length (bytesOf-marked in-hand broken h)
+
+none-lost : (f : Fate) → 0 ≡ lost 0 f
+none-lost pointer = refl
+none-lost delivered = refl
+none-lost broken = refl
+none-lost filler = refl
+none-lost skipped = refl
+none-lost in-hand = refl
+
+beside-itself : (s : Story ℕ) → Beside plain (lost 0) [] s s
+beside-itself s = record { hand = map-id (handOf s); sections = plain-sections (s .sections); counts = λ f e. sym (zero-add (countOf f (s .marks))) ∙ ap (λ (n : ℕ). n + countOf f (s .marks)) (none-lost f) }
+
+beside-break : (start : Bool) (h bs : List ℕ) → Beside plain (lost (length h)) [] (payload plain start (holding []) bs) (payload plain start (brokenOff (holding h)) bs)
+beside-break start h bs =
+    subst (λ (z : List ℕ). Beside plain (lost (length h)) [] (payload plain start (holding []) z) (payload plain start (brokenOff (holding h)) bs)) (map-id bs)
+    (beside-payload plain (lost (length h)) [] start (holding []) (brokenOff (holding h)) bs (record {
+      hand = ap (map plain) (settled-hand broken refl (marked in-hand h));
+      sections = refl;
+      counts = λ f e. lost-count h f ∙ sym (add-zero (lost (length h) f));
+    }))
+
+-- ---- the outcome
+
+module _ (r : Record) (hold out : List ℕ) (counter : ℕ) (start : Bool) (h bs : List ℕ) (some : 0 < length bs) (e : Came) (hold′ out′ : List ℕ) where
+  abbrev s : Story ℕ
+  s = payload plain start (holding h) bs
+
+  pub small : Ends s hold out 0 hold′ out′ e → length h + length bs ≤ 5000 → Small e
+  small x w = small-of (h ++ bs) s (kept-payload start h bs) (omega (arith, length-append h bs)) x
+
+  taken-to : Ends s hold out 0 hold′ out′ e → (n : ℕ) (S : Story ℕ) → Beside plain (lost n) [] s S → (r′ : Record) → r′ ≡ countedOf r counter e n start → came r′ hold′ out′ (Taken (e .sections) (e .bytes)) ≡ takenTo r hold out counter S
+  taken-to x n S b r′ w =
+      let secs : s .sections ≡ S .sections = sym (more-sections b) in
+      let bytes : flatten (s .sections) ≡ flatten (S .sections) = ap flatten secs in
+      let hand : handOf s ≡ handOf S = sym (same-hand b) in
+      let point : pointCount start ≡ countOf pointer (S .marks) = sym (points-payload start h bs some) ∙ sym (zero-add _) ∙ sym (b .counts pointer refl) in
+      let given : e .bytes ≡ countOf delivered (S .marks) = x .bytes ∙ sym (delivered-in plain (h ++ bs) s (kept-payload start h bs)) ∙ sym (zero-add _) ∙ sym (b .counts delivered refl) in
+      let gone : n + e .broken ≡ countOf broken (S .marks) = ap (λ (z : ℕ). n + z) (x .broken) ∙ sym (b .counts broken refl) in
+      let fill : e .filler ≡ countOf filler (S .marks) = x .filler ∙ sym (zero-add _) ∙ sym (b .counts filler refl) in
+      let skip : e .skipped ≡ countOf skipped (S .marks) = x .skipped ∙ sym (zero-add _) ∙ sym (b .counts skipped refl) in
+      let the-record : r′ ≡ recordAfter r counter S =
+      w ∙ (λ i. record { pid = r .pid; last = Counter counter; in_hand = (x .in-hand ∙ ap length hand) i; pointer = (r .pointer + point i) % 2 ^ 32; delivered = (r .delivered + given i) % 2 ^ 32; broken = (r .broken + gone i) % 2 ^ 32; filler = (r .filler + fill i) % 2 ^ 32; skipped = (r .skipped + skip i) % 2 ^ 32 }) in
+      let the-out : out′ ≡ over (flatten (S .sections)) out = x .the-out ∙ ap (λ (z : ℕ). flatten (s .sections) ++ drop z out) (zero-add (length (flatten (s .sections)))) ∙ ap (λ (z : List ℕ). over z out) bytes in
+      λ i. record {
+        rec = the-record i;
+        hold = (x .the-hold ∙ ap (λ (z : List ℕ). over z hold) hand) i;
+        out = the-out i;
+        said = Answer.taken ((x .sections ∙ ap length secs) i) ((x .bytes ∙ ap length bytes) i);
+      }
+
+-- ---- the two ways of a packet that is taken
+
+module _ (r : Record) (hold out : List ℕ) (counter : ℕ) (start : Bool) (bs : List ℕ) (some : 0 < length bs) (e : Came) (hold′ out′ : List ℕ) (r′ : Record) where
+  abbrev hand : List ℕ
+  hand = take (r .in_hand) hold
+
+  abbrev Comes : Bool → Type 0
+  Comes next = came r′ hold′ out′ (Taken (e .sections) (e .bytes)) ≡ takenTo r hold out counter (payload plain start (joined next (holding hand)) bs)
+
+  pub comes-next : Ends (payload plain start (holding hand) bs) hold out 0 hold′ out′ e → r′ ≡ countedOf r counter e 0 start → Comes true
+  comes-next x w = taken-to r hold out counter start hand bs some e hold′ out′ x 0 _ (beside-itself _) r′ w
+
+  pub comes-broken : r .in_hand ≡ length hand → Ends (payload plain start (holding []) bs) hold out 0 hold′ out′ e → r′ ≡ countedOf r counter e (r .in_hand) start → Comes false
+  comes-broken l x w = taken-to r hold out counter start [] bs some e hold′ out′ x (length hand) _ (beside-break start hand bs) r′ (w ∙ ap (λ (z : ℕ). countedOf r counter e z start) l)
+
+-- with nothing in hand a packet fits too
+pub fit-none : (n : ℕ) (hold out packet : List ℕ) (from : ℕ) (start : Bool) → Fit n hold out packet from start → Fit 0 hold out packet from start
+fit-none n hold out packet from start f = record { few = omega arith; hold-big = f .hold-big; out-big = f .out-big; from-past = f .from-past; from-within = f .from-within; long = f .long; stands = record { more = λ m. absurd (omega arith) }; points = f .points }

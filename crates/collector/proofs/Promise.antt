@@ -1,0 +1,89 @@
+-- The promise fixes the outcome: two answers that tell the same are equal, and so are any two outcomes of one call. And it can always be met, so
+-- that a run from a fresh record exists for any packets and any out rooms.
+use mathlib.Core.Path.{_≡_, refl, sym, ap, _∙_}
+use mathlib.Core.List.{List, [], _∷_, map}
+use Prim.Native.Nat.{ℕ}
+use lib.Dec.{eqb}
+use Rattle.wire.specs.If.{if_then_else_}
+use Rattle.collector.specs.Answer.{numberOf, Told, refused, repeated, taken, told, Outcome, came}
+use Rattle.collector.specs.Collected.{collected}
+use Rattle.collector.specs.Run.{Promised, Call, Run, no-call, one-call}
+use Rattle.collector.specs.declared.Record.{Record}
+use Rattle.collector.specs.declared.Refusal.{Refusal}
+use Rattle.collector.specs.declared.Refusal.the-variants.{NotAPacket, Room, Unfit, Sync, Error, OtherPid, Scrambled, Adaptation, Pointer}
+use Rattle.collector.specs.declared.Answer.{Answer}
+use Rattle.collector.specs.declared.Answer.the-variants.{Refused, Repeated, Taken}
+
+-- ---- two answers that tell the same are equal
+
+refusalAt : ℕ → Refusal
+refusalAt n =
+    if eqb n 41 then NotAPacket
+    else (if eqb n 42 then Room
+    else (if eqb n 43 then Unfit
+    else (if eqb n 44 then Sync
+    else (if eqb n 45 then Error
+    else (if eqb n 46 then OtherPid
+    else (if eqb n 47 then Scrambled
+    else (if eqb n 48 then Adaptation
+    else Pointer)))))))
+
+answerAt : Told → Answer
+answerAt (refused n) = Refused (refusalAt n)
+answerAt repeated = Repeated
+answerAt (taken sections bytes) = Taken sections bytes
+
+refusal-at : (x : Refusal) → refusalAt (numberOf x) ≡ x
+unfolding refusalAt
+refusal-at NotAPacket = refl
+refusal-at Room = refl
+refusal-at Unfit = refl
+refusal-at Sync = refl
+refusal-at Error = refl
+refusal-at OtherPid = refl
+refusal-at Scrambled = refl
+refusal-at Adaptation = refl
+refusal-at Pointer = refl
+
+answer-at : (a : Answer) → answerAt (told a) ≡ a
+unfolding answerAt
+answer-at (Refused x) = ap Refused (refusal-at x)
+answer-at Repeated = refl
+answer-at (Taken sections bytes) = refl
+
+pub told-once : (a b : Answer) → told a ≡ told b → a ≡ b
+told-once a b e = sym (answer-at a) ∙ ap answerAt e ∙ answer-at b
+
+-- ---- any two outcomes that the promise allows are equal
+
+pub one-outcome : (r : Record) (hold out packet : List ℕ) (r₁ : Record) (hold₁ out₁ : List ℕ) (a₁ : Answer) (r₂ : Record) (hold₂ out₂ : List ℕ) (a₂ : Answer)
+    → came r₁ hold₁ out₁ a₁ ≡ collected r hold out packet → came r₂ hold₂ out₂ a₂ ≡ collected r hold out packet
+    → (r₁ ≡ r₂) × (hold₁ ≡ hold₂) × (out₁ ≡ out₂) × (a₁ ≡ a₂)
+one-outcome r hold out packet r₁ hold₁ out₁ a₁ r₂ hold₂ out₂ a₂ x y =
+    let e : came r₁ hold₁ out₁ a₁ ≡ came r₂ hold₂ out₂ a₂ = x ∙ sym y in
+    (ap (λ (o : Outcome). o .rec) e, ap (λ (o : Outcome). o .hold) e, ap (λ (o : Outcome). o .out) e, told-once a₁ a₂ (ap (λ (o : Outcome). o .said) e))
+
+-- ---- a run for any packets and any out rooms
+
+pub record Input : Type 0 where
+  pub packet : List ℕ
+  pub out : List ℕ
+
+abbrev pub inputOf : Call → Input
+inputOf k = record { packet = k .packet; out = k .out }
+
+-- calls with these inputs, and where they lead
+pub record RunOn (r : Record) (hold : List ℕ) (xs : List Input) : Type 0 where
+  pub calls : List Call
+  pub inputs : map inputOf calls ≡ xs
+  pub rec : Record
+  pub last-hold : List ℕ
+  pub run : Run Promised r hold calls rec last-hold
+
+pub runs-exist : (r : Record) (hold : List ℕ) (xs : List Input) → RunOn r hold xs
+runs-exist r hold [] = record { calls = []; inputs = refl; rec = r; last-hold = hold; run = no-call }
+runs-exist r hold (x ∷ xs) =
+    let o : Outcome = collected r hold (x .out) (x .packet) in
+    let k : Call = record { packet = x .packet; out = x .out; out′ = o .out; said = o .said } in
+    let more = runs-exist (o .rec) (o .hold) xs in
+    record { calls = k ∷ more .calls; inputs = ap (λ (l : List Input). x ∷ l) (more .inputs); rec = more .rec; last-hold = more .last-hold; run = one-call refl (more .run) }

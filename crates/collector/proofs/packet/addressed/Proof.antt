@@ -1,0 +1,59 @@
+-- `collector::packet::addressed` meets its contract: the tests are rows 44 to 47 of the table, in their order.
+use mathlib.Core.Path.{_≡_, sym, _∙_}
+use borrow.Author.Needs.{needs}
+use borrow.Author.Tests.{le-leb, lt-leb, eq-eqb, ne-eqb}
+use Rattle.collector.proofs.packet.addressed.Statement.{statement}
+use Rattle.collector.proofs.packet.addressed.Tie as tie
+
+shared-slice-read-if1 : tie.Need-shared-slice-read-if1
+shared-slice-read-if1 c = search needs
+
+returns : tie.Need-returns
+returns c = simp (ne-eqb _ _ (c .if1 .taken))
+
+shared-slice-read-if2 : tie.Need-shared-slice-read-if2
+shared-slice-read-if2 c = search needs
+
+returns-2 : tie.Need-returns-2
+returns-2 c = simp (eq-eqb _ _ (c .before .before .if1 .left), le-leb _ _ (c .if2 .taken))
+
+pid-of-requires : tie.Need-pid-of-requires
+pid-of-requires c κs = search needs
+
+returns-3 : tie.Need-returns-3
+returns-3 c =
+    let k = c .before .before in
+    simp (eq-eqb _ _ (k .before .before .if1 .left), lt-leb _ _ (k .if2 .left), ← c .before .pid-of .ensures, ne-eqb _ _ (c .if3 .taken))
+
+shared-slice-read-if4 : tie.Need-shared-slice-read-if4
+shared-slice-read-if4 c = search needs
+
+returns-4 : tie.Need-returns-4
+returns-4 c =
+    let t = c .before .before in
+    let k = t .before .before in
+    simp (eq-eqb _ _ (k .before .before .if1 .left), lt-leb _ _ (k .if2 .left), ← t .before .pid-of .ensures, eq-eqb _ _ (t .if3 .left), ne-eqb _ _ (c .if4 .taken))
+
+shaped-requires : tie.Need-shaped-requires
+shaped-requires c κs = search needs
+
+returns-5 : tie.Need-returns-5
+returns-5 c =
+    let t = c .before .before .before in
+    let k = t .before .before in
+    c .shaped .ensures ∙ sym (simp (eq-eqb _ _ (k .before .before .if1 .left), lt-leb _ _ (k .if2 .left), ← t .before .pid-of .ensures, eq-eqb _ _ (t .if3 .left), eq-eqb _ _ (c .before .if4 .left)))
+
+pub addressed-spec : {M : Type 1} → statement M
+addressed-spec =
+    tie.close
+    (tie.spec
+    shared-slice-read-if1
+    returns
+    shared-slice-read-if2
+    returns-2
+    pid-of-requires
+    returns-3
+    shared-slice-read-if4
+    returns-4
+    shaped-requires
+    returns-5)

@@ -1,0 +1,53 @@
+-- What one call of the collector comes to, for every record, hold, out room and packet.
+use mathlib.Core.List.{List, [], _∷_, _++_, flatten}
+use Prim.Native.Nat.{ℕ, _+_, _%_, _^_}
+use lib.ListN.{length, take, drop}
+use Rattle.collector.specs.Rules.{pointer, delivered, broken, filler, skipped, Story, countOf, handOf, holding, plain, takenIn}
+use Rattle.collector.specs.Refusals.{lastOf, cannotStand, Ruling, refused, repeated, bare, takes, ruling}
+use Rattle.collector.specs.Answer as Answer
+use Rattle.collector.specs.Answer.{Told, Outcome}
+use Rattle.collector.specs.declared.Record.{Record}
+use Rattle.collector.specs.declared.Last.the-variants.{None, Counter}
+
+-- "A fresh one: no counter, nothing in hand, zeros."
+abbrev pub freshRecord : ℕ → Record
+freshRecord pid = record { pid = pid; last = None; in_hand = 0; pointer = 0; delivered = 0; broken = 0; filler = 0; skipped = 0 }
+
+-- "the record and all lent room unaltered"
+abbrev pub unaltered : Record → List ℕ → List ℕ → Told → Outcome
+unaltered r hold out said = record { rec = r; hold = hold; out = out; said = said }
+
+-- "the counter then becomes the last"; "five 32-bit counters that run round past 4,294,967,295 to 0"
+abbrev pub recordAfter : Record → ℕ → Story ℕ → Record
+recordAfter r counter s = record {
+  pid = r .pid;
+  last = Counter counter;
+  in_hand = length (handOf s);
+  pointer = (r .pointer + countOf pointer (s .marks)) % 2 ^ 32;
+  delivered = (r .delivered + countOf delivered (s .marks)) % 2 ^ 32;
+  broken = (r .broken + countOf broken (s .marks)) % 2 ^ 32;
+  filler = (r .filler + countOf filler (s .marks)) % 2 ^ 32;
+  skipped = (r .skipped + countOf skipped (s .marks)) % 2 ^ 32;
+}
+
+-- bytes at a room's start; "Bytes of either beyond that stay."
+abbrev pub over : List ℕ → List ℕ → List ℕ
+over bytes room = bytes ++ drop (length bytes) room
+
+-- "Out gets the finished sections end to end, the answer their number and bytes. Hold begins with the bytes in hand."
+abbrev pub takenTo : Record → List ℕ → List ℕ → ℕ → Story ℕ → Outcome
+takenTo r hold out counter s = record {
+  rec = recordAfter r counter s;
+  hold = over (handOf s) hold;
+  out = over (flatten (s .sections)) out;
+  said = Answer.taken (length (s .sections)) (length (flatten (s .sections)));
+}
+
+abbrev pub outcomeOf : Record → List ℕ → List ℕ → Ruling → Outcome
+outcomeOf r hold out (refused n) = unaltered r hold out (Answer.refused n)
+outcomeOf r hold out repeated = unaltered r hold out Answer.repeated
+outcomeOf r hold out bare = unaltered r hold out (Answer.taken 0 0)
+outcomeOf r hold out (takes q) = takenTo r hold out (q .counter) (takenIn plain (lastOf (r .last)) (holding (take (r .in_hand) hold)) q)
+
+abbrev pub collected : Record → List ℕ → List ℕ → List ℕ → Outcome
+collected r hold out packet = outcomeOf r hold out (ruling (cannotStand r hold) (r .pid) (lastOf (r .last)) (length hold) (length out) packet)

@@ -1,0 +1,191 @@
+-- Document 01's rules for the payload of the packets taken, a byte at a time, and the fate that each byte has "as they stand after the packets
+-- so far". They rest on the packets alone: no record, no hold, no room. They look at a byte's value and at nothing else, so a byte may be any
+-- thing that has a value; a run of calls takes bytes that know their packet, and one call takes bare numbers.
+use mathlib.Core.Bool.{Bool, true, false}
+use mathlib.Core.List.{List, [], _∷_, _++_, map}
+use mathlib.Core.Option.{Option, none, some}
+use Prim.Native.Nat.{ℕ, _+_, _%_}
+use lib.ListN.{length, take, drop}
+use lib.Dec.{ltb, eqb}
+use Rattle.wire.specs.If.{if_then_else_}
+use Rattle.wire.specs.Bytes.{len12At}
+
+-- "one fate ..: pointer, delivered, broken off, filler, skipped, or in hand"
+pub data Fate : Type 0 where
+  pointer : Fate
+  delivered : Fate
+  broken : Fate
+  filler : Fate
+  skipped : Fate
+  in-hand : Fate
+
+pub record Mark (A : Type 0) : Type 0 where
+  pub byte : A
+  pub fate : Fate
+
+-- marks: one for each byte of payload so far, in order; sections: those delivered so far, in order, each with its bytes
+pub record Story (A : Type 0) : Type 0 where
+  pub marks : List (Mark A)
+  pub sections : List (List A)
+
+-- ---- what the marks say
+
+abbrev pub fateNumber : Fate → ℕ
+fateNumber pointer = 0
+fateNumber delivered = 1
+fateNumber broken = 2
+fateNumber filler = 3
+fateNumber skipped = 4
+fateNumber in-hand = 5
+
+abbrev pub sameFate : Fate → Fate → Bool
+sameFate f g = eqb (fateNumber f) (fateNumber g)
+
+-- a byte's fate, once what was in hand has the fate f
+abbrev pub outOfHand : Fate → Fate → Fate
+outOfHand f pointer = pointer
+outOfHand f delivered = delivered
+outOfHand f broken = broken
+outOfHand f filler = filler
+outOfHand f skipped = skipped
+outOfHand f in-hand = f
+
+module _ {A : Type 0} where
+  -- the bytes of one fate, in order
+  abbrev pub bytesOf : Fate → List (Mark A) → List A
+  bytesOf f [] = []
+  bytesOf f (m ∷ ms) = if sameFate f (m .fate) then m .byte ∷ bytesOf f ms else bytesOf f ms
+
+  abbrev pub countOf : Fate → List (Mark A) → ℕ
+  countOf f ms = length (bytesOf f ms)
+
+  abbrev pub handOf : Story A → List A
+  handOf s = bytesOf in-hand (s .marks)
+
+  -- ---- what can happen to a byte
+
+  -- bytes whose fate is f
+  abbrev pub marked : Fate → List A → List (Mark A)
+  marked f bs = map (λ b. record { byte = b; fate = f }) bs
+
+  -- the next byte has the fate f
+  abbrev pub given : Fate → A → Story A → Story A
+  given f b s = record { marks = s .marks ++ (record { byte = b; fate = f } ∷ []); sections = s .sections }
+
+  -- what was in hand has the fate f
+  abbrev pub settled : Fate → List (Mark A) → List (Mark A)
+  settled f ms = map (λ m. record { byte = m .byte; fate = outOfHand f (m .fate) }) ms
+
+  -- nothing but what is in hand
+  abbrev pub holding : List A → Story A
+  holding bs = record { marks = marked in-hand bs; sections = [] }
+
+  -- what is in hand is broken off
+  abbrev pub brokenOff : Story A → Story A
+  brokenOff s = record { marks = settled broken (s .marks); sections = s .sections }
+
+  -- what is in hand is a section, and is delivered
+  abbrev pub finished : Story A → Story A
+  finished s = record { marks = settled delivered (s .marks); sections = s .sections ++ (handOf s ∷ []) }
+
+-- ---- one byte
+
+-- what the next byte of a stretch is: where a section would begin, one of the section in hand, or one of the stretch's rest
+pub data Mode : Type 0 where
+  begin : Mode
+  inside : Mode
+  filling : Mode
+  skipping : Mode
+  breaking : Mode
+
+-- a place in a stretch: what the next byte is, and the story up to it
+pub record Next (A : Type 0) : Type 0 where
+  pub mode : Mode
+  pub story : Story A
+
+-- the bytes of a section, by its header: three, and those of its section_length
+abbrev pub totalOf : List ℕ → ℕ
+totalOf s = 3 + len12At s 1
+
+-- what has come of a section so far: it goes on, it is whole, or it declares too much
+pub data Size : Type 0 where
+  going : Size
+  whole : Size
+  over : Size
+
+-- "A section_length above 4,093, known at its third byte"
+unfoldable pub sizeOf : List ℕ → Size
+sizeOf s = if ltb (length s) 3 then going else (if ltb 4096 (totalOf s) then over else (if eqb (length s) (totalOf s) then whole else going))
+
+-- "If the counter isn't the last plus 1 modulo 16, what is in hand is broken off". Without a last counter nothing is in hand.
+unfoldable pub follows : Option ℕ → ℕ → Bool
+follows none counter = true
+follows (some last) counter = eqb counter ((last + 1) % 16)
+
+-- the value of a bare byte is the byte
+abbrev pub plain : ℕ → ℕ
+plain b = b
+
+-- a packet that is taken and has payload
+pub record Carried (A : Type 0) : Type 0 where
+  pub counter : ℕ
+  pub start : Bool
+  pub bytes : List A
+
+module _ {A : Type 0} where
+  -- "until 0xFF stands where one would begin (the rest is filler)"
+  abbrev pub begun : Bool → A → Story A → Next A
+  begun true b s = record { mode = filling; story = given filler b s }
+  begun false b s = record { mode = inside; story = given in-hand b s }
+
+  -- after is the mode that a section's end leads to. "the section and the rest of its stretch .. are broken off"
+  abbrev pub grown : Mode → Size → Story A → Next A
+  grown after going s = record { mode = inside; story = s }
+  grown after whole s = record { mode = after; story = finished s }
+  grown after over s = record { mode = breaking; story = brokenOff s }
+
+  -- "bytes go to the section in hand .. Nothing in hand: skipped."
+  abbrev pub resumed : List A → Mode
+  resumed [] = skipping
+  resumed (b ∷ bs) = inside
+
+  abbrev pub joined : Bool → Story A → Story A
+  joined true s = s
+  joined false s = brokenOff s
+
+module _ {A : Type 0} (value : A → ℕ) where
+  abbrev pub byteIn : Mode → Mode → A → Story A → Next A
+  byteIn after begin b s = begun (eqb (value b) 255) b s
+  byteIn after inside b s = grown after (sizeOf (map value (handOf s ++ (b ∷ [])))) (given in-hand b s)
+  byteIn after filling b s = record { mode = filling; story = given filler b s }
+  byteIn after skipping b s = record { mode = skipping; story = given skipped b s }
+  byteIn after breaking b s = record { mode = breaking; story = given broken b s }
+
+  -- ---- a stretch of payload
+
+  abbrev pub stretch : Mode → Next A → List A → Next A
+  stretch after n [] = n
+  stretch after n (b ∷ bs) = stretch after (byteIn after (n .mode) b (n .story)) bs
+
+  -- "bytes go to the section in hand; after its end, filler. Nothing in hand: skipped."
+  abbrev pub goesOn : Story A → List A → Story A
+  goesOn s bs = stretch filling (record { mode = resumed (handOf s); story = s }) bs .story
+
+  -- "Then sections follow end to end until 0xFF stands where one would begin (the rest is filler) or the payload ends"
+  abbrev pub sectionsIn : Story A → List A → Story A
+  sectionsIn s bs = stretch begin (record { mode = begin; story = s }) bs .story
+
+  -- ---- a packet
+
+  -- "Start flag: one pointer byte p. The next p bytes go as above; a section still unfinished after them is broken off."
+  abbrev pub started : Story A → List A → Story A
+  started s [] = s
+  started s (p ∷ bs) = sectionsIn (brokenOff (goesOn (given pointer p s) (take (value p) bs))) (drop (value p) bs)
+
+  abbrev pub payload : Bool → Story A → List A → Story A
+  payload true s bs = started s bs
+  payload false s bs = goesOn s bs
+
+  -- a packet that is taken, after the last counter and the story so far
+  abbrev pub takenIn : Option ℕ → Story A → Carried A → Story A
+  takenIn last s q = payload (q .start) (joined (follows last (q .counter)) s) (q .bytes)

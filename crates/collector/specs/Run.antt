@@ -1,0 +1,123 @@
+-- A sequence of calls of a collector, "the out room being any at each call", and how the packets of one fare by the packets alone.
+use mathlib.Core.Path.{_≡_}
+use mathlib.Core.Logic.{_⊎_}
+use mathlib.Core.Bool.{Bool, false}
+use mathlib.Core.List.{List, [], _∷_, _++_, map}
+use mathlib.Core.Option.{Option, none, some}
+use Prim.Native.Nat.{ℕ, zero, suc}
+use lib.ListN.{length, take, drop}
+use lib.Dec.{ltb}
+use Rattle.collector.specs.Each.{Each}
+use Rattle.collector.specs.Packet.{control, counterOf}
+use Rattle.collector.specs.Rules.{totalOf, Carried}
+use Rattle.collector.specs.Refusals.{Row, refusals, repeats, Ruling, ruling}
+use Rattle.collector.specs.Refusals as Refusals
+use Rattle.collector.specs.Answer.{Told, Outcome}
+use Rattle.collector.specs.Answer as Answer
+use Rattle.collector.specs.Collected.{collected}
+use Rattle.collector.specs.declared.Record.{Record}
+
+-- ---- calls
+
+-- what a collector may make of a record, a hold, an out room and a packet
+abbrev pub Collector : Type 1
+Collector = Record → List ℕ → List ℕ → List ℕ → Outcome → Type 0
+
+-- what `step` and `collect` promise
+abbrev pub Promised : Collector
+Promised r hold out packet o = o ≡ collected r hold out packet
+
+-- a call: the packet, the out room before and after it, and what the answer said
+pub record Call : Type 0 where
+  pub packet : List ℕ
+  pub out : List ℕ
+  pub out′ : List ℕ
+  pub said : Told
+
+-- "hand record and hold on untouched": from a record and a hold, by calls, to a record and a hold
+pub data Run (C : Collector) : Record → List ℕ → List Call → Record → List ℕ → Type 0 where
+  no-call : {r : Record} {hold : List ℕ} → Run C r hold [] r hold
+  one-call : {r r₁ r′ : Record} {hold hold₁ hold′ : List ℕ} {k : Call} {ks : List Call}
+      → C r hold (k .out) (k .packet) (record { rec = r₁; hold = hold₁; out = k .out′; said = k .said }) → Run C r₁ hold₁ ks r′ hold′ → Run C r hold (k ∷ ks) r′ hold′
+
+-- ---- how a packet fares, by the packets and the rooms' sizes alone
+
+pub data Fare : Type 0 where
+  refused : ℕ → Fare
+  repeated : Fare
+  taken : Fare
+
+abbrev pub fareOf : Told → Fare
+fareOf (Answer.refused n) = refused n
+fareOf Answer.repeated = repeated
+fareOf (Answer.taken sections bytes) = taken
+
+abbrev pub ruledFare : Ruling → Fare
+ruledFare (Refusals.refused n) = refused n
+ruledFare Refusals.repeated = repeated
+ruledFare Refusals.bare = taken
+ruledFare (Refusals.takes q) = taken
+
+-- of a call, the packet and the size of the out room
+pub record Lent : Type 0 where
+  pub packet : List ℕ
+  pub room : ℕ
+
+abbrev pub lentOf : Call → Lent
+lentOf k = record { packet = k .packet; room = length (k .out) }
+
+-- "the counter then becomes the last"
+abbrev pub lastAfter : Option ℕ → Ruling → Option ℕ
+lastAfter last (Refusals.refused n) = last
+lastAfter last Refusals.repeated = last
+lastAfter last Refusals.bare = last
+lastAfter last (Refusals.takes q) = some (q .counter)
+
+abbrev pub carriedBy : Ruling → List (Carried ℕ)
+carriedBy (Refusals.refused n) = []
+carriedBy Refusals.repeated = []
+carriedBy Refusals.bare = []
+carriedBy (Refusals.takes q) = q ∷ []
+
+module _ (pid size : ℕ) where
+  -- a run's record can stand exactly if its PID is one
+  abbrev pub rulingOn : Option ℕ → Lent → Ruling
+  rulingOn last x = ruling (ltb 8191 pid) pid last size (x .room) (x .packet)
+
+  -- how each packet of a run fares, and the packets taken that have payload
+  abbrev pub faresFrom : Option ℕ → List Lent → List Fare
+  faresFrom last [] = []
+  faresFrom last (x ∷ xs) = ruledFare (rulingOn last x) ∷ faresFrom (lastAfter last (rulingOn last x)) xs
+
+  abbrev pub takenFrom : Option ℕ → List Lent → List (Carried ℕ)
+  takenFrom last [] = []
+  takenFrom last (x ∷ xs) = carriedBy (rulingOn last x) ++ takenFrom (lastAfter last (rulingOn last x)) xs
+
+  -- "neither refused": no row of the table applies
+  abbrev pub NotRefused : Lent → Type 0
+  NotRefused x = Each (λ row. row .applies ≡ false) (refusals (ltb 8191 pid) pid size (x .room) (x .packet))
+
+-- "nor, by document 01's rule, repeated": control 10, or another counter than the last
+abbrev pub NotRepeated : Option ℕ → Lent → Type 0
+NotRepeated last x = (control (x .packet) ≡ 2) ⊎ (repeats last (counterOf (x .packet)) ≡ false)
+
+-- ---- the sections that a call hands out: so many, cut off the front of the out room's bytes by their own headers
+
+abbrev pub cut : ℕ → List ℕ → List (List ℕ)
+cut zero bs = []
+cut (suc n) bs = take (totalOf bs) bs ∷ cut n (drop (totalOf bs) bs)
+
+abbrev pub handedBy : Told → List ℕ → List (List ℕ)
+handedBy (Answer.refused n) out = []
+handedBy Answer.repeated out = []
+handedBy (Answer.taken sections bytes) out = cut sections (take bytes out)
+
+abbrev pub handed : List Call → List (List ℕ)
+handed [] = []
+handed (k ∷ ks) = handedBy (k .said) (k .out′) ++ handed ks
+
+-- the bytes that an answer speaks of
+abbrev pub bytesBy : Told → List ℕ → List ℕ
+bytesBy (Answer.refused n) out = []
+bytesBy Answer.repeated out = []
+bytesBy (Answer.taken sections bytes) out = take bytes out

@@ -1,0 +1,105 @@
+// The collector of document 01: packets of one PID go in, one at a time, and the sections that they carry come out.
+mod bytes;
+mod packet;
+mod payload;
+mod stretch;
+mod taking;
+
+use packet::Verdict;
+ghost use mathlib.Core.Path.{_≡_};
+ghost use Rattle.collector.specs.Answer.{came};
+ghost use Rattle.collector.specs.Collected.{collected, freshRecord};
+
+// "the last counter or none"
+pub enum Last {
+    None,
+    Counter(u8),
+}
+
+// "It has the PID, the last counter or none, the bytes in hand, five 32-bit counters". The bytes in hand stand at the start of the hold.
+pub struct Record {
+    pub pid: u16,
+    pub last: Last,
+    pub in_hand: usize,
+    pub pointer: u32,
+    pub delivered: u32,
+    pub broken: u32,
+    pub filler: u32,
+    pub skipped: u32,
+}
+
+// Refusals 41 to 49, in document 01's order.
+pub enum Refusal {
+    NotAPacket,
+    Room,
+    Unfit,
+    Sync,
+    Error,
+    OtherPid,
+    Scrambled,
+    Adaptation,
+    Pointer,
+}
+
+// What a call answers. Taken: "the finished sections end to end, the answer their number and bytes".
+pub enum Answer {
+    Refused(Refusal),
+    Repeated,
+    Taken { sections: usize, bytes: usize },
+}
+
+// The record after a packet, and the answer.
+pub struct Stepped {
+    pub record: Record,
+    pub answer: Answer,
+}
+
+// "A fresh one: no counter, nothing in hand, zeros." It is made for any number; one that is no PID is refused with 43 at each packet.
+pub fn fresh(pid: u16) -> Record
+    ensures { λ r. ⌜ r ≡ freshRecord pid ⌝ }
+{
+    Record {
+        pid,
+        last: Last::None,
+        in_hand: 0,
+        pointer: 0,
+        delivered: 0,
+        broken: 0,
+        filler: 0,
+        skipped: 0,
+    }
+}
+
+// One packet, with the record by value.
+pub fn step(rec: Record, hold: &mut [u8], out: &mut [u8], packet: &[u8]) -> Stepped
+    ensures { λ r. ⌜ came (r .record) (now (hold .exit)) (now (out .exit)) (r .answer) ≡ collected rec (now (hold .entry)) (now (out .entry)) (now (packet .entry)) ⌝ }
+{
+    let v = packet::judge(rec, hold, out.len(), packet);
+    match v {
+        Verdict::Refuse(refusal) => Stepped {
+            record: rec,
+            answer: Answer::Refused(refusal),
+        },
+        Verdict::Bare => Stepped {
+            record: rec,
+            answer: Answer::Taken {
+                sections: 0,
+                bytes: 0,
+            },
+        },
+        Verdict::Carries {
+            from,
+            start,
+            counter,
+        } => taking::carried(rec, hold, out, packet, from, start, counter),
+    }
+}
+
+// "the collector's record is altered in place by each packet"
+pub fn collect(rec: &mut Record, hold: &mut [u8], out: &mut [u8], packet: &[u8]) -> Answer
+    ensures { λ r. ⌜ came (now (rec .exit)) (now (hold .exit)) (now (out .exit)) r ≡ collected (now (rec .entry)) (now (hold .entry)) (now (out .entry)) (now (packet .entry)) ⌝ }
+{
+    let s = step(*rec, hold, out, packet);
+    *rec = s.record;
+    s.answer
+}

@@ -1,0 +1,122 @@
+// What a packet with payload makes of the record and the rooms.
+use crate::Answer;
+use crate::Last;
+use crate::Record;
+use crate::Stepped;
+use crate::payload;
+use crate::stretch::Came;
+ghost use mathlib.Core.Path.{_≡_};
+ghost use Prim.Native.Nat.{_<_};
+ghost use lib.ListN.{take, drop};
+ghost use Rattle.collector.specs.Rules.{follows, holding, joined, plain, payload};
+ghost use Rattle.collector.specs.Refusals.{lastOf, repeats, carriedIn, ruledOn};
+ghost use Rattle.collector.specs.Answer.{came};
+ghost use Rattle.collector.specs.Collected.{takenTo, outcomeOf};
+ghost use Rattle.collector.specs.Inside.{Fit, Small, pointCount, countedOf};
+
+// "a counter equal to the last"
+fn is_repeat(last: Last, counter: u8) -> bool
+    ensures { λ r. ⌜ r ≡ repeats (lastOf last) counter ⌝ }
+{
+    match last {
+        Last::None => false,
+        Last::Counter(c) => counter == c,
+    }
+}
+
+// "the last plus 1 modulo 16"
+fn is_next(last: Last, counter: u8) -> bool
+    ensures { λ r. ⌜ r ≡ follows (lastOf last) counter ⌝ }
+{
+    match last {
+        Last::None => true,
+        Last::Counter(c) => wire::wide(counter) == (wire::wide(c) + 1) % 16,
+    }
+}
+
+fn point_count(start: bool) -> u32
+    ensures { λ r. ⌜ r ≡ pointCount start ⌝ }
+{
+    if start { 1 } else { 0 }
+}
+
+// The record after a packet that is taken; broken bytes were in hand and are broken off by a break in the counter.
+fn counted(rec: Record, counter: u8, e: Came, broken: usize, start: bool) -> Record
+    requires { ⌜ Small e × (broken < 4096) ⌝ }
+    ensures { λ r. ⌜ r ≡ countedOf rec counter e broken start ⌝ }
+{
+    let point = point_count(start);
+    let bytes = e.bytes as u32;
+    let lost = (broken + e.broken) as u32;
+    let filler = e.filler as u32;
+    let skipped = e.skipped as u32;
+    Record {
+        pid: rec.pid,
+        last: Last::Counter(counter),
+        in_hand: e.in_hand,
+        pointer: std::num::wrapping_add_u32(rec.pointer, point),
+        delivered: std::num::wrapping_add_u32(rec.delivered, bytes),
+        broken: std::num::wrapping_add_u32(rec.broken, lost),
+        filler: std::num::wrapping_add_u32(rec.filler, filler),
+        skipped: std::num::wrapping_add_u32(rec.skipped, skipped),
+    }
+}
+
+// A packet that is taken and has payload, from index from on; next says that its counter follows the last one.
+fn taken(
+    rec: Record,
+    hold: &mut [u8],
+    out: &mut [u8],
+    packet: &[u8],
+    from: usize,
+    start: bool,
+    counter: u8,
+    next: bool,
+) -> Stepped
+    requires { ⌜ Fit (rec .in_hand) (now hold) (now out) (now packet) from start ⌝ }
+    ensures { λ r. ⌜ came (r .record) (now (hold .exit)) (now (out .exit)) (r .answer) ≡ takenTo rec (now (hold .entry)) (now (out .entry)) counter (payload plain start (joined next (holding (take (rec .in_hand) (now (hold .entry))))) (drop from (now (packet .entry)))) ⌝ }
+{
+    let held = rec.in_hand;
+    if next {
+        let e = payload::carry(hold, held, packet, from, start, out);
+        return Stepped {
+            record: counted(rec, counter, e, 0, start),
+            answer: Answer::Taken {
+                sections: e.sections,
+                bytes: e.bytes,
+            },
+        };
+    }
+    let e = payload::carry(hold, 0, packet, from, start, out);
+    Stepped {
+        record: counted(rec, counter, e, held, start),
+        answer: Answer::Taken {
+            sections: e.sections,
+            bytes: e.bytes,
+        },
+    }
+}
+
+// A packet that is not refused and has payload, from index from on.
+pub fn carried(
+    rec: Record,
+    hold: &mut [u8],
+    out: &mut [u8],
+    packet: &[u8],
+    from: usize,
+    start: bool,
+    counter: u8,
+) -> Stepped
+    requires { ⌜ Fit (rec .in_hand) (now hold) (now out) (now packet) from start ⌝ }
+    ensures { λ r. ⌜ came (r .record) (now (hold .exit)) (now (out .exit)) (r .answer) ≡ outcomeOf rec (now (hold .entry)) (now (out .entry)) (ruledOn (lastOf (rec .last)) (carriedIn (now (packet .entry)) from start counter)) ⌝ }
+{
+    let last = rec.last;
+    if is_repeat(last, counter) {
+        return Stepped {
+            record: rec,
+            answer: Answer::Repeated,
+        };
+    }
+    let next = is_next(last, counter);
+    taken(rec, hold, out, packet, from, start, counter, next)
+}
