@@ -1,0 +1,3 @@
+-- Laws that several proofs cite, and what the promises come to.
+pub mod FirstOf
+pub mod RowLaws

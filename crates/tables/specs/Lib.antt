@@ -1,0 +1,2 @@
+-- The table of tables.
+pub mod Tables

@@ -1,0 +1,2 @@
+-- What may be said of a section.
+pub mod Verdict
