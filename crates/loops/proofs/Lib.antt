@@ -1,0 +1,6 @@
+-- Laws that several proofs cite, and what the promises come to.
+pub mod Loops
+pub mod InLoop
+pub mod Standing
+pub mod WholeWalk
+pub mod Once

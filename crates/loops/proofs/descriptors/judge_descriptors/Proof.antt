@@ -1,0 +1,77 @@
+-- `loops::descriptors::judge_descriptors` meets its contract: reading on from p says what reading from the start says.
+use Prim.Native.Nat.{_-_}
+use mathlib.Core.Path.{_≡_, refl, sym, ap, _∙_}
+use native.Mathlib.Omega.{arith}
+use native.Mathlib.Nat.{le-of-lt}
+use lib.ListN.{length, drop}
+use borrow.Author.Needs.{needs}
+use Rattle.wire.specs.Trail.{answer}
+use Rattle.loops.specs.Descriptors.{descriptors}
+use Rattle.loops.proofs.Loops.{at-end, by-told, told-on}
+use Rattle.loops.proofs.descriptors.judge_descriptors.Statement.{statement}
+use Rattle.loops.proofs.descriptors.judge_descriptors.Tie as tie
+
+abbrev Inv-loop : tie.InvT-loop
+Inv-loop bytes at p₀ p = descriptors at (drop at bytes) .ends ≡ descriptors p (drop p bytes) .ends
+
+abbrev μ-loop : tie.MeasureT-loop
+μ-loop bytes at p₀ p = length bytes - p
+
+loop-holds : tie.Need-loop-holds Inv-loop μ-loop
+loop-holds c = refl
+
+step-at-requires : tie.Need-step-at-requires Inv-loop μ-loop
+step-at-requires c κs = search needs
+
+enum-known-step : tie.Need-enum-known-step Inv-loop μ-loop
+enum-known-step c = search needs
+
+add-p : tie.Need-add-p Inv-loop μ-loop
+add-p c = omega (arith, told-on (c .before .before .before .before .before .before .before .args .bytes .now) (c .before .before .before .before .before .loop .p) _ _ (c .before .before .before .step-at .ensures) (c .before .step .given .1) _ _ _ refl)
+
+loop-less : tie.Need-loop-less Inv-loop μ-loop
+loop-less c = omega (arith, told-on (c .before .before .before .before .before .before .before .args .bytes .now) (c .before .before .before .before .before .loop .p) _ _ (c .before .before .before .step-at .ensures) (c .before .step .given .1) _ _ _ refl)
+
+loop-again : tie.Need-loop-again Inv-loop μ-loop
+loop-again c =
+    let l = c .before .before .before .before .before .loop in
+    l .inv ∙ ap answer (by-told (c .before .before .before .before .before .before .before .args .bytes .now) (l .p) _ _ (c .before .before .before .step-at .ensures) (c .before .step .given .1) (le-of-lt (c .before .before .before .before .loop-test .taken)))
+
+enum-told : tie.Need-enum-told Inv-loop μ-loop
+enum-told c = search needs
+
+returns : tie.Need-returns Inv-loop μ-loop
+returns c =
+    let l = c .before .before .before .before .loop in
+    sym (l .inv ∙ ap answer (by-told (c .before .before .before .before .before .before .args .bytes .now) (l .p) _ _ (c .before .before .step-at .ensures) (c .enum-told .given .1) (le-of-lt (c .before .before .before .loop-test .taken))))
+
+enum-known-step-2 : tie.Need-enum-known-step-2 Inv-loop μ-loop
+enum-known-step-2 c = search needs
+
+returns-2 : tie.Need-returns-2 Inv-loop μ-loop
+returns-2 c =
+    let l = c .before .before .before .before .before .loop in
+    sym (l .inv ∙ ap answer (by-told (c .before .before .before .before .before .before .before .args .bytes .now) (l .p) _ _ (c .before .before .before .step-at .ensures) (c .before .step2 .given .1) (le-of-lt (c .before .before .before .before .loop-test .taken))))
+
+returns-3 : tie.Need-returns-3 Inv-loop μ-loop
+returns-3 c =
+    let l = c .before .loop in
+    sym (l .inv ∙ ap answer (at-end (c .before .before .before .args .bytes .now) (l .p) (c .loop-test .left)))
+
+pub judge-descriptors-spec : {M : Type 1} → statement M
+judge-descriptors-spec =
+    tie.close
+    (tie.spec
+    Inv-loop
+    μ-loop
+    loop-holds
+    step-at-requires
+    enum-known-step
+    add-p
+    loop-less
+    loop-again
+    enum-told
+    returns
+    enum-known-step-2
+    returns-2
+    returns-3)

@@ -1,0 +1,47 @@
+-- `loops::walk::step_from` meets its contract: past a descriptor the walk moves on, else it stays.
+use mathlib.Core.Path.{refl, sym, ap, _∙_}
+use native.Mathlib.Omega.{arith}
+use Rattle.loops.specs.Descriptors.{toldStep, placeAfter}
+use Rattle.loops.proofs.Loops.{told-on}
+use borrow.Author.Needs.{needs}
+use Rattle.loops.proofs.walk.step_from.Statement.{statement}
+use Rattle.loops.proofs.walk.step_from.Tie as tie
+
+step-at-requires : tie.Need-step-at-requires
+step-at-requires c κs = search needs
+
+enum-known-step : tie.Need-enum-known-step
+enum-known-step c = search needs
+
+add-t7 : tie.Need-add-t7
+add-t7 c = omega (arith, told-on (c .before .before .before .before .before .args .bytes .now) (c .before .before .before .before .before .args .at) _ _ (c .before .before .before .step-at .ensures) (c .before .step .given .1) _ _ _ refl)
+
+enum-told : tie.Need-enum-told
+enum-told c = search needs
+
+enum-told-2 : tie.Need-enum-told-2
+enum-told-2 c = search needs
+
+returns : tie.Need-returns
+returns c =
+    let e = sym (ap toldStep (c .before .step .given .1)) ∙ c .before .before .before .step-at .ensures in
+    record { gives = e; moves = ap (placeAfter (c .before .before .before .before .before .args .at)) e }
+
+returns-2 : tie.Need-returns-2
+returns-2 c = record { gives = c .before .before .step-at .ensures; moves = ap (placeAfter (c .before .before .before .before .args .at)) (sym (ap toldStep (c .enum-told .given .1)) ∙ c .before .before .step-at .ensures) }
+
+returns-3 : tie.Need-returns-3
+returns-3 c = record { gives = c .before .before .step-at .ensures; moves = ap (placeAfter (c .before .before .before .before .args .at)) (sym (ap toldStep (c .enum-told2 .given .1)) ∙ c .before .before .step-at .ensures) }
+
+pub step-from-spec : {M : Type 1} → statement M
+step-from-spec =
+    tie.close
+    (tie.spec
+    step-at-requires
+    enum-known-step
+    add-t7
+    enum-told
+    enum-told-2
+    returns
+    returns-2
+    returns-3)
