@@ -1,0 +1,41 @@
+-- `section::judge::judge_one_loop` meets its contract: where the loop fills its container, its descriptors decide.
+use Rattle.section.proofs.Readings.{stopped, held, went-on, loop-alone, fills-tells, one-loop}
+use Rattle.wire.specs.Trail.{answer, ended}
+use Rattle.verdict.specs.Verdict.{accepted}
+use native.Mathlib.Omega.{arith}
+use mathlib.Core.Path.{refl}
+use mathlib.Core.Path.{sym, ap, _∙_}
+use borrow.Author.Needs.{needs}
+use Rattle.section.proofs.judge.judge_one_loop.Statement.{statement}
+use Rattle.section.proofs.judge.judge_one_loop.Tie as tie
+
+judge-fills-requires : tie.Need-judge-fills-requires
+judge-fills-requires c κs = search needs
+
+is-accepted-requires : tie.Need-is-accepted-requires
+is-accepted-requires c κs = search needs
+
+add-judge-descriptors : tie.Need-add-judge-descriptors
+add-judge-descriptors c = omega (arith, fills-tells (c .before .before .before .before .args .bytes .now) (c .before .before .before .before .args .at) _ refl (held _ _ _ (ended accepted) (c .before .before .judge-fills .ensures) (c .before .is-accepted .ensures) (c .if1 .taken)))
+
+judge-descriptors-requires : tie.Need-judge-descriptors-requires
+judge-descriptors-requires c κs = search needs
+
+returns : tie.Need-returns
+returns c =
+    went-on _ _ _ _ (c .before .before .before .judge-fills .ensures) (c .before .before .is-accepted .ensures) _ (c .before .if1 .taken) (c .judge-descriptors .ensures ∙ sym (loop-alone _))
+    ∙ sym (ap answer (one-loop (c .before .before .before .before .before .args .bytes .now) (c .before .before .before .before .before .args .at)))
+
+returns-2 : tie.Need-returns-2
+returns-2 c = stopped _ _ _ _ (c .before .before .judge-fills .ensures) (c .before .is-accepted .ensures) (c .if1 .left) ∙ sym (ap answer (one-loop (c .before .before .before .before .args .bytes .now) (c .before .before .before .before .args .at)))
+
+pub judge-one-loop-spec : {M : Type 1} → statement M
+judge-one-loop-spec =
+    tie.close
+    (tie.spec
+    judge-fills-requires
+    is-accepted-requires
+    add-judge-descriptors
+    judge-descriptors-requires
+    returns
+    returns-2)

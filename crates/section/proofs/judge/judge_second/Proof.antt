@@ -1,0 +1,41 @@
+-- `section::judge::judge_second` meets its contract: where the loop fills its container, its entries decide.
+use Rattle.section.proofs.Readings.{stopped, held, went-on, fills-tells, second-loop}
+use Rattle.wire.specs.Trail.{answer, ended}
+use Rattle.verdict.specs.Verdict.{accepted}
+use native.Mathlib.Omega.{arith}
+use mathlib.Core.Path.{refl}
+use mathlib.Core.Path.{sym, ap, _∙_}
+use borrow.Author.Needs.{needs}
+use Rattle.section.proofs.judge.judge_second.Statement.{statement}
+use Rattle.section.proofs.judge.judge_second.Tie as tie
+
+judge-fills-requires : tie.Need-judge-fills-requires
+judge-fills-requires c κs = search needs
+
+is-accepted-requires : tie.Need-is-accepted-requires
+is-accepted-requires c κs = search needs
+
+add-judge-entries : tie.Need-add-judge-entries
+add-judge-entries c = omega (arith, fills-tells (c .before .before .before .before .args .bytes .now) (c .before .before .before .before .args .at) _ refl (held _ _ _ (ended accepted) (c .before .before .judge-fills .ensures) (c .before .is-accepted .ensures) (c .if1 .taken)))
+
+judge-entries-requires : tie.Need-judge-entries-requires
+judge-entries-requires c κs = search needs
+
+returns : tie.Need-returns
+returns c =
+    went-on _ _ _ _ (c .before .before .before .judge-fills .ensures) (c .before .before .is-accepted .ensures) _ (c .before .if1 .taken) (c .judge-entries .ensures)
+    ∙ sym (ap answer (second-loop (c .before .before .before .before .before .args .bytes .now) (c .before .before .before .before .before .args .at) (c .before .before .before .before .before .args .fixed)))
+
+returns-2 : tie.Need-returns-2
+returns-2 c = stopped _ _ _ _ (c .before .before .judge-fills .ensures) (c .before .is-accepted .ensures) (c .if1 .left) ∙ sym (ap answer (second-loop (c .before .before .before .before .args .bytes .now) (c .before .before .before .before .args .at) (c .before .before .before .before .args .fixed)))
+
+pub judge-second-spec : {M : Type 1} → statement M
+judge-second-spec =
+    tie.close
+    (tie.spec
+    judge-fills-requires
+    is-accepted-requires
+    add-judge-entries
+    judge-entries-requires
+    returns
+    returns-2)

@@ -1,0 +1,3 @@
+// Sections: whether bytes are one.
+mod entries;
+pub mod judge;
