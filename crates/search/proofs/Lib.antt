@@ -1,0 +1,5 @@
+-- Laws that several proofs cite, and what the promises come to.
+pub mod Hits
+pub mod WithoutFault
+pub mod FirstFound
+pub mod Once

@@ -1,0 +1,78 @@
+-- `search::search` meets its contract: the judge refuses, or the loops of an accepted section are searched.
+use mathlib.Core.Path.{_≡_, sym, ap, subst, _∙_}
+use native.Mathlib.Omega.{arith}
+use lib.ListN.{take, drop}
+use lib.Seq.{length-take-le}
+use Rattle.wire.specs.Trail.{answer}
+use Rattle.tables.specs.Tables.{rowOf, rowAt, FixedTwo}
+use Rattle.verdict.specs.Verdict.{Said, accepted, isAccepted, numberOf, placeOf}
+use Rattle.section.specs.Reading.{Reading, inside, read, judged}
+use Rattle.search.specs.Search.{refusing, hitFrom, sought}
+use Rattle.tables.specs.declared.Row.{Row}
+use Rattle.tables.proofs.RowLaws.{fixed-two}
+use Rattle.search.proofs.WithoutFault.{is-accepted, read-inside}
+use borrow.Author.Needs.{needs}
+use Rattle.search.proofs.search.Statement.{statement}
+use Rattle.search.proofs.search.Tie as tie
+
+-- the section is accepted
+ok : (c : tie.Then1) → judged (c .before .before .before .before .args .section .now) ≡ accepted
+ok c = sym (c .before .before .judge .ensures) ∙ is-accepted _ (sym (c .before .is-accepted .ensures) ∙ c .if1 .taken)
+
+-- and its loops are those of its row
+all-read : (c : tie.After-find-inside-arg)
+    → read (c .before .before .before .before .before .before .before .before .before .args .section .now)
+    ≡ inside (c .before .before .row-at .result) (c .before .before .row-at .result .before)
+    (drop (c .before .before .row-at .result .before) (take (c .before .less .result) (c .before .before .before .before .before .before .before .before .before .args .section .now)))
+all-read c =
+    read-inside _ _ _ (c .before .before .row-at .ensures ∙ ap rowAt (c .before .before .before .row-of .ensures ∙ ap rowOf (c .before .before .before .before .byte-at .ensures))) (c .before .less .ensures)
+    (ok (c .before .before .before .before .before))
+
+judge-requires : tie.Need-judge-requires
+judge-requires c κs = search needs
+
+is-accepted-requires : tie.Need-is-accepted-requires
+is-accepted-requires c κs = search needs
+
+byte-at-requires : tie.Need-byte-at-requires
+byte-at-requires c κs = search needs
+
+row-of-requires : tie.Need-row-of-requires
+row-of-requires c κs = search needs
+
+row-at-requires : tie.Need-row-at-requires
+row-at-requires c κs = search needs
+
+less-requires : tie.Need-less-requires
+less-requires c κs = search needs
+
+slice-aggregate-find-inside : tie.Need-slice-aggregate-find-inside
+slice-aggregate-find-inside c = sym (length-take-le _ _ (omega (arith, c .before .less .ensures)))
+
+find-inside-requires : tie.Need-find-inside-requires
+unfolding judged
+find-inside-requires c κs =
+    (subst (λ (r : Row). FixedTwo (r .fixed)) (sym (c .before .before .row-at .ensures)) (fixed-two _), sym (ap answer (all-read c)) ∙ ok (c .before .before .before .before .before))
+
+returns : tie.Need-returns
+unfolding sought
+returns c = rw (ap isAccepted (ok (c .before .before .before .before .before .before))) (c .find-inside .ensures ∙ sym (ap (λ (x : Reading). hitFrom (c .before .before .before .before .before .before .before .before .before .before .args .tag) 0 (x .items)) (all-read (c .before))))
+
+returns-2 : tie.Need-returns-2
+unfolding sought
+returns-2 c = rw (ap isAccepted (sym (c .before .before .judge .ensures)) ∙ sym (c .before .is-accepted .ensures) ∙ c .if1 .left) (ap (λ (x : Said). refusing (numberOf x) (placeOf x)) (c .before .before .judge .ensures))
+
+pub search-spec : {M : Type 1} → statement M
+search-spec =
+    tie.close
+    (tie.spec
+    judge-requires
+    is-accepted-requires
+    byte-at-requires
+    row-of-requires
+    row-at-requires
+    less-requires
+    slice-aggregate-find-inside
+    find-inside-requires
+    returns
+    returns-2)

@@ -1,0 +1,2 @@
+-- What a search finds.
+pub mod Search
