@@ -1,0 +1,39 @@
+-- `roll::stepping::begun_with` meets its contract.
+use Rattle.roll.specs.Roll.{begunWith}
+use borrow.Author.Needs.{needs}
+use Rattle.roll.proofs.stepping.begun_with.Statement.{statement}
+use Rattle.roll.proofs.stepping.begun_with.Tie as tie
+
+sub-table-of-requires : tie.Need-sub-table-of-requires
+sub-table-of-requires c κs = search needs
+
+version-in-requires : tie.Need-version-in-requires
+version-in-requires c κs = search needs
+
+byte-at-requires : tie.Need-byte-at-requires
+byte-at-requires c κs = search needs
+
+no-marks-requires : tie.Need-no-marks-requires
+no-marks-requires c κs = search needs
+
+byte-at-requires-2 : tie.Need-byte-at-requires-2
+byte-at-requires-2 c κs = search needs
+
+mark-requires : tie.Need-mark-requires
+mark-requires c κs = search needs
+
+returns : tie.Need-returns
+unfolding begunWith
+returns c = cc
+
+pub begun-with-spec : {M : Type 1} → statement M
+begun-with-spec =
+    tie.close
+    (tie.spec
+    sub-table-of-requires
+    version-in-requires
+    byte-at-requires
+    no-marks-requires
+    byte-at-requires-2
+    mark-requires
+    returns)

@@ -1,0 +1,39 @@
+-- `roll::stepping::with_section` meets its contract.
+use mathlib.Core.Path.{sym, _∙_}
+use Rattle.roll.specs.Roll.{after, continued}
+use borrow.Author.Needs.{needs}
+use Rattle.roll.proofs.stepping.with_section.Statement.{statement}
+use Rattle.roll.proofs.stepping.with_section.Tie as tie
+
+starts-afresh-requires : tie.Need-starts-afresh-requires
+starts-afresh-requires c κs = search needs
+
+begun-with-requires : tie.Need-begun-with-requires
+begun-with-requires c κs = search needs
+
+returns : tie.Need-returns
+unfolding after continued
+returns c = rw (sym (c .before .before .starts-afresh .ensures) ∙ c .before .if1 .taken) (c .begun-with .ensures)
+
+byte-at-requires : tie.Need-byte-at-requires
+byte-at-requires c κs = search needs
+
+mark-requires : tie.Need-mark-requires
+mark-requires c κs = search needs
+
+returns-2 : tie.Need-returns-2
+unfolding after continued
+returns-2 c =
+    let test = c .before .before .before .before in
+    rw (sym (test .before .starts-afresh .ensures) ∙ test .if1 .left) (cc (c .before .mark .ensures, c .before .before .byte-at .ensures))
+
+pub with-section-spec : {M : Type 1} → statement M
+with-section-spec =
+    tie.close
+    (tie.spec
+    starts-afresh-requires
+    begun-with-requires
+    returns
+    byte-at-requires
+    mark-requires
+    returns-2)

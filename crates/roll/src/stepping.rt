@@ -1,0 +1,117 @@
+// A roll and a section that the judge accepts.
+ghost use mathlib.Core.Path.{_≡_};
+ghost use Rattle.roll.specs.Roll.{versionIn, isCurrent, hasNoSubTable, another, startsAfresh, begunWith, after, takingAccepted, heard};
+use crate::Answer;
+use crate::Roll;
+use crate::Step;
+use crate::marking::mark;
+use crate::marking::no_marks;
+use crate::sub_tables::as_compared;
+use crate::sub_tables::same_ids;
+use crate::sub_tables::sub_table_of;
+use tables::row_of;
+use wire::numbers::byte_at;
+
+// version_number stands in five bits, above current_next_indicator.
+fn version_in(section: &[u8]) -> u8
+    ensures { λ r. ⌜ r ≡ versionIn (now (section .entry)) ⌝ }
+{
+    byte_at(section, 5) / 2 % 32
+}
+
+fn is_current(section: &[u8]) -> bool
+    ensures { λ r. ⌜ r ≡ isCurrent (now (section .entry)) ⌝ }
+{
+    byte_at(section, 5) % 2 == 1
+}
+
+// TDT and TOT: the rows behind those of NIT, SDT, BAT and EIT.
+fn has_no_sub_table(section: &[u8]) -> bool
+    ensures { λ r. ⌜ r ≡ hasNoSubTable (now (section .entry)) ⌝ }
+{
+    4 <= row_of(byte_at(section, 0))
+}
+
+fn is_another(roll: Roll, section: &[u8]) -> bool
+    ensures { λ r. ⌜ r ≡ another roll (now (section .entry)) ⌝ }
+{
+    if roll.begun {
+        let kept = roll.sub_table;
+        return !same_ids(as_compared(kept), sub_table_of(section));
+    }
+    false
+}
+
+fn starts_afresh(roll: Roll, section: &[u8]) -> bool
+    ensures { λ r. ⌜ r ≡ startsAfresh roll (now (section .entry)) ⌝ }
+{
+    if roll.begun {
+        if roll.version != version_in(section) {
+            return true;
+        }
+        return roll.last != byte_at(section, 7);
+    }
+    true
+}
+
+// The roll in which this section alone has come.
+fn begun_with(section: &[u8]) -> Roll
+    ensures { λ r. ⌜ r ≡ begunWith (now (section .entry)) ⌝ }
+{
+    let sub_table = sub_table_of(section);
+    let version = version_in(section);
+    let last = byte_at(section, 7);
+    let marks = mark(no_marks(), byte_at(section, 6));
+    Roll {
+        begun: true,
+        sub_table,
+        version,
+        last,
+        marks,
+    }
+}
+
+// The roll after a section that nothing refuses.
+fn with_section(roll: Roll, section: &[u8]) -> Roll
+    ensures { λ r. ⌜ r ≡ after roll (now (section .entry)) ⌝ }
+{
+    if starts_afresh(roll, section) {
+        return begun_with(section);
+    }
+    let kept = roll.marks;
+    let marks = mark(kept, byte_at(section, 6));
+    let sub_table = roll.sub_table;
+    Roll {
+        begun: roll.begun,
+        sub_table,
+        version: roll.version,
+        last: roll.last,
+        marks,
+    }
+}
+
+pub fn take_accepted(roll: Roll, section: &[u8]) -> Step
+    ensures { λ r. ⌜ heard r ≡ takingAccepted roll (now (section .entry)) ⌝ }
+{
+    if has_no_sub_table(section) {
+        return Step {
+            roll,
+            answer: Answer::NoSubTable,
+        };
+    }
+    if is_another(roll, section) {
+        return Step {
+            roll,
+            answer: Answer::AnotherSubTable,
+        };
+    }
+    if is_current(section) {
+        let next = with_section(roll, section);
+        let answer = crate::ask(next);
+        return Step { roll: next, answer };
+    }
+    Step {
+        roll,
+        answer: Answer::NotCurrent,
+    }
+}
