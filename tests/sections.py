@@ -1,0 +1,179 @@
+#!/usr/bin/env python3
+"""The sections that the gate judges: what each is, and what document 01 says of it.
+
+    tests/sections.py            writes crates/judging/stdin and crates/judging/stdout
+    tests/sections.py --check    says whether the two are what this file says, and changes nothing
+
+The answers are written by hand, from document 01 and its worked values; the CRC_32 here is a bit at a time.
+"""
+import sys
+from pathlib import Path
+
+HERE = Path(__file__).resolve().parent.parent / "crates" / "judging"
+
+
+def crc(data):
+    register = 0xFFFFFFFF
+    for byte in data:
+        for bit in range(7, -1, -1):
+            out = (register >> 31) ^ (byte >> bit & 1)
+            register = register << 1 & 0xFFFFFFFF
+            if out:
+                register ^= 0x04C11DB7
+    return register
+
+
+def closed(data):
+    """The bytes with their CRC_32."""
+    return data + crc(data).to_bytes(4, "big")
+
+
+def section(table_id, rest, syntax=1, length=None):
+    """A section with its CRC_32: rest is what stands between section_length and the CRC."""
+    n = len(rest) + 4 if length is None else length
+    return closed(bytes([table_id, syntax * 0x80 | 0x70 | n >> 8, n & 255]) + rest)
+
+
+def loop(body, more=0):
+    """A 12-bit length and a loop; `more` is what the length claims beyond it."""
+    return (0xF000 | len(body) + more).to_bytes(2, "big") + body
+
+
+HEAD = bytes.fromhex("0001 C1 00 00")
+TDT = bytes.fromhex("70 70 05 C0 79 12 45 00")
+TIME = TDT[3:]
+NAME = bytes.fromhex("40 03 6F 6E 65")
+LIST = bytes.fromhex("41 03 00 01 01")
+STUFF = bytes.fromhex("42 00")
+
+
+def nit(top=loop(b""), second=loop(b""), table_id=0x40, head=HEAD, **how):
+    return section(table_id, head + top + second, **how)
+
+
+def entry(body=b"", more=0):
+    return bytes.fromhex("0001 0002") + loop(body, more)
+
+
+def sdt(entries=b"", table_id=0x42, head=HEAD, **how):
+    return section(table_id, head + bytes.fromhex("0002 FF") + entries, **how)
+
+
+def service(body=b"", more=0):
+    return bytes.fromhex("0001 FC") + bytes([0x80 | len(body) + more >> 8, len(body) + more & 255]) + body
+
+
+def eit(events=b"", table_id=0x4E, head=HEAD, **how):
+    return section(table_id, head + bytes.fromhex("0002 0003 00") + bytes([table_id]) + events, **how)
+
+
+def event(body=b"", more=0):
+    return bytes.fromhex("0001 C0791245 00 014530") + bytes([0x80 | len(body) + more >> 8, len(body) + more & 255]) + body
+
+
+def tot(top=loop(b""), **how):
+    return section(0x73, TIME + top, syntax=0, **how)
+
+
+def filled(size):
+    """Descriptors of just so many bytes."""
+    out = b""
+    while size:
+        n = min(size, 257)
+        n -= size - n == 1
+        out += bytes([0x42, n - 2]) + bytes(n - 2)
+        size -= n
+    return out
+
+
+ABOVE = bytes.fromhex("0001 C1 01 00")
+
+CASES = [
+    # document 01, "Worked values"
+    ("refused 1 0", 0x40, b""),
+    ("accepted, none", 0x40, TDT),
+    ("refused 5 0", 0x40, TDT[:7]),
+    ("refused 2 0", 0x40, b"\x71" + TDT[1:]),
+    ("refused 3 0", 0x40, b"\x70\xF0" + TDT[2:]),
+    ("refused 4 0", 0x40, b"\x70\x70\x04" + TDT[3:]),
+    ("accepted, none", 0x40, nit(top=loop(filled(1021 - 13)))),
+    ("refused 4 0", 0x40, nit(top=loop(filled(1022 - 13)))),
+    ("refused 4 0", 0x40, closed(bytes.fromhex("73 70 0A") + TIME + b"\xF0")),
+    # the smallest sections, whole as they are on air
+    ("accepted, none", 0x40, bytes.fromhex("40F00D0001C10000F000F0003B858402")),
+    ("accepted, none", 0x40, bytes.fromhex("4AF00D0001C10000F000F0000BDF5A3E")),
+    ("accepted, none", 0x40, bytes.fromhex("42F00C0001C100000002FF769AF410")),
+    ("accepted, none", 0x40, bytes.fromhex("4EF00F0001C1000000020003004EC6844C11")),
+    ("accepted, none", 0x40, bytes.fromhex("73700BC079124500F0004EED8455")),
+    ("accepted, found 0 12 13", 0x58, bytes.fromhex("73701AC079124500F00F580D4742520200 00C0791245000100C20BC361")),
+    # 1 to 7
+    ("refused 1 0", 0x40, b"\x70\xF0"),
+    ("refused 5 0", 0x40, bytes.fromhex("4E F0 0F")),
+    ("refused 2 0", 0x40, nit(table_id=0x43)),
+    ("refused 2 0", 0x40, bytes.fromhex("00 B0 0D")),
+    ("refused 3 0", 0x40, nit(syntax=0)),
+    ("refused 3 0", 0x40, section(0x73, TIME + loop(b""), syntax=1)),
+    ("refused 4 0", 0x40, eit(length=4094)),
+    ("refused 4 0", 0x40, sdt(length=11)),
+    ("refused 5 0", 0x40, TDT + b"\x00"),
+    ("refused 6 0", 0x40, bytes.fromhex("40F00D0001C10000F000F0003B858403")),
+    ("refused 6 0", 0x40, bytes.fromhex("73700BC079124500F0004EED8454")),
+    ("refused 7 0", 0x40, nit(head=ABOVE)),
+    ("refused 7 0", 0x40, eit(head=ABOVE)),
+    # 8 to 10 in NIT and BAT
+    ("refused 8 8", 0x40, nit(top=loop(b"", 1))),
+    ("refused 8 8", 0x40, nit(top=loop(b"", 2))),
+    ("refused 8 10", 0x40, nit(second=loop(b"", 1))),
+    ("refused 10 12", 0x40, nit(second=loop(b"") + b"\x00")),
+    ("refused 9 10", 0x40, nit(top=loop(b"\x42"))),
+    ("refused 9 12", 0x40, nit(top=loop(STUFF + b"\x42\x01"))),
+    ("refused 9 10", 0x40, nit(top=loop(b"\x42"), second=loop(b"", 1))),
+    ("refused 10 12", 0x40, nit(second=loop(entry(b"\x42")[:5]))),
+    ("refused 8 16", 0x40, nit(second=loop(entry(b"", 40)))),
+    ("refused 8 16", 0x40, nit(second=loop(entry(STUFF, 40) + entry(NAME)), table_id=0x4A)),
+    ("refused 9 18", 0x40, nit(second=loop(entry(b"\x42") + entry(b"\x42")))),
+    ("refused 9 18", 0x40, nit(second=loop(entry(b"\x42\x01") + entry()))),
+    ("refused 9 26", 0x40, nit(second=loop(entry(STUFF) + entry(b"\x41")))),
+    ("refused 10 18", 0x40, nit(second=loop(entry() + b"\x00"))),
+    # 10 and 8 in SDT and EIT
+    ("refused 10 11", 0x40, sdt(b"\x00")),
+    ("refused 10 16", 0x40, sdt(service() + b"\x00" * 4)),
+    ("refused 8 14", 0x40, sdt(service(b"", 1))),
+    ("refused 9 18", 0x40, sdt(service(b"\x48\x00\x48"))),
+    ("refused 10 14", 0x40, eit(b"\x00" * 11)),
+    ("refused 8 24", 0x40, eit(event(b"", 1))),
+    ("refused 9 26", 0x40, eit(event(b"\x4D\x01") + event())),
+    # 8 to 10 in TOT
+    ("refused 8 8", 0x40, tot(loop(b"", 1))),
+    ("refused 10 10", 0x40, tot(loop(b"") + b"\x00")),
+    ("refused 10 10", 0x40, tot(loop(b"") + b"\x42")),
+    ("refused 9 10", 0x40, tot(loop(b"\x42"))),
+    # the first hit in reading order: the top loop is number 0, entries count from 1
+    ("accepted, found 0 12 3", 0x40, nit(top=loop(NAME))),
+    ("accepted, found 0 14 3", 0x40, nit(top=loop(STUFF + NAME), second=loop(entry(NAME)))),
+    ("accepted, found 1 20 3", 0x41, nit(second=loop(entry(LIST)))),
+    ("accepted, found 2 28 3", 0x41, nit(top=loop(STUFF), second=loop(entry() + entry(LIST) + entry(LIST)))),
+    ("accepted, found 1 22 3", 0x41, nit(second=loop(entry(STUFF + LIST + LIST)))),
+    ("accepted, found 1 18 0", 0x42, sdt(service(STUFF))),
+    ("accepted, found 2 23 3", 0x40, sdt(service() + service(NAME))),
+    ("accepted, found 1 28 3", 0x40, eit(event(NAME))),
+    ("accepted, none", 0x43, eit(event(NAME) + event(LIST))),
+    ("accepted, found 0 12 0", 0x42, tot(loop(STUFF))),
+    # the largest
+    ("accepted, found 1 28 255", 0x42, eit(event(filled(4093 - 15 - 12)))),
+]
+
+
+def main():
+    stdin = b"".join(bytes([tag]) + len(data).to_bytes(2, "big") + data for _, tag, data in CASES)
+    stdout = "".join(said + "\n" for said, _, _ in CASES).encode()
+    if "--check" not in sys.argv:
+        (HERE / "stdin").write_bytes(stdin)
+        (HERE / "stdout").write_bytes(stdout)
+    elif (HERE / "stdin").read_bytes() != stdin or (HERE / "stdout").read_bytes() != stdout:
+        sys.exit("sections: crates/judging/stdin and stdout are not what tests/sections.py says: run it")
+    print(f"sections: {len(CASES)} cases")
+
+
+if __name__ == "__main__":
+    main()
