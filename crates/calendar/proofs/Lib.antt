@@ -1,0 +1,3 @@
+-- The laws that the proofs cite, and what holds of the answers.
+pub mod AnnexC
+pub mod Unique

@@ -1,0 +1,2 @@
+-- What the date of an MJD is.
+pub mod Calendar

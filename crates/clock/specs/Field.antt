@@ -1,0 +1,36 @@
+-- The fields of a clock: two BCD digits in a byte, below a limit.
+use Prim.Native.Nat.{ℕ}
+use lib.Dec.{ltb}
+use Rattle.wire.specs.If.{if_then_else_}
+use Rattle.wire.specs.Reading.{Reading, value, refused, _>>=_}
+use Rattle.wire.specs.Digits.{bcdOf}
+use Rattle.clock.specs.Fault.{numbered}
+use Rattle.clock.specs.declared.Hms.{Hms}
+use Rattle.clock.specs.declared.field.Field.{Field}
+use Rattle.clock.specs.declared.field.Field.the-variants.{Is, Refused}
+use Rattle.clock.specs.declared.field.Clock.{Clock}
+use Rattle.clock.specs.declared.field.Clock.the-variants as clock
+
+-- "64 hour above 23, minute or second above 59"
+abbrev pub below : ℕ → ℕ → Reading ℕ
+below limit n = if ltb n limit then value n else refused 64
+
+-- two digits, and then the limit: "each 63, 64"
+unfoldable pub field : ℕ → ℕ → Reading ℕ
+field limit b = bcdOf 2 b >>= below limit
+
+-- hour, minute and second, "fields left to right"; the hour is below the limit
+unfoldable pub hms : ℕ → ℕ → ℕ → ℕ → Reading Hms
+hms limit h m s = do
+  hour ← field limit h
+  minute ← field 60 m
+  second ← field 60 s
+  value (record { hour = hour; minute = minute; second = second })
+
+abbrev pub told : Field → Reading ℕ
+told (Is n) = value n
+told (Refused f) = refused (numbered f)
+
+abbrev pub toldHms : Clock → Reading Hms
+toldHms (clock.Is t) = value t
+toldHms (clock.Refused f) = refused (numbered f)

@@ -1,0 +1,24 @@
+-- An offset from UTC.
+use mathlib.Core.Bool.{Bool, true, false}
+use Prim.Native.Nat.{ℕ, _+_, _*_}
+use lib.IntN.{ℤ, pos, negℤ}
+use Rattle.wire.specs.Reading.{Reading, value, refused, _>>=_}
+use Rattle.clock.specs.Fault.{numbered}
+use Rattle.clock.specs.Field.{field}
+use Rattle.clock.specs.declared.offset.Answer.{Answer}
+use Rattle.clock.specs.declared.offset.Answer.the-variants.{Minutes, Refused}
+
+-- "An offset is signed minutes (polarity 1 is behind UTC); 1 with 0000 is zero."
+abbrev pub signed : Bool → ℕ → ℤ
+signed true n = negℤ (pos n)
+signed false n = pos n
+
+unfoldable pub offsetOf : Bool → ℕ → ℕ → Reading ℤ
+offsetOf behind h m = do
+  hour ← field 24 h
+  minute ← field 60 m
+  value (signed behind (hour * 60 + minute))
+
+abbrev pub told : Answer → Reading ℤ
+told (Minutes n) = value n
+told (Refused f) = refused (numbered f)

@@ -1,0 +1,28 @@
+-- A time.
+use mathlib.Core.List.{[], _∷_}
+use Prim.Native.Nat.{ℕ}
+use lib.Dec.{ltb, eqb}
+use Rattle.wire.specs.If.{if_then_else_}
+use Rattle.wire.specs.Reading.{Reading, value, refused, _>>=_}
+use Rattle.wire.specs.Number.{number}
+use Rattle.clock.specs.Fault.{numbered}
+use Rattle.clock.specs.Field.{hms}
+use Rattle.clock.specs.declared.time.Moment.{Moment}
+use Rattle.clock.specs.declared.time.Moment.the-variants.{Undefined, At}
+use Rattle.clock.specs.declared.time.Answer.{Answer}
+use Rattle.clock.specs.declared.time.Answer.the-variants.{Is, Refused}
+
+-- "65 MJD below 15,079"
+abbrev pub day : ℕ → Reading ℕ
+day mjd = if ltb mjd 15079 then refused 65 else value mjd
+
+-- "Forty ones mean "undefined", before any check; else MJD, hour, minute and second are four fields."
+unfoldable pub timeOf : ℕ → ℕ → ℕ → ℕ → Reading Moment
+timeOf mjd h m s = if eqb (number (mjd ∷ h ∷ m ∷ s ∷ [])) 0xFF_FFFF_FFFF then value Undefined else do
+  d ← day mjd
+  t ← hms 24 h m s
+  value (At (record { mjd = d; clock = t }))
+
+abbrev pub told : Answer → Reading Moment
+told (Is t) = value t
+told (Refused f) = refused (numbered f)
