@@ -1,0 +1,2 @@
+-- What holds of the answers.
+pub mod Unique

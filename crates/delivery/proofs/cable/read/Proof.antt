@@ -1,0 +1,41 @@
+-- The layout's refusal, or the fields of the body.
+use mathlib.Core.Path.{_∙_, ap}
+use Rattle.delivery.specs.Cable.{cable}
+use borrow.Author.Needs.{needs}
+use Rattle.delivery.proofs.cable.read.Statement.{statement}
+use Rattle.delivery.proofs.cable.read.Tie as tie
+
+sized-requires : tie.Need-sized-requires
+sized-requires c κs = search needs
+
+enum-known-why : tie.Need-enum-known-why
+enum-known-why c = search needs
+
+enum-told : tie.Need-enum-told
+enum-told c = search needs
+
+after-requires : tie.Need-after-requires
+after-requires c κs = search needs
+
+fields-of-requires : tie.Need-fields-of-requires
+fields-of-requires c κs = search needs
+
+returns : tie.Need-returns
+unfolding cable
+returns c = rw (← c .before .before .before .sized .ensures, c .before .why .given .1)
+
+returns-2 : tie.Need-returns-2
+unfolding cable
+returns-2 c = rw (← c .before .before .before .before .sized .ensures, c .before .before .enum-told .given .1, ← c .before .after .ensures) (c .fields-of .ensures)
+
+pub read-spec : {M : Type 1} → statement M
+read-spec =
+    tie.close
+    (tie.spec
+    sized-requires
+    enum-known-why
+    enum-told
+    after-requires
+    fields-of-requires
+    returns
+    returns-2)

@@ -1,0 +1,5 @@
+-- The laws that the proofs cite, and what holds of the answers.
+pub mod Frames
+pub mod Inside
+pub mod Exactly
+pub mod Unique

@@ -1,0 +1,81 @@
+-- Two answers that tell the same are the same.
+use mathlib.Core.Path.{_≡_, refl, sym, ap}
+use mathlib.Core.List.{List}
+use Prim.Native.Nat.{ℕ, _<_}
+use native.Mathlib.Omega.{arith}
+use Rattle.wire.specs.Reading.{value-is, refused-is, never}
+use Rattle.clock.specs.Fault as fault
+use Rattle.clock.specs.declared.Fault.{Fault}
+use Rattle.clock.specs.declared.Fault.the-variants.{BadDigit, OutOfRange, TooEarly}
+use Rattle.clock.proofs.Unique.{fault-once}
+use Rattle.layout.specs.Refusal.{numbered}
+use Rattle.layout.specs.Body as body
+use Rattle.layout.specs.Items.{toldCount, toldPlace}
+use Rattle.layout.specs.Field as field
+use Rattle.layout.specs.Texts as texts
+use Rattle.layout.specs.declared.Refusal.{Refusal}
+use Rattle.layout.specs.declared.Refusal.the-variants.{WrongTag, DoesNotFit, PastEnd, Field}
+use Rattle.layout.specs.declared.body.Body.{Body}
+use Rattle.layout.specs.declared.body.Body.the-variants.{Fits, Refused as body-refused}
+use Rattle.layout.specs.declared.items.Count.{Count}
+use Rattle.layout.specs.declared.items.Count.the-variants.{Items, Refused as count-refused}
+use Rattle.layout.specs.declared.items.Place.{Place}
+use Rattle.layout.specs.declared.items.Place.the-variants.{At, Refused as place-refused}
+use Rattle.layout.specs.declared.digits.Number.{Number}
+use Rattle.layout.specs.declared.digits.Number.the-variants.{Is, Refused as number-refused}
+use Rattle.layout.specs.declared.texts.Texts.{Texts}
+use Rattle.layout.specs.declared.texts.Texts.the-variants.{Are, DoNotFit}
+
+-- a field's fault has a number between those of the other refusals
+between : (f : Fault) → (62 < fault.numbered f) × (fault.numbered f < 66)
+between BadDigit = (omega arith, omega arith)
+between OutOfRange = (omega arith, omega arith)
+between TooEarly = (omega arith, omega arith)
+
+pub refusal-once : (p q : Refusal) → numbered p ≡ numbered q → p ≡ q
+refusal-once WrongTag WrongTag e = refl
+refusal-once WrongTag DoesNotFit e = absurd (omega arith)
+refusal-once WrongTag PastEnd e = absurd (omega arith)
+refusal-once WrongTag (Field g) e = absurd (omega (arith, between g))
+refusal-once DoesNotFit WrongTag e = absurd (omega arith)
+refusal-once DoesNotFit DoesNotFit e = refl
+refusal-once DoesNotFit PastEnd e = absurd (omega arith)
+refusal-once DoesNotFit (Field g) e = absurd (omega (arith, between g))
+refusal-once PastEnd WrongTag e = absurd (omega arith)
+refusal-once PastEnd DoesNotFit e = absurd (omega arith)
+refusal-once PastEnd PastEnd e = refl
+refusal-once PastEnd (Field g) e = absurd (omega (arith, between g))
+refusal-once (Field f) WrongTag e = absurd (omega (arith, between f))
+refusal-once (Field f) DoesNotFit e = absurd (omega (arith, between f))
+refusal-once (Field f) PastEnd e = absurd (omega (arith, between f))
+refusal-once (Field f) (Field g) e = ap Field (fault-once f g e)
+
+pub body-once : (s : List ℕ) (p q : Body) → body.told s p ≡ body.told s q → p ≡ q
+body-once s Fits Fits e = refl
+body-once s Fits (body-refused w) e = absurd (never e)
+body-once s (body-refused v) Fits e = absurd (never (sym e))
+body-once s (body-refused v) (body-refused w) e = ap body-refused (refusal-once v w (refused-is e))
+
+pub count-once : (p q : Count) → toldCount p ≡ toldCount q → p ≡ q
+count-once (Items a) (Items b) e = ap Items (value-is e)
+count-once (Items a) (count-refused w) e = absurd (never e)
+count-once (count-refused v) (Items b) e = absurd (never (sym e))
+count-once (count-refused v) (count-refused w) e = ap count-refused (refusal-once v w (refused-is e))
+
+pub place-once : (p q : Place) → toldPlace p ≡ toldPlace q → p ≡ q
+place-once (At a) (At b) e = ap At (value-is e)
+place-once (At a) (place-refused w) e = absurd (never e)
+place-once (place-refused v) (At b) e = absurd (never (sym e))
+place-once (place-refused v) (place-refused w) e = ap place-refused (refusal-once v w (refused-is e))
+
+pub number-once : (p q : Number) → field.told p ≡ field.told q → p ≡ q
+number-once (Is a) (Is b) e = ap Is (value-is e)
+number-once (Is a) (number-refused w) e = absurd (never e)
+number-once (number-refused v) (Is b) e = absurd (never (sym e))
+number-once (number-refused v) (number-refused w) e = ap number-refused (fault-once v w (refused-is e))
+
+pub texts-once : (p q : Texts) → texts.told p ≡ texts.told q → p ≡ q
+texts-once (Are a) (Are b) e = ap Are (value-is e)
+texts-once (Are a) DoNotFit e = absurd (never e)
+texts-once DoNotFit (Are b) e = absurd (never (sym e))
+texts-once DoNotFit DoNotFit e = refl

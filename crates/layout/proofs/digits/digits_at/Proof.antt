@@ -1,0 +1,63 @@
+-- A number in BCD out of the four bytes at its place.
+use lib.Pow.{shr-le}
+use native.Mathlib.Omega.{arith}
+use Prim.Native.Nat.{_*_}
+use Rattle.layout.specs.Field.{digitsAt}
+use borrow.Author.Needs.{needs}
+use Rattle.layout.proofs.digits.digits_at.Statement.{statement}
+use Rattle.layout.proofs.digits.digits_at.Tie as tie
+
+number32-at-requires : tie.Need-number32-at-requires
+number32-at-requires c κs = search needs
+
+cast-v : tie.Need-cast-v
+cast-v c = search needs
+
+left-over-requires : tie.Need-left-over-requires
+left-over-requires c κs = search needs
+
+mul-v : tie.Need-mul-v
+mul-v c = search needs
+
+cast-v-2 : tie.Need-cast-v-2
+cast-v-2 c = search needs
+
+shr-v : tie.Need-shr-v
+shr-v c = search needs
+
+cast-bcd : tie.Need-cast-bcd
+cast-bcd c = omega (arith, shr-le (c .before .number32-at .result) (4 * c .left-over .result), c .before .number32-at .ok)
+
+bcd-requires : tie.Need-bcd-requires
+bcd-requires c κs = search needs
+
+enum-told : tie.Need-enum-told
+enum-told c = search needs
+
+enum-known-a : tie.Need-enum-known-a
+enum-known-a c = search needs
+
+returns : tie.Need-returns
+unfolding digitsAt
+returns c = rw (← c .before .before .before .before .number32-at .ensures, ← c .before .before .before .left-over .ensures, ← c .before .before .bcd .ensures, c .enum-told .given .1)
+
+returns-2 : tie.Need-returns-2
+unfolding digitsAt
+returns-2 c = rw (← c .before .before .before .before .before .number32-at .ensures, ← c .before .before .before .before .left-over .ensures, ← c .before .before .before .bcd .ensures, c .before .a .given .1)
+
+pub digits-at-spec : {M : Type 1} → statement M
+digits-at-spec =
+    tie.close
+    (tie.spec
+    number32-at-requires
+    cast-v
+    left-over-requires
+    mul-v
+    cast-v-2
+    shr-v
+    cast-bcd
+    bcd-requires
+    enum-told
+    enum-known-a
+    returns
+    returns-2)

@@ -1,0 +1,36 @@
+-- Lists: a body of items of k bytes.
+use mathlib.Core.List.{List}
+use Prim.Native.Nat.{ℕ, _+_, _*_, _/_, _%_}
+use lib.Dec.{eqb, ltb}
+use lib.ListN.{length, take, drop}
+use Rattle.wire.specs.If.{if_then_else_}
+use Rattle.wire.specs.Reading.{Reading, value, refused, _>>=_}
+use Rattle.layout.specs.Refusal.{numbered}
+use Rattle.layout.specs.Body.{framed, fit}
+use Rattle.layout.specs.declared.items.Count.{Count}
+use Rattle.layout.specs.declared.items.Count.the-variants.{Items, Refused}
+use Rattle.layout.specs.declared.items.Place.{Place}
+use Rattle.layout.specs.declared.items.Place.the-variants as answer
+
+unfoldable pub items : ℕ → ℕ → List ℕ → Reading (List ℕ)
+items k tag s = framed tag s >>= λ body. fit (eqb (length body % k) 0) body
+
+-- how many items there are
+unfoldable pub count : ℕ → ℕ → List ℕ → Reading ℕ
+count k tag s = items k tag s >>= λ body. value (length body / k)
+
+-- "66 index past the end": where the item of an index counted from 0 starts, counted from the tag as 0
+unfoldable pub place : ℕ → ℕ → List ℕ → ℕ → Reading ℕ
+place k tag s index = items k tag s >>= λ body. if ltb index (length body / k) then value (2 + k * index) else refused 66
+
+-- the bytes of that item
+unfoldable pub item : ℕ → ℕ → List ℕ → ℕ → Reading (List ℕ)
+item k tag s index = place k tag s index >>= λ at. value (take k (drop at s))
+
+abbrev pub toldCount : Count → Reading ℕ
+toldCount (Items n) = value n
+toldCount (Refused why) = refused (numbered why)
+
+abbrev pub toldPlace : Place → Reading ℕ
+toldPlace (answer.At at) = value at
+toldPlace (answer.Refused why) = refused (numbered why)

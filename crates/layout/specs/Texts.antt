@@ -1,0 +1,22 @@
+-- Two texts, each after the byte that gives its length.
+use mathlib.Core.List.{List}
+use Prim.Native.Nat.{ℕ, _+_}
+use lib.Dec.{eqb}
+use lib.ListN.{length, getD}
+use Rattle.wire.specs.If.{if_then_else_}
+use Rattle.wire.specs.Reading.{Reading, value, refused}
+use Rattle.layout.specs.Refusal.{partAt}
+use Rattle.layout.specs.declared.texts.TwoTexts.{TwoTexts}
+use Rattle.layout.specs.declared.texts.Texts.{Texts}
+use Rattle.layout.specs.declared.texts.Texts.the-variants.{Are, DoNotFit}
+
+-- a body of h bytes, then a length a and a bytes of text, then a length n and n bytes of text, and nothing after
+unfoldable pub twoTexts : ℕ → List ℕ → Reading TwoTexts
+twoTexts h body =
+    let a = getD body h 0 in
+    let n = getD body (h + 1 + a) 0 in
+    if eqb (length body) (h + 2 + a + n) then value (record { first = partAt (h + 1) a; second = partAt (h + 2 + a) n }) else refused 62
+
+abbrev pub told : Texts → Reading TwoTexts
+told (Are t) = value t
+told DoNotFit = refused 62

@@ -1,0 +1,47 @@
+-- The bytes of a time at their places.
+use Rattle.lists.specs.LocalTimeOffset.{timeAt}
+use borrow.Author.Needs.{needs}
+use Rattle.lists.proofs.local_time_offset.time_at.Statement.{statement}
+use Rattle.lists.proofs.local_time_offset.time_at.Tie as tie
+
+number16-at-requires : tie.Need-number16-at-requires
+number16-at-requires c κs = search needs
+
+add-byte-at : tie.Need-add-byte-at
+add-byte-at c = search needs
+
+byte-at-requires : tie.Need-byte-at-requires
+byte-at-requires c κs = search needs
+
+add-byte-at-2 : tie.Need-add-byte-at-2
+add-byte-at-2 c = search needs
+
+byte-at-requires-2 : tie.Need-byte-at-requires-2
+byte-at-requires-2 c κs = search needs
+
+add-byte-at-3 : tie.Need-add-byte-at-3
+add-byte-at-3 c = search needs
+
+byte-at-requires-3 : tie.Need-byte-at-requires-3
+byte-at-requires-3 c κs = search needs
+
+read-requires : tie.Need-read-requires
+read-requires c κs = search needs
+
+returns : tie.Need-returns
+unfolding timeAt
+returns c = rw (← c .before .before .before .before .number16-at .ensures, ← c .before .before .before .byte-at .ensures, ← c .before .before .byte-at2 .ensures, ← c .before .byte-at3 .ensures) (c .read .ensures)
+
+pub time-at-spec : {M : Type 1} → statement M
+time-at-spec =
+    tie.close
+    (tie.spec
+    number16-at-requires
+    add-byte-at
+    byte-at-requires
+    add-byte-at-2
+    byte-at-requires-2
+    add-byte-at-3
+    byte-at-requires-3
+    read-requires
+    returns)

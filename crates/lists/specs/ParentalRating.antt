@@ -1,0 +1,25 @@
+-- 0x55 parental rating.
+use mathlib.Core.List.{List}
+use Prim.Native.Nat.{ℕ}
+use lib.ListN.{getD}
+use Rattle.wire.specs.Reading.{Reading, value, refused, _>>=_}
+use Rattle.wire.specs.Number.{numberAt}
+use Rattle.layout.specs.Refusal.{numbered}
+use Rattle.layout.specs.Items.{item, count}
+use Rattle.lists.specs.declared.parental_rating.Item.{Item}
+use Rattle.lists.specs.declared.parental_rating.Answer.{Answer}
+use Rattle.lists.specs.declared.parental_rating.Answer.the-variants.{Is, Refused}
+
+-- repeated 4 bytes: 0 country_code 24; 3 rating 8
+abbrev pub fields : List ℕ → Item
+fields b = record { «country_code» = numberAt 3 b 0; rating = getD b 3 0 }
+
+unfoldable pub parentalRating : List ℕ → ℕ → Reading Item
+parentalRating s index = item 4 0x55 s index >>= λ b. value (fields b)
+
+abbrev pub ratingCount : List ℕ → Reading ℕ
+ratingCount s = count 4 0x55 s
+
+abbrev pub told : Answer → Reading Item
+told (Is i) = value i
+told (Refused why) = refused (numbered why)

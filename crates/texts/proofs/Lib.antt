@@ -1,0 +1,3 @@
+-- What holds of the answers.
+pub mod Handed
+pub mod Unique
