@@ -1,0 +1,169 @@
+#!/usr/bin/env python3
+"""Makes samples/stream.ts, a short stream of one PID, and samples/stream.txt, its account.
+
+    samples/make.py            writes both
+    samples/make.py --check    says whether the two are what this file says, and changes nothing
+
+NIT, BAT, SDT, EIT, TDT and TOT sections, packed end to end; and what happens to streams: a gap, repeated packets, a splice, packets that
+document 01 refuses, adaptation fields, a section whose length no section can have, a last piece that is cut. The account is kept here by rules
+of its own, byte by byte from document 01, and not by the library.
+"""
+import random
+import sys
+from pathlib import Path
+
+sys.path.insert(0, str(Path(__file__).resolve().parent.parent / "tests"))
+import sections as made  # noqa: E402
+
+HERE = Path(__file__).resolve().parent
+PID = 0x0014
+
+
+def packet(payload, counter, start, pid=PID, sync=0x47, error=0, scrambling=0):
+    """A packet with this payload; what is short of 184 bytes an adaptation field fills."""
+    head = bytes([sync, error << 7 | start << 6 | pid >> 8, pid & 255])
+    room = 184 - len(payload)
+    if room == 0:
+        return head + bytes([scrambling << 6 | 0x10 | counter]) + payload
+    field = b"" if room == 1 else b"\x00" + b"\xFF" * (room - 2)
+    return head + bytes([scrambling << 6 | (0x30 if payload else 0x20) | counter, room - 1]) + field + payload
+
+
+def packed(sections, counter):
+    """Packets that carry the sections end to end."""
+    out, rest, waiting = [], b"", list(sections)
+    while rest or waiting:
+        left = len(rest)
+        if left >= 184 or not waiting or left == 183:
+            body = (rest[:184] + b"\xFF" * 184)[:184]
+            rest = rest[184:]
+            start = 0
+            if left == 0:
+                body, start = b"\x00" + waiting[0][:183], 1
+                rest = waiting.pop(0)[183:]
+                body = (body + b"\xFF" * 184)[:184] if not waiting else body
+        else:
+            body, start = bytes([left]) + rest, 1
+            rest = b""
+        while start and len(body) < 184 and waiting:
+            piece = waiting.pop(0)
+            space = 184 - len(body)
+            body, rest = body + piece[:space], piece[space:]
+        out.append(packet((body + b"\xFF" * 184)[:184], counter % 16, start))
+        counter += 1
+    return out, counter
+
+
+def stream():
+    rng = random.Random(412)
+    tables = [
+        made.nit(top=made.loop(made.NAME), second=made.loop(made.entry(made.LIST) * 20)),
+        made.sdt(made.service(made.NAME) * 12),
+        made.nit(table_id=0x4A, top=made.loop(made.NAME)),
+        made.eit(made.event(made.filled(200)) * 14),
+        made.eit(made.event(made.filled(60)) * 3, table_id=0x50),
+        made.TDT,
+        made.tot(made.loop(bytes.fromhex("580D4742520200 00C0791245000100"))),
+    ]
+    chosen = [rng.choice(tables) for _ in range(60)]
+    packets, _ = packed(tables + chosen, 0)
+    out = []
+    for i, p in enumerate(packets):
+        if i % 41 == 40:
+            continue  # a gap
+        out.append(p)
+        if i % 37 == 20:
+            out += [p, p]  # repeated
+        if i % 53 == 30:
+            out.append(packet(b"", p[3] % 16, 0))  # no payload
+        if i % 61 == 10:  # refused: another sync, an error, another PID, scrambled, no adaptation control, a pointer past the payload
+            out += [b"\x00" + p[1:], packet(p[4:], p[3] % 16, 0, error=1), packet(p[4:], p[3] % 16, 0, pid=0x11), packet(p[4:], p[3] % 16, 0, scrambling=2)]
+            out += [p[:3] + bytes([p[3] % 16]) + p[4:], packet(b"\xB7" + p[5:], (p[3] + 1) % 16, 1)]
+        if i % 89 == 50:
+            out.append(packet(p[4:104], (p[3] + 9) % 16, 0))  # a splice
+    last = out[-1][3] % 16
+    out.append(packet(b"\x00\x42\xFF\xFF" + b"\x00" * 180, (last + 1) % 16, 1))  # a section_length of 4,095
+    out.append(packet(b"\x00" + b"\xFF" * 183, (last + 2) % 16, 1))
+    out.append(packet(b"\x00" + tables[0][:183], (last + 3) % 16, 1))  # a section that stays in hand
+    return b"".join(out) + out[0][:100]
+
+
+def account(data):
+    """Document 01's rules, a byte at a time."""
+    if len(data) < 188:
+        return "no packets\n"
+    pid = (data[1] & 31) << 8 | data[2]
+    n = dict.fromkeys(["taken", "repeated", "refused", "pointer", "delivered", "broken", "filler", "skipped"], 0)
+    hand, last, sections = b"", None, 0
+
+    def stretch(payload, begin):
+        """The bytes of one stretch; begin: sections may begin in it. The bytes in hand after it."""
+        nonlocal hand, sections
+        lost = "filler" if hand else "skipped"
+        for i, byte in enumerate(payload):
+            if not hand and (not begin or byte == 0xFF):
+                n[lost if not begin else "filler"] += len(payload) - i
+                return
+            hand += bytes([byte])
+            if len(hand) < 3:
+                continue
+            size = 3 + ((hand[1] & 15) << 8 | hand[2])
+            if size > 4096:
+                n["broken"] += len(hand) + len(payload) - i - 1
+                hand = b""
+                return
+            if len(hand) == size:
+                n["delivered"] += size
+                sections += 1
+                hand = b""
+
+    for at in range(0, len(data), 188):
+        p = data[at : at + 188]
+        if len(p) < 188 or p[0] != 0x47 or p[1] & 0x80 or (p[1] & 31) << 8 | p[2] != pid or p[3] & 0xC0:
+            n["refused"] += 1
+            continue
+        control, counter, start = p[3] >> 4 & 3, p[3] & 15, p[1] >> 6 & 1
+        if control == 0 or control == 3 and p[4] > 182 or control == 2 and p[4] != 183:
+            n["refused"] += 1
+            continue
+        payload = b"" if control == 2 else p[4:] if control == 1 else p[5 + p[4] :]
+        if control != 2 and start and (len(payload) < 2 or payload[0] > len(payload) - 2):
+            n["refused"] += 1
+            continue
+        if control == 2:
+            n["taken"] += 1
+            continue
+        if counter == last:
+            n["repeated"] += 1
+            continue
+        n["taken"] += 1
+        if last is not None and counter != (last + 1) % 16:
+            n["broken"] += len(hand)
+            hand = b""
+        last = counter
+        if not start:
+            stretch(payload, False)
+            continue
+        n["pointer"] += 1
+        target = 1 + payload[0]
+        stretch(payload[1:target], False)
+        n["broken"] += len(hand)
+        hand = b""
+        stretch(payload[target:], True)
+    lines = [f"PID {pid:04X}"] + [f"{k} {v % 2**32 if k not in ('taken', 'repeated', 'refused') else v}" for k, v in n.items()]
+    return "\n".join(lines + [f"in hand {len(hand)}", f"sections {sections}"]) + "\n"
+
+
+def main():
+    data = stream()
+    text = account(data)
+    if "--check" not in sys.argv:
+        (HERE / "stream.ts").write_bytes(data)
+        (HERE / "stream.txt").write_text(text)
+    elif (HERE / "stream.ts").read_bytes() != data or (HERE / "stream.txt").read_text() != text:
+        sys.exit("samples: stream.ts and stream.txt are not what samples/make.py says: run it")
+    print(f"samples: {len(data) // 188} packets")
+
+
+if __name__ == "__main__":
+    main()
