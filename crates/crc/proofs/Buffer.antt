@@ -46,10 +46,10 @@ next-wake w j b h =
     ∙ take-suc-set (drop (suc j) w) 127 b inside
     ∙ ap (λ (l : List ℕ). drop 1 (take 128 l) ++ (b ∷ [])) (sym (drop-cons w j 0 (omega arith)))
 
-pub none-left-yet : (w s : List ℕ) (at : ℕ) → length w ≡ 640 → Left w w s at 0 0
+pub none-left-yet : (w s : List ℕ) (at : ℕ) → length w ≡ 384 → Left w w s at 0 0
 none-left-yet w s at h = record { size = h; same = ap (λ (k : ℕ). feedBytes (stirred (take 128 w) (drop k s)) 0) (add-zero at) }
 
-pub one-left : (w₀ w s : List ℕ) (at j b : ℕ) → Left w₀ w s at j j → j < 512 → at + j + 128 < length s → b ≡ pulled places w j (getD s (at + j) 0)
+pub one-left : (w₀ w s : List ℕ) (at j b : ℕ) → Left w₀ w s at j j → j < 256 → at + j + 128 < length s → b ≡ pulled places w j (getD s (at + j) 0)
     → Left w₀ (set w (j + 128) b) s at (j + 1) (j + 1)
 one-left w₀ w s at j b l hj hs e =
     let u : List ℕ = take 128 (drop j w) in

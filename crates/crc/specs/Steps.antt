@@ -61,5 +61,5 @@ stirred u (m ∷ t) = pulled places u 0 m ∷ stirred (drop 1 u) t
 
 -- After n bytes of s have left from `at` on, the bytes that follow, stirred by the wake at place p of w', give what they gave before by the wake in w.
 pub record Left (w w' s : List ℕ) (at n p : ℕ) : Type 0 where
-  pub size : length w' ≡ 640
+  pub size : length w' ≡ 384
   pub same : feedBytes (stirred (take 128 (drop p w')) (drop (at + n) s)) 0 ≡ feedBytes (stirred (take 128 w) (drop at s)) 0

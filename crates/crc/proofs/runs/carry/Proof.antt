@@ -11,7 +11,7 @@ use Rattle.crc.proofs.runs.carry.Statement.{statement}
 use Rattle.crc.proofs.runs.carry.Tie as tie
 
 abbrev Inv-loop : tie.InvT-loop
-Inv-loop w₀ n j₀ w j = (j ≤ 128) × (length w ≡ 640) × (take j w ≡ take j (drop n w₀)) × (drop j w ≡ drop j w₀)
+Inv-loop w₀ n j₀ w j = (j ≤ 128) × (length w ≡ 384) × (take j w ≡ take j (drop n w₀)) × (drop j w ≡ drop j w₀)
 
 abbrev μ-loop : tie.MeasureT-loop
 μ-loop w₀ n j₀ w j = 128 - j

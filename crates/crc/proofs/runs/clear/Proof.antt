@@ -16,15 +16,15 @@ abbrev cleared : List ℕ → List ℕ
 cleared w = take 128 w ++ replicate 64 0
 
 abbrev Inv-loop : tie.InvT-loop
-Inv-loop w₀ j₀ w j = (128 ≤ j) × (j ≤ 192) × (length w ≡ 640) × (take j w ≡ take j (cleared w₀))
+Inv-loop w₀ j₀ w j = (128 ≤ j) × (j ≤ 192) × (length w ≡ 384) × (take j w ≡ take j (cleared w₀))
 
 abbrev μ-loop : tie.MeasureT-loop
 μ-loop w₀ j₀ w j = 192 - j
 
-wake-length : (w : List ℕ) → length w ≡ 640 → length (take 128 w) ≡ 128
+wake-length : (w : List ℕ) → length w ≡ 384 → length (take 128 w) ≡ 128
 wake-length w h = length-take-le 128 w (omega arith)
 
-length-cleared : (w : List ℕ) → length w ≡ 640 → length (cleared w) ≡ 192
+length-cleared : (w : List ℕ) → length w ≡ 384 → length (cleared w) ≡ 192
 length-cleared w h = length-append (take 128 w) (replicate 64 0) ∙ ap (λ (n : ℕ). n + 64) (wake-length w h)
 
 loop-holds : tie.Need-loop-holds Inv-loop μ-loop
@@ -40,7 +40,7 @@ loop-less : tie.Need-loop-less Inv-loop μ-loop
 loop-less c = omega arith
 
 -- behind the wake it has zeros
-zero-at : (w : List ℕ) (j : ℕ) → length w ≡ 640 → 128 ≤ j → 0 ≡ getD (cleared w) j 0
+zero-at : (w : List ℕ) (j : ℕ) → length w ≡ 384 → 128 ≤ j → 0 ≡ getD (cleared w) j 0
 zero-at w j h hj =
     let past : length (take 128 w) ≤ j = omega (arith, wake-length w h) in
     sym (getD-zeros (take 128 w) 64 j ∙ List·getD-eq-default (take 128 w) 0 past)
@@ -49,7 +49,7 @@ loop-again : tie.Need-loop-again Inv-loop μ-loop
 loop-again c =
     let l = c .before .loop in
     let w₀ = c .before .before .args .w .now in
-    let h : length w₀ ≡ 640 = c .before .before .pre in (
+    let h : length w₀ ≡ 384 = c .before .before .pre in (
       omega arith,
       omega arith,
       length-set (l .w) (l .j) 0 ∙ l .inv .2,
@@ -60,7 +60,7 @@ returns : tie.Need-returns Inv-loop μ-loop
 returns c =
     let l = c .before .loop in
     let w₀ = c .before .before .args .w .now in
-    let h : length w₀ ≡ 640 = c .before .before .pre in
+    let h : length w₀ ≡ 384 = c .before .before .pre in
     let all : l .j ≡ 192 = omega arith in
     let whole : take 192 (l .w) ≡ cleared w₀ = subst (λ (k : ℕ). take k (l .w) ≡ take k (cleared w₀)) all (l .inv .3) ∙ take-all 192 (cleared w₀) (omega (arith, length-cleared w₀ h)) in
     let wake : take 128 (l .w) ≡ take 128 w₀ = sym (take-take 128 192 (l .w) (lit≤ tt)) ∙ ap (take 128) whole ∙ take-at (take 128 w₀) (replicate 64 0) 128 (wake-length w₀ h) in

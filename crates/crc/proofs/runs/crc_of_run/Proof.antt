@@ -2,6 +2,7 @@
 use mathlib.Core.Path.{_≡_, refl, _∙_}
 use Prim.Native.Nat.{_+_, _-_, _≤_}
 use native.Mathlib.Omega.{arith}
+use lib.Dec.{lit<}
 use lib.ListN.{length, take, drop}
 use Rattle.crc.specs.Crc.{feedBytes, crc}
 use Rattle.crc.specs.Steps.{stirred}
@@ -10,22 +11,22 @@ use Rattle.crc.proofs.runs.crc_of_run.Statement.{statement}
 use Rattle.crc.proofs.runs.crc_of_run.Tie as tie
 
 abbrev Inv-loop : tie.InvT-loop
-Inv-loop s w₀ at₀ w at = (at + 128 ≤ length s) × (length w ≡ 640) × (feedBytes (stirred (take 128 w) (drop at s)) 0 ≡ crc s)
+Inv-loop s w₀ at₀ w at = (at + 128 ≤ length s) × (length w ≡ 384) × (feedBytes (stirred (take 128 w) (drop at s)) 0 ≡ crc s)
 
 abbrev μ-loop : tie.MeasureT-loop
 μ-loop s w₀ at₀ w at = length s - at
 
 array-write-w : tie.Need-array-write-w Inv-loop μ-loop
-array-write-w c = omega arith
+array-write-w c = lit< tt
 
 array-write-w-2 : tie.Need-array-write-w-2 Inv-loop μ-loop
-array-write-w-2 c = omega arith
+array-write-w-2 c = lit< tt
 
 array-write-w-3 : tie.Need-array-write-w-3 Inv-loop μ-loop
-array-write-w-3 c = omega arith
+array-write-w-3 c = lit< tt
 
 array-write-w-4 : tie.Need-array-write-w-4 Inv-loop μ-loop
-array-write-w-4 c = omega arith
+array-write-w-4 c = lit< tt
 
 loop-holds : tie.Need-loop-holds Inv-loop μ-loop
 loop-holds c = (omega arith, refl, starts (c .before .args .s .now) (c .before .pre))

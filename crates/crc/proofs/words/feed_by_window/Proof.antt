@@ -1,7 +1,10 @@
 -- The invariant is `Windowed`; the law of two long words ends it.
 use mathlib.Core.Path.{ap, _∙_}
 use Prim.Native.Nat.{_-_}
+use native.Mathlib.Nat.{le-trans}
 use native.Mathlib.Omega.{arith}
+use lib.Dec.{lit≤}
+use lib.Pow.{shl-lt}
 use lib.ListN.{length, drop}
 use Rattle.crc.specs.Crc.{feedBits, feedBytes}
 use Rattle.crc.proofs.Linear.{join}
@@ -16,24 +19,24 @@ abbrev μ-loop : tie.MeasureT-loop
 μ-loop r s a₀ b₀ i₀ a b i = length s - i
 
 long-requires : tie.Need-long-requires Inv-loop μ-loop
-long-requires c κs = omega arith
+long-requires c κs = le-trans (lit≤ tt) (c .before .pre)
 
 mul-a : tie.Need-mul-a Inv-loop μ-loop
-mul-a c = omega arith
+mul-a c = record { fits = shl-lt 32 32 (c .before .before .fits .r .fits) }
 
 long-requires-2 : tie.Need-long-requires-2 Inv-loop μ-loop
-long-requires-2 c κs = omega arith
+long-requires-2 c κs = c .before .before .pre
 
 loop-holds : tie.Need-loop-holds Inv-loop μ-loop
 loop-holds c =
     let long1 = c .before .long in
     let known = c .before .before .shared-slice-known in
     let k = c .before .before .before in
-    starts _ (λ j. known .given j .fits) (k .args .r) (long1 .result) (c .long2 .result) (k .pre) (k .fits .r .fits)
+    starts (k .args .s .now) (λ j. known .given j .fits) (k .args .r) (long1 .result) (c .long2 .result) (k .pre) (k .fits .r .fits)
     (long1 .ok) (c .long2 .ok) (long1 .ensures) (c .long2 .ensures)
 
 sub-loop : tie.Need-sub-loop Inv-loop μ-loop
-sub-loop c = omega arith
+sub-loop c = c .loop .inv .within
 
 over-requires : tie.Need-over-requires Inv-loop μ-loop
 over-requires c κs = tt
@@ -58,7 +61,7 @@ loop-again c =
     let k = at .before .before .before .before in
     let o = c .before .before .over in
     let m = c .before .long3 in
-    moves-on _ (λ j. known .given j .fits) (k .args .r) (l .a) (l .b) (l .i) (o .result) (m .result) (c .under .result) (l .inv) (omega arith)
+    moves-on (k .args .s .now) (λ j. known .given j .fits) (k .args .r) (l .a) (l .b) (l .i) (o .result) (m .result) (c .under .result) (l .inv) (omega arith)
     (o .ok) (m .ok) (c .under .ok) (o .ensures) (m .ensures) (c .under .ensures)
 
 feed-long-requires : tie.Need-feed-long-requires Inv-loop μ-loop
