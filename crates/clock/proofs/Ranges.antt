@@ -1,24 +1,23 @@
 -- What is read lies in range: a clock's fields, the day, the minutes of an offset.
-use mathlib.Core.Path.{_≡_, refl, sym, ap, _∙_, subst}
+use mathlib.Core.Path.{_≡_, refl, sym, subst}
 use mathlib.Core.Bool.{Bool, true, false}
 use mathlib.Core.List.{[], _∷_}
 use Prim.Native.Nat.{ℕ, zero, suc, _+_, _*_, _<_, _≤_}
 use native.Mathlib.Omega.{arith}
 use borrow.Author.Tests.{ltb-true, ltb-false}
 use lib.Dec.{eqb, ltb}
-use lib.IntN.{ℤ, pos, negℤ, natAbs}
+use lib.IntN.{ℤ, natAbs}
 use Rattle.wire.specs.If.{if_then_else_, if-case}
-use Rattle.wire.specs.Reading.{Reading, value, refused, _>>=_, value-is, never, through}
+use Rattle.wire.specs.Reading.{value, _>>=_, value-is, never, through}
 use Rattle.wire.specs.Number.{number}
-use Rattle.wire.specs.Digits.{bcdOf, bcdAfter}
+use Rattle.wire.specs.Digits.{bcdOf}
 use Rattle.clock.specs.Field.{field, hms}
 use Rattle.clock.specs.Time.{day, timeOf}
 use Rattle.clock.specs.Duration.{durationOf}
 use Rattle.clock.specs.Offset.{signed, offsetOf}
 use Rattle.clock.specs.declared.Hms.{Hms}
 use Rattle.clock.specs.declared.time.Time.{Time}
-use Rattle.clock.specs.declared.time.Moment.{Moment}
-use Rattle.clock.specs.declared.time.Moment.the-variants.{Undefined, At}
+use Rattle.clock.specs.declared.time.Moment.the-variants.{At}
 
 field-below : (limit b n : ℕ) → field limit b ≡ value n → n < limit
 unfolding field

@@ -1,4 +1,5 @@
 -- The laws that the proofs cite, and what holds of the answers.
+pub mod Decimal
 pub mod NextDigit
 pub mod SomeBits
 pub mod Unique

@@ -1,12 +1,12 @@
 -- A number in BCD a digit at a time, for any number of digits.
-use mathlib.Core.Path.{_≡_, refl, sym, ap, _∙_}
+use mathlib.Core.Path.{_≡_, sym, ap, _∙_}
 use mathlib.Core.Logic.{⊎-elim}
 use Prim.Native.Nat.{ℕ, zero, suc, _+_, _-_, _*_, _/_, _%_, _^_, _<_, _≤_}
 use native.Mathlib.Nat.{eq-or-lt-of-le, lt-of-lt-of-le, div-eq-of-lt}
 use native.Mathlib.Omega.{arith}
 use borrow.Author.Tests.{lt-ltb, le-ltb}
 use lib.Pow.{split, shr-shr, shr-le, pow-mono}
-use Rattle.wire.specs.Reading.{Reading, refused}
+use Rattle.wire.specs.Reading.{refused}
 use Rattle.wire.specs.Digits.{digit, bcdAfter, bcdOf}
 
 module _ (k v : ℕ) (some : 0 < k) where

@@ -1,8 +1,8 @@
 -- `wire::digits::bcd` reads as many digits as it is asked for. The loop's invariant: the k low digits of v after a are what all n are,
 -- and a is at most v without its k low digits.
-use mathlib.Core.Path.{_≡_, refl, sym, ap, _∙_}
+use mathlib.Core.Path.{_≡_, sym, ap, _∙_}
 use mathlib.Core.Logic.{⊎-elim}
-use Prim.Native.Nat.{ℕ, _≤_, _*_, _/_, _-_, _^_}
+use Prim.Native.Nat.{ℕ, _≤_, _*_, _/_, _^_}
 use native.Mathlib.Omega.{arith}
 use Rattle.wire.specs.Digits.{bcdAfter, bcdOf}
 use Rattle.wire.proofs.NextDigit.{digit-next, digit-bad, small, fits, eight}

@@ -1,7 +1,7 @@
 -- Some bits of the byte at a place, and none above the highest.
 use Rattle.wire.proofs.SomeBits.{power, bits-le, none-above, up-to-the-top, none-between}
 use Rattle.wire.specs.Number.{bitsAt}
-use mathlib.Core.Path.{sym, ap, _∙_}
+use mathlib.Core.Path.{sym}
 use lib.Pow.{pow-pos}
 use native.Mathlib.Omega.{arith}
 use Prim.Native.Nat.{_+_, _-_, _*_, _%_, _^_}

@@ -1,8 +1,6 @@
 -- `wire::parts::first` gives the first n bytes.
-use mathlib.Core.Path.{_≡_, sym}
-use Prim.Native.Nat.{_≤_}
+use mathlib.Core.Path.{sym}
 use native.Mathlib.Omega.{arith}
-use lib.ListN.{length, length-take}
 use lib.Seq.{take-all, length-take-le}
 use denote.Ref.{now}
 use borrow.Author.Needs.{needs}
