@@ -1,0 +1,5 @@
+pub mod Puts
+pub mod Lawful
+pub mod FieldLaws
+pub mod ListLaws
+pub mod Turns
