@@ -1,0 +1,5 @@
+-- What a table contains, its two forms, the section and the content sheet, and how a sheet is judged.
+pub mod Content
+pub mod Sheet
+pub mod Section
+pub mod Reads
