@@ -1,0 +1,4 @@
+pub mod SectionLaws
+pub mod Held
+pub mod Accepted
+pub mod Contained
