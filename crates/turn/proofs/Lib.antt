@@ -2,3 +2,6 @@ pub mod SectionLaws
 pub mod Held
 pub mod Accepted
 pub mod Contained
+pub mod AllOnes
+pub mod SheetSize
+pub mod RoundTrips

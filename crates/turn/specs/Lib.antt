@@ -1,1 +1,3 @@
--- Turning.
+-- Turning sheets into sections and sections into sheets.
+pub mod Turn
+pub mod Ones
