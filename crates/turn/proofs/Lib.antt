@@ -5,3 +5,4 @@ pub mod Contained
 pub mod AllOnes
 pub mod SheetSize
 pub mod RoundTrips
+pub mod PieceLaws

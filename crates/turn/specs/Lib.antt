@@ -1,3 +1,4 @@
 -- Turning sheets into sections and sections into sheets.
 pub mod Turn
 pub mod Ones
+pub mod Ways

@@ -1,8 +1,2 @@
 // Sheets into sections and back.
-ghost use mathlib.Core.Path.{_≡_};
-
-fn none() -> usize
-    ensures { λ r. ⌜ r ≡ 0 ⌝ }
-{
-    0
-}
+mod pieces;
