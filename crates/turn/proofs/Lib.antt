@@ -6,3 +6,4 @@ pub mod AllOnes
 pub mod SheetSize
 pub mod RoundTrips
 pub mod PieceLaws
+pub mod HeadLaws

@@ -1,2 +1,3 @@
 // Sheets into sections and back.
+mod heads;
 mod pieces;

@@ -1,0 +1,93 @@
+-- Laws of heads: their items, row by row, and items turned one behind the other.
+use Prim.Native.Nat.{ℕ, zero, suc, _<_, _≤_}
+use mathlib.Core.Path.{_≡_, refl, sym, ap, subst}
+use mathlib.Core.List.{List, [], _∷_}
+use mathlib.Core.Bool.{Bool, true, false, not}
+use native.Mathlib.Omega.{arith}
+use lib.ListN.{drop}
+use Rattle.forms.specs.Form.{Form, raw}
+use Rattle.forms.specs.Room.{Turned}
+use Rattle.forms.proofs.Turns.{turned-none, turned-one, turned-such}
+use Rattle.sheet.specs.Content.{Item, plain, numbers, version, flags, filler, headOf, entryOf}
+use Rattle.sheet.specs.Sheet.{inOrder}
+use Rattle.turn.specs.Ways.{itemFrom, itemTo, itemsFrom, itemsTo}
+use Rattle.forms.specs.declared.Place.{Place}
+
+-- ---- items row by row
+
+pub sdt-ids : (row : ℕ) → row ≡ 1 → plain 2 ∷ filler ∷ [] ≡ drop 3 (headOf row)
+unfolding headOf
+sdt-ids row e = ap (λ r. drop 3 (headOf r)) (sym e)
+
+pub eit-ids : (row : ℕ) → row ≡ 3 → plain 6 ∷ [] ≡ drop 3 (headOf row)
+unfolding headOf
+eit-ids row e = ap (λ r. drop 3 (headOf r)) (sym e)
+
+pub no-ids : (row : ℕ) → row < 4 → (row ≡ 1 → ⊥) → (row ≡ 3 → ⊥) → [] ≡ drop 3 (headOf row)
+unfolding headOf
+no-ids zero h f g = refl
+no-ids (suc zero) h f g = absurd (f refl)
+no-ids (suc (suc zero)) h f g = refl
+no-ids (suc (suc (suc zero))) h f g = absurd (g refl)
+no-ids (suc (suc (suc (suc row)))) h f g = absurd (omega arith)
+
+pub common-items : (row : ℕ) → row < 4 → plain 2 ∷ version ∷ numbers ∷ drop 3 (headOf row) ≡ headOf row
+unfolding headOf
+common-items zero h = refl
+common-items (suc zero) h = refl
+common-items (suc (suc zero)) h = refl
+common-items (suc (suc (suc zero))) h = refl
+common-items (suc (suc (suc (suc row)))) h = absurd (omega arith)
+
+pub time-items : (row : ℕ) → row < 6 → 4 ≤ row → plain 5 ∷ [] ≡ headOf row
+unfolding headOf
+time-items zero h g = absurd (omega arith)
+time-items (suc zero) h g = absurd (omega arith)
+time-items (suc (suc zero)) h g = absurd (omega arith)
+time-items (suc (suc (suc zero))) h g = absurd (omega arith)
+time-items (suc (suc (suc (suc zero)))) h g = refl
+time-items (suc (suc (suc (suc (suc zero))))) h g = refl
+time-items (suc (suc (suc (suc (suc (suc row)))))) h g = absurd (omega arith)
+
+pub sdt-entry : (row : ℕ) → row ≡ 1 → plain 2 ∷ flags ∷ [] ≡ entryOf row
+unfolding entryOf
+sdt-entry row e = ap entryOf (sym e)
+
+pub eit-entry : (row : ℕ) → row ≡ 3 → plain 10 ∷ [] ≡ entryOf row
+unfolding entryOf
+eit-entry row e = ap entryOf (sym e)
+
+pub nit-entry : (row : ℕ) → row < 4 → (row ≡ 1 → ⊥) → (row ≡ 3 → ⊥) → plain 4 ∷ [] ≡ entryOf row
+unfolding entryOf
+nit-entry zero h f g = refl
+nit-entry (suc zero) h f g = absurd (f refl)
+nit-entry (suc (suc zero)) h f g = refl
+nit-entry (suc (suc (suc zero))) h f g = absurd (g refl)
+nit-entry (suc (suc (suc (suc row)))) h f g = absurd (omega arith)
+
+-- ---- items one behind the other
+
+module _ (b : Bool) {s : List ℕ} where
+  pub no-items : {p : Place} {o : List ℕ} → Turned (itemsFrom b []) (itemsTo b []) s p o p o
+  no-items = turned-none (itemFrom b) (itemTo b)
+
+  pub an-item : {p q r : Place} {o o' o'' : List ℕ} (x : Item) (xs : List Item) → Turned (itemFrom b x) (itemTo b x) s p o q o'
+      → Turned (itemsFrom b xs) (itemsTo b xs) s q o' r o'' → Turned (itemsFrom b (x ∷ xs)) (itemsTo b (x ∷ xs)) s p o r o''
+  an-item x xs t u = turned-one (itemFrom b) (itemTo b) x xs t u
+
+  -- one, and no more
+  pub last-item : {p q : Place} {o o' : List ℕ} (x : Item) → Turned (itemFrom b x) (itemTo b x) s p o q o' → Turned (itemsFrom b (x ∷ [])) (itemsTo b (x ∷ [])) s p o q o'
+  last-item x t = an-item x [] t no-items
+
+pub plain-item : {s : List ℕ} {p q : Place} {o o' : List ℕ} (b : Bool) (n : ℕ) → Turned (raw n) (raw n) s p o q o' → Turned (itemFrom b (plain n)) (itemTo b (plain n)) s p o q o'
+plain-item true n t = t
+plain-item false n t = t
+
+pub numbers-item : {s : List ℕ} {p q : Place} {o o' : List ℕ} (b : Bool) → Turned (raw 2) (raw 2) s p o q o' → Turned (itemFrom b numbers) (itemTo b numbers) s p o q o'
+numbers-item true t = turned-such 24 7 inOrder inOrder t
+numbers-item false t = turned-such 7 24 inOrder inOrder t
+
+-- the same items
+pub as-items : {s : List ℕ} {p q : Place} {o o' : List ℕ} (b : Bool) {xs ys : List Item} → xs ≡ ys → Turned (itemsFrom b xs) (itemsTo b xs) s p o q o'
+    → Turned (itemsFrom b ys) (itemsTo b ys) s p o q o'
+as-items {s} {p} {q} {o} {o'} b e t = subst (λ zs. Turned (itemsFrom b zs) (itemsTo b zs) s p o q o') e t

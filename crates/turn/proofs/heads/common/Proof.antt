@@ -1,0 +1,37 @@
+-- `turn::heads::common` meets its contract.
+use mathlib.Core.List.{[], _∷_}
+use lib.ListN.{drop}
+use Rattle.sheet.specs.Content.{plain, numbers, version, headOf}
+use Rattle.turn.proofs.HeadLaws.{common-items, an-item, plain-item, numbers-item, as-items}
+use borrow.Author.Needs.{needs}
+use Rattle.turn.proofs.heads.common.Statement.{statement}
+use Rattle.turn.proofs.heads.common.Tie as tie
+
+plain-requires : tie.Need-plain-requires
+plain-requires c κs = search needs
+
+packed-requires : tie.Need-packed-requires
+packed-requires c κs = search needs
+
+plain-requires-2 : tie.Need-plain-requires-2
+plain-requires-2 c κs = search needs
+
+ids-requires : tie.Need-ids-requires
+ids-requires c κs = search needs
+
+same-length : tie.Need-same-length
+same-length c = search needs
+
+returns : tie.Need-returns
+returns c =
+    let b = c .before .before .before .before .before .before .before .before .before .before .before .before .before .before .before .before .before .before .args .forth in
+    let more = drop 3 (headOf (c .before .before .before .before .before .before .before .before .before .before .before .before .before .before .before .before .before .before .args .row)) in
+    as-items b (common-items (c .before .before .before .before .before .before .before .before .before .before .before .before .before .before .before .before .before .before .args .row) (c .before .before .before .before .before .before .before .before .before .before .before .before .before .before .before .before .before .before .pre))
+    (an-item b (plain 2) (version ∷ numbers ∷ more) (plain-item b 2 (c .before .before .before .before .before .before .before .before .before .before .before .before .before .before .plain .ensures))
+    (an-item b version (numbers ∷ more) (c .before .before .before .before .before .before .before .before .before .before .packed .ensures)
+    (an-item b numbers more (numbers-item b (c .before .before .before .before .before .before .plain2 .ensures)) (c .before .before .ids .ensures))))
+
+pub common-spec : {M : Type 1} → statement M
+common-spec =
+    tie.close
+    (tie.spec plain-requires packed-requires plain-requires-2 ids-requires same-length returns)

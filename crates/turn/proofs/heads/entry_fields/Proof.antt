@@ -1,0 +1,52 @@
+-- `turn::heads::entry_fields` meets its contract.
+use mathlib.Core.List.{[], _∷_}
+use Rattle.sheet.specs.Content.{plain, flags}
+use Rattle.turn.proofs.HeadLaws.{sdt-entry, eit-entry, nit-entry, an-item, last-item, plain-item, as-items}
+use borrow.Author.Needs.{needs}
+use Rattle.turn.proofs.heads.entry_fields.Statement.{statement}
+use Rattle.turn.proofs.heads.entry_fields.Tie as tie
+
+plain-requires : tie.Need-plain-requires
+plain-requires c κs = search needs
+
+packed-requires : tie.Need-packed-requires
+packed-requires c κs = search needs
+
+same-length : tie.Need-same-length
+same-length c = search needs
+
+returns : tie.Need-returns
+returns c = as-items (c .before .before .before .before .before .before .before .before .before .before .before .args .forth) (sdt-entry (c .before .before .before .before .before .before .before .before .before .before .before .args .row) (c .before .before .before .before .before .before .before .before .if1 .taken)) (an-item (c .before .before .before .before .before .before .before .before .before .before .before .args .forth) (plain 2) (flags ∷ []) (plain-item (c .before .before .before .before .before .before .before .before .before .before .before .args .forth) 2 (c .before .before .before .before .before .before .plain .ensures)) (last-item (c .before .before .before .before .before .before .before .before .before .before .before .args .forth) flags (c .before .before .packed .ensures)))
+
+plain-requires-2 : tie.Need-plain-requires-2
+plain-requires-2 c κs = search needs
+
+same-length-2 : tie.Need-same-length-2
+same-length-2 c = search needs
+
+returns-2 : tie.Need-returns-2
+returns-2 c = as-items (c .before .before .before .before .before .before .before .before .args .forth) (eit-entry (c .before .before .before .before .before .before .before .before .args .row) (c .before .before .before .before .if2 .taken)) (last-item (c .before .before .before .before .before .before .before .before .args .forth) (plain 10) (plain-item (c .before .before .before .before .before .before .before .before .args .forth) 10 (c .before .before .plain2 .ensures)))
+
+plain-requires-3 : tie.Need-plain-requires-3
+plain-requires-3 c κs = search needs
+
+same-length-3 : tie.Need-same-length-3
+same-length-3 c = search needs
+
+returns-3 : tie.Need-returns-3
+returns-3 c = as-items (c .before .before .before .before .before .before .before .before .args .forth) (nit-entry (c .before .before .before .before .before .before .before .before .args .row) (c .before .before .before .before .before .before .before .before .pre) (c .before .before .before .before .before .if1 .left) (c .before .before .before .before .if2 .left)) (last-item (c .before .before .before .before .before .before .before .before .args .forth) (plain 4) (plain-item (c .before .before .before .before .before .before .before .before .args .forth) 4 (c .before .before .plain3 .ensures)))
+
+pub entry-fields-spec : {M : Type 1} → statement M
+entry-fields-spec =
+    tie.close
+    (tie.spec
+    plain-requires
+    packed-requires
+    same-length
+    returns
+    plain-requires-2
+    same-length-2
+    returns-2
+    plain-requires-3
+    same-length-3
+    returns-3)
