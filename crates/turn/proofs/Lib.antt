@@ -7,3 +7,6 @@ pub mod SheetSize
 pub mod RoundTrips
 pub mod PieceLaws
 pub mod HeadLaws
+pub mod CountLaws
+pub mod EntryLaws
+pub mod LoopLaws

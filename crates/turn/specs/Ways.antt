@@ -1,33 +1,33 @@
 -- The two ways of a turn. On the way to a section (true) sheets are read and sections are written; on the way to a sheet (false) the reverse.
-use Prim.Native.Nat.{ℕ, _+_, _≤_}
+use Prim.Native.Nat.{ℕ, _+_, _*_, _/_, _%_, _≤_, _<_}
 use mathlib.Core.Path.{_≡_}
 use mathlib.Core.List.{List, [], _∷_}
 use mathlib.Core.Bool.{Bool, true, false, not}
-use lib.ListN.{length}
+use lib.ListN.{length, getD}
 use Rattle.wire.specs.If.{if_then_else_}
+use Rattle.wire.specs.Parts.{Part}
+use Rattle.tables.specs.Tables.{rowAt}
 use Rattle.forms.specs.Form.{Form, _then_, each}
 use Rattle.forms.specs.Fields.{Field}
-use Rattle.forms.specs.Lists.{all, All}
+use Rattle.forms.specs.Lists.{all, All, countedShow}
+use Rattle.forms.specs.Room.{put, sum}
 use Rattle.sheet.specs.Content.{Item, version, flags, bare, status, headOf, entryOf, sideOf, Fields, Descriptor, Loop, Entry, Entries, Body}
 use Rattle.sheet.specs.Sheet.{descriptor, sheetItem, sheetLoop, sheetTop, sheetEntries}
 use Rattle.sheet.specs.Section.{sectionItem, sectionLoop, sectionEntry, sectionTop, sectionEntries}
+
+-- a form for values of which more is known
+abbrev pub with : {A : Type 0} → Form A → (A → Type 0) → Form A
+with c P = record { read = c .read; show = c .show; Ok = λ a. c .Ok a × P a }
 
 -- the form that is read
 abbrev pub itemFrom : Bool → Item → Form (List ℕ)
 itemFrom true = sheetItem
 itemFrom false = sectionItem
 
+-- of a sheet's loop it is known that a section can hold it
 abbrev pub loopFrom : Bool → List Field → Form Loop
-loopFrom true = sheetLoop
-loopFrom false = sectionLoop
-
-abbrev pub topFrom : Bool → ℕ → Form Loop
-topFrom true = sheetTop
-topFrom false = sectionTop
-
-abbrev pub entriesFrom : Bool → ℕ → ℕ → Form Entries
-entriesFrom true row n = sheetEntries row
-entriesFrom false row n = sectionEntries row n
+loopFrom true fs = with (sheetLoop fs) (λ a. sectionLoop fs .Ok a)
+loopFrom false fs = sectionLoop fs
 
 abbrev pub itemsFrom : Bool → List Item → Form Fields
 itemsFrom b = each (itemFrom b)
@@ -44,12 +44,6 @@ itemsTo b = itemsFrom (not b)
 
 abbrev pub loopTo : Bool → List Field → Form Loop
 loopTo b = loopFrom (not b)
-
-abbrev pub topTo : Bool → ℕ → Form Loop
-topTo b = topFrom (not b)
-
-abbrev pub entriesTo : Bool → ℕ → ℕ → Form Entries
-entriesTo b = entriesFrom (not b)
 
 abbrev pub entryTo : Bool → ℕ → Form Entry
 entryTo b = entryFrom (not b)
@@ -68,10 +62,36 @@ abbrev pub sideIf : Bool → List Field
 sideIf true = status
 sideIf false = bare
 
--- a form for values of which more is known
-abbrev pub with : {A : Type 0} → Form A → (A → Type 0) → Form A
-with c P = record { read = c .read; show = c .show; Ok = λ a. c .Ok a × P a }
-
 -- k is the number of items that fill the bytes l, where such items do
 abbrev pub NumberIn : {A : Type 0} → Form A → List ℕ → ℕ → Type 0
 NumberIn {A} c l k = (m : List A) → All c m → all c m ≡ l → k ≡ length m
+
+-- n is the number of bytes of the descriptors whose list stands at the place `at` of s, where one does
+abbrev pub SizeAt : List ℕ → ℕ → ℕ → Type 0
+SizeAt s at n = (m : List Descriptor) → All descriptor m → length m < 65536 → Part s at (countedShow descriptor m) → n ≡ length (all descriptor m)
+
+-- the fixed bytes of the entries of a row
+pub record EntrySizes (fixed row : ℕ) : Type 0 where
+  pub has : fixed ≡ rowAt row .fixed
+  pub known : row < 4
+
+-- ---- the fields before a loop's length
+
+-- as the high bits of the first of its two bytes
+abbrev pub sideAt : Bool → List ℕ → ℕ → ℕ
+sideAt true s at = (getD s at 0 % 8 * 2 + getD s (sum at 1) 0 % 2) * 16
+sideAt false s at = 240
+
+-- the bytes that they are in a sheet
+abbrev pub sideSize : Bool → ℕ
+sideSize true = 2
+sideSize false = 0
+
+-- written into a sheet, from the first of the two bytes
+abbrev pub sideBack : Bool → ℕ → List ℕ → ℕ → List ℕ
+sideBack true x o to = put (put o to (x / 32 ∷ [])) (sum to 1) (x / 16 % 2 ∷ [])
+sideBack false x o to = o
+
+-- a number of two bytes, written
+abbrev pub putNumber : List ℕ → ℕ → ℕ → List ℕ
+putNumber o to n = put (put o to (n / 256 % 256 ∷ [])) (sum to 1) (n % 256 ∷ [])

@@ -1,0 +1,85 @@
+// A loop of descriptors: in a sheet the fields beside it, their number, the descriptors; in a section fields and size in two bytes, the descriptors.
+ghost use mathlib.Core.Path.{_≡_};
+ghost use mathlib.Core.Bool.{true, false, not};
+ghost use Prim.Native.Nat.{_+_};
+ghost use Rattle.forms.specs.Room.{Turned, sum};
+ghost use Rattle.turn.specs.Ways.{sideIf, sideAt, sideSize, sideBack, putNumber, loopFrom, loopTo};
+use crate::counts::descriptors_in;
+use crate::counts::descriptors_size;
+use forms::Place;
+use forms::copy;
+use forms::past;
+use forms::put_byte;
+use wire::length12_at;
+use wire::numbers::byte_at;
+use wire::parts::part;
+use wire::wide;
+
+pub fn put_number(room: &mut [u8], to: usize, n: usize)
+    ensures { λ _. ⌜ now (room .exit) ≡ putNumber (now (room .entry)) to n ⌝ }
+{
+    put_byte(room, to, (n / 256 % 256) as u8);
+    put_byte(room, past(to, 1), (n % 256) as u8);
+}
+
+// running_status and free_CA_mode as the high bits of a byte, or four reserved bits.
+fn side(status: bool, s: &[u8], at: usize) -> usize
+    ensures { λ r. ⌜ r ≡ sideAt status (now (s .entry)) at ⌝ }
+{
+    if status {
+        return (wide(byte_at(s, at)) % 8 * 2 + wide(byte_at(s, past(at, 1))) % 2) * 16;
+    }
+    240
+}
+
+fn side_size(status: bool) -> usize
+    ensures { λ r. ⌜ r ≡ sideSize status ⌝ }
+{
+    if status { 2 } else { 0 }
+}
+
+fn side_back(status: bool, x: u8, room: &mut [u8], to: usize)
+    ensures { λ _. ⌜ now (room .exit) ≡ sideBack status x (now (room .entry)) to ⌝ }
+{
+    if status {
+        put_byte(room, to, x / 32);
+        put_byte(room, past(to, 1), x / 16 % 2);
+    }
+}
+
+fn loop_forth(status: bool, s: &[u8], p: Place, room: &mut [u8]) -> Place
+    ensures { λ r. ⌜ Turned (loopFrom true (sideIf status)) (loopFrom false (sideIf status)) (now (s .entry)) p (now (room .entry)) r (now (room .exit)) ⌝ }
+{
+    let at = past(p.at, side_size(status));
+    let n = descriptors_size(s, at);
+    put_number(room, p.to, past(side(status, s, p.at) * 256, n));
+    copy(s, past(at, 2), n, room, past(p.to, 2));
+    Place {
+        at: past(past(at, 2), n),
+        to: past(past(p.to, 2), n),
+    }
+}
+
+fn loop_back(status: bool, s: &[u8], p: Place, room: &mut [u8]) -> Place
+    ensures { λ r. ⌜ Turned (loopFrom false (sideIf status)) (loopFrom true (sideIf status)) (now (s .entry)) p (now (room .entry)) r (now (room .exit)) ⌝ }
+{
+    let from = past(p.at, 2);
+    let n = length12_at(s, p.at);
+    let to = past(p.to, side_size(status));
+    side_back(status, byte_at(s, p.at), room, p.to);
+    put_number(room, to, descriptors_in(part(s, from, n)));
+    copy(s, from, n, room, past(to, 2));
+    Place {
+        at: past(from, n),
+        to: past(past(to, 2), n),
+    }
+}
+
+pub fn descriptors(forth: bool, status: bool, s: &[u8], p: Place, room: &mut [u8]) -> Place
+    ensures { λ r. ⌜ Turned (loopFrom forth (sideIf status)) (loopTo forth (sideIf status)) (now (s .entry)) p (now (room .entry)) r (now (room .exit)) ⌝ }
+{
+    if forth {
+        return loop_forth(status, s, p, room);
+    }
+    loop_back(status, s, p, room)
+}
