@@ -1,1 +1,2 @@
 pub mod SheetLaws
+pub mod ReadLaws

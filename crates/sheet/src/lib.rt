@@ -1,6 +1,8 @@
 // Content sheets: whether bytes are one.
 ghost use mathlib.Core.Path.{_≡_};
 
+mod read;
+
 // What is said of a sheet.
 pub enum Judged {
     // The section_length of its section.
