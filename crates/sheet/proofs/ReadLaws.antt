@@ -237,10 +237,19 @@ module _ {A : Type 0} (c : Form A) (s : List ℕ) (at : ℕ) where
   counted-onward h EndsEarly p = counted-whole h ∙ p
   counted-onward h TooWide p = counted-whole h ∙ p
 
-  pub follows-counted : 2 ≤ length s - at → {r : End} → Follows (times c (numberAt 2 s at)) s (At (at + 2)) r → Follows (counted c) s (At at) r
-  follows-counted h {r} p = record { onward = λ w. counted-onward (omega arith) r (p .onward (omega arith)) }
+  pub follows-counted : {k : ℕ} {r : End} → 2 ≤ length s - at → k ≡ numberAt 2 s at → Follows (times c k) s (At (at + 2)) r → Follows (counted c) s (At at) r
+  follows-counted {k} {r} h e p =
+      let q = subst (λ n. Follows (times c n) s (At (at + 2)) r) e p in
+      record { onward = λ w. counted-onward (omega arith) r (q .onward (omega arith)) }
 
   -- also where there is no such place
   pub early-counted : length s - at < 2 → Reads (counted c) s at EndsEarly
   unfolding countedRead
   early-counted h = stays _ (raw-short s at 2 h)
+
+  pub follows-early : length s - at < 2 → Follows (counted c) s (At at) EndsEarly
+  follows-early h = record { onward = λ w. early-counted h }
+
+-- no item is left
+pub follows-done : {A : Type 0} (c : Form A) {s : List ℕ} {k : ℕ} {x : End} → k ≡ 0 → Follows (times c k) s x x
+follows-done c {s} {k} {x} e = subst (λ n. Follows (times c n) s x x) (sym e) (follows-zero c)

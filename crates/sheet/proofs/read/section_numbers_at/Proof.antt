@@ -1,9 +1,9 @@
--- `sheet::read::numbers_at` meets its contract.
+-- `sheet::read::section_numbers_at` meets its contract.
 use native.Mathlib.Omega.{arith}
 use Rattle.sheet.proofs.ReadLaws.{reads-numbers, wide-numbers, early-numbers}
 use borrow.Author.Needs.{needs}
-use Rattle.sheet.proofs.read.numbers_at.Statement.{statement}
-use Rattle.sheet.proofs.read.numbers_at.Tie as tie
+use Rattle.sheet.proofs.read.section_numbers_at.Statement.{statement}
+use Rattle.sheet.proofs.read.section_numbers_at.Tie as tie
 
 less-requires : tie.Need-less-requires
 less-requires c κs = search needs
@@ -29,8 +29,8 @@ add-t4 c = search needs
 returns-3 : tie.Need-returns-3
 returns-3 c = reads-numbers (c .before .before .before .before .before .before .args .s .now) (c .before .before .before .before .before .before .args .at) (omega (arith, c .before .before .before .before .less .ensures)) (omega (arith, c .if2))
 
-pub numbers-at-spec : {M : Type 1} → statement M
-numbers-at-spec =
+pub section-numbers-at-spec : {M : Type 1} → statement M
+section-numbers-at-spec =
     tie.close
     (tie.spec
     less-requires

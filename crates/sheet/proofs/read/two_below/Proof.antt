@@ -1,0 +1,17 @@
+-- `sheet::read::two_below` meets its contract.
+use Rattle.sheet.proofs.ReadLaws.{follows-then}
+use borrow.Author.Needs.{needs}
+use Rattle.sheet.proofs.read.two_below.Statement.{statement}
+use Rattle.sheet.proofs.read.two_below.Tie as tie
+
+one-below-requires : tie.Need-one-below-requires
+one-below-requires c κs = search needs
+
+one-below-requires-2 : tie.Need-one-below-requires-2
+one-below-requires-2 c κs = search needs
+
+returns : tie.Need-returns
+returns c = follows-then (c .before .one-below .ensures) (c .one-below2 .ensures)
+
+pub two-below-spec : {M : Type 1} → statement M
+two-below-spec = tie.close (tie.spec one-below-requires one-below-requires-2 returns)
