@@ -1,9 +1,10 @@
 -- Laws of reading a sheet from left to right, by places: what each part's answer says of the whole.
-use Prim.Native.Nat.{ℕ, zero, suc, _+_, _-_, _≤_, _<_}
+use Prim.Native.Nat.{ℕ, zero, suc, _+_, _-_, _^_, _≤_, _<_}
 use mathlib.Core.Path.{_≡_, refl, sym, ap, ap₂, _∙_, subst}
+use mathlib.Core.Bool.{Bool, true, false}
 use mathlib.Core.List.{List, [], _∷_, _++_}
 use native.Mathlib.Omega.{arith}
-use borrow.Author.Tests.{le-leb, lt-leb, lt-ltb, le-ltb}
+use borrow.Author.Tests.{le-leb, lt-leb, lt-ltb, le-ltb, ne-eqb}
 use lib.ListN.{length, getD, take, drop, length-drop}
 use lib.Seq.{drop-drop, getD-take, getD-drop}
 use lib.Dec.{ltb, leb}
@@ -11,12 +12,14 @@ use Rattle.wire.specs.If.{if_then_else_}
 use Rattle.wire.specs.Number.{number, numberAt}
 use Rattle.wire.specs.Reading.{Reading, value, refused, _>>=_}
 use Rattle.wire.specs.Parts.{two-front}
+use Rattle.tables.specs.Tables.{cell, rowAt}
 use Rattle.forms.specs.Form.{Front, Form, mute, rawRead, raw, bothRead, _then_, suchRead, such, eachRead, each}
-use Rattle.forms.specs.Fields.{belowRead, below}
+use Rattle.forms.specs.Fields.{kept, reserved, belowRead, below, sheetField, sheetFields}
 use Rattle.forms.specs.Lists.{timesRead, times, countedRead, counted}
 use Rattle.forms.proofs.Lawful.{read-on}
-use Rattle.sheet.specs.Sheet.{inOrder, descriptorRead, descriptor}
-use Rattle.sheet.specs.Reads.{Ends, Reads, Onward, Follows}
+use Rattle.sheet.specs.Content.{Item, plain, numbers, version, flags, filler, bare, status, frame, common, headOf, entryOf, sideOf, Entries}
+use Rattle.sheet.specs.Sheet.{inOrder, sheetItem, descriptorRead, descriptor, sheetLoop, sheetTop, sheetEntries}
+use Rattle.sheet.specs.Reads.{Ends, Reads, Onward, Follows, Common, entryBy, sideBy, entryWith, topBy}
 use Rattle.sheet.specs.declared.End.{End}
 use Rattle.sheet.specs.declared.End.the-variants.{At, EndsEarly, TooWide}
 
@@ -32,14 +35,14 @@ module _ {A B C : Type 0} (c : Form A) (d : Form B) (h : Form C) (g : A → B �
   onward-both : (x y z : End) → Onward c s x y → Onward d s y z → Onward h s x z
   onward-both (At a) (At b) (At e) p q =
       λ w.
-        let i = p w in
-        let j = q (i .within) in
-        record {
-          value-read = g (i .value-read) (j .value-read);
-          reads = by (drop a s) ∙ read-on _ (i .reads) ∙ read-on _ (j .reads);
-          from = omega arith;
-          within = j .within;
-        }
+      let i = p w in
+      let j = q (i .within) in
+      record {
+        value-read = g (i .value-read) (j .value-read);
+        reads = by (drop a s) ∙ read-on _ (i .reads) ∙ read-on _ (j .reads);
+        from = omega arith;
+        within = j .within;
+      }
   onward-both (At a) (At b) EndsEarly p q = λ w. let i = p w in by (drop a s) ∙ read-on _ (i .reads) ∙ stays _ (q (i .within))
   onward-both (At a) (At b) TooWide p q = λ w. let i = p w in by (drop a s) ∙ read-on _ (i .reads) ∙ stays _ (q (i .within))
   onward-both (At a) EndsEarly z p q = λ w. subst (Reads h s a) (sym q) (by (drop a s) ∙ stays _ (p w))
@@ -145,12 +148,12 @@ module _ (s : List ℕ) (at : ℕ) where
     reads-below h g =
         record {
           onward = λ w.
-          record {
-            value-read = getD s at 0;
-            reads = first-byte (omega arith) ∙ rw (lt-ltb (getD s at 0) n g);
-            from = omega arith;
-            within = omega arith;
-          };
+              record {
+                value-read = getD s at 0;
+                reads = first-byte (omega arith) ∙ rw (lt-ltb (getD s at 0) n g);
+                from = omega arith;
+                within = omega arith;
+              };
         }
 
     pub wide-below : at < length s → n ≤ getD s at 0 → Follows (below n) s (At at) TooWide
@@ -174,12 +177,12 @@ module _ (s : List ℕ) (at : ℕ) where
   reads-numbers h g =
       record {
         onward = λ w.
-        record {
-          value-read = take 2 (drop at s);
-          reads = two-bytes (omega arith) ∙ rw (le-leb (getD s at 0) (getD s (at + 1) 0) g);
-          from = omega arith;
-          within = omega arith;
-        };
+            record {
+              value-read = take 2 (drop at s);
+              reads = two-bytes (omega arith) ∙ rw (le-leb (getD s at 0) (getD s (at + 1) 0) g);
+              from = omega arith;
+              within = omega arith;
+            };
       }
 
   pub wide-numbers : 2 ≤ length s - at → getD s (at + 1) 0 < getD s at 0 → Follows (such (raw 2) 24 inOrder) s (At at) TooWide
@@ -201,12 +204,12 @@ module _ (s : List ℕ) (at : ℕ) where
       let n : ℕ = getD s (at + 1) 0 in
       record {
         onward = λ w.
-        record {
-          value-read = record { tag = getD (take 2 (drop at s)) 0 0; body = take n (drop (at + 2) s) };
-          reads = read-on _ (raw-whole s at 2 (omega arith)) ∙ read-on _ (ap (λ k. rawRead k (drop (at + 2) s)) size-front ∙ raw-whole s (at + 2) n (omega arith));
-          from = omega arith;
-          within = omega arith;
-        };
+            record {
+              value-read = record { tag = getD (take 2 (drop at s)) 0 0; body = take n (drop (at + 2) s) };
+              reads = read-on _ (raw-whole s at 2 (omega arith)) ∙ read-on _ (ap (λ k. rawRead k (drop (at + 2) s)) size-front ∙ raw-whole s (at + 2) n (omega arith));
+              from = omega arith;
+              within = omega arith;
+            };
       }
 
   pub early-descriptor : length s - at < 2 → Follows descriptor s (At at) EndsEarly
@@ -253,3 +256,146 @@ module _ {A : Type 0} (c : Form A) (s : List ℕ) (at : ℕ) where
 -- no item is left
 pub follows-done : {A : Type 0} (c : Form A) {s : List ℕ} {k : ℕ} {x : End} → k ≡ 0 → Follows (times c k) s x x
 follows-done c {s} {k} {x} e = subst (λ n. Follows (times c n) s x x) (sym e) (follows-zero c)
+
+-- ---- the parts of a sheet
+
+-- two forms that read alike
+module _ {A : Type 0} (c h : Form A) (by : (s : List ℕ) → h .read s ≡ c .read s) (s : List ℕ) where
+  reads-alike : (a : ℕ) (r : End) → Reads c s a r → Reads h s a r
+  reads-alike a (At e) p = record { value-read = p .value-read; reads = by (drop a s) ∙ p .reads; from = p .from; within = p .within }
+  reads-alike a EndsEarly p = by (drop a s) ∙ p
+  reads-alike a TooWide p = by (drop a s) ∙ p
+
+  onward-alike : (x y : End) → Onward c s x y → Onward h s x y
+  onward-alike (At a) y p = λ w. reads-alike a y (p w)
+  onward-alike EndsEarly y p = p
+  onward-alike TooWide y p = p
+
+  follows-alike : {x y : End} → Follows c s x y → Follows h s x y
+  follows-alike {x} {y} p = record { onward = onward-alike x y (p .onward) }
+
+module _ {s : List ℕ} where
+  -- two fields, the greatest values of which are 2 ^ v - 1 and 2 ^ w - 1
+  two-kept : (v w : ℕ) {x y : End} → Follows (each below (2 ^ v ∷ 2 ^ w ∷ [])) s x y → Follows (sheetFields (kept v ∷ kept w ∷ [])) s x y
+  unfolding eachRead
+  two-kept v w p = follows-alike (each below (2 ^ v ∷ 2 ^ w ∷ [])) (sheetFields (kept v ∷ kept w ∷ [])) (λ s. refl) s p
+
+  -- a reserved field before them
+  three-fields : (u v w : ℕ) {x y : End} → Follows (each below (2 ^ v ∷ 2 ^ w ∷ [])) s x y → Follows (sheetFields (reserved u ∷ kept v ∷ kept w ∷ [])) s x y
+  three-fields u v w p = follows-cons sheetField (reserved u) (kept v ∷ kept w ∷ []) (follows-mute (2 ^ u - 1)) (two-kept v w p)
+
+  pub side-status : {b : Bool} {x y : End} → b ≡ true → Follows (each below (8 ∷ 2 ∷ [])) s x y → Follows (sheetFields (sideBy b)) s x y
+  side-status {x = x} {y} e p = subst (λ b. Follows (sheetFields (sideBy b)) s x y) (sym e) (two-kept 3 1 p)
+
+  side-reserved : {x : End} → Follows (sheetFields bare) s x x
+  side-reserved = follows-one sheetField (reserved 4) (follows-mute 15)
+
+  pub side-bare : {b : Bool} {x : End} → b ≡ false → Follows (sheetFields (sideBy b)) s x x
+  side-bare {x = x} e = subst (λ b. Follows (sheetFields (sideBy b)) s x x) (sym e) side-reserved
+
+  items-alone : {n : ℕ} {x y : End} → Follows (raw n) s x y → Follows (each sheetItem (plain n ∷ [])) s x y
+  items-alone {n} p = follows-one sheetItem (plain n) p
+
+  pub items-plain : {b : Bool} {n : ℕ} {x y : End} → b ≡ false → Follows (raw n) s x y → Follows (each sheetItem (entryBy n b)) s x y
+  items-plain {n = n} {x} {y} e p = subst (λ b. Follows (each sheetItem (entryBy n b)) s x y) (sym e) (items-alone p)
+
+  pub items-flagged : {b : Bool} {n : ℕ} {x y z : End} → b ≡ true → Follows (raw n) s x y → Follows (each below (2 ∷ 2 ∷ [])) s y z → Follows (each sheetItem (entryBy n b)) s x z
+  items-flagged {n = n} {x} {z = z} e p q =
+      subst (λ b. Follows (each sheetItem (entryBy n b)) s x z) (sym e)
+      (follows-cons sheetItem (plain n) (flags ∷ []) p (follows-one sheetItem flags (three-fields 6 1 1 q)))
+
+  pub top-there : {n : ℕ} {x y : End} → n ≡ 1 → Follows (counted descriptor) s x y → Follows (topBy n) s x y
+  top-there {x = x} {y} e p = subst (λ n. Follows (topBy n) s x y) (sym e) (follows-then side-reserved p)
+
+  pub top-none : {n : ℕ} {x : End} → (n ≡ 1 → ⊥) → Follows (topBy n) s x x
+  top-none {n} {x} h = subst (λ b. Follows (if b then sheetLoop bare else mute ([], [])) s x x) (sym (ne-eqb n 1 h)) (follows-mute ([], []))
+
+  pub head-common : {x y z v : End} → Follows (raw 2) s x y → Follows (each below (32 ∷ 2 ∷ [])) s y z → Follows (sheetItem numbers) s z v → Common s x v
+  head-common p q r more e h =
+      follows-cons sheetItem (plain 2) (version ∷ numbers ∷ more) p
+      (follows-cons sheetItem version (numbers ∷ more) (three-fields 2 5 1 q) (follows-cons sheetItem numbers more r h))
+
+-- ---- by the row
+
+heads-alone : (row : ℕ) → row < 4 → (row ≡ 1 → ⊥) → (row ≡ 3 → ⊥) → headOf row ≡ common []
+unfolding headOf
+heads-alone zero h f g = refl
+heads-alone (suc zero) h f g = absurd (f refl)
+heads-alone (suc (suc zero)) h f g = refl
+heads-alone (suc (suc (suc zero))) h f g = absurd (g refl)
+heads-alone (suc (suc (suc (suc n)))) h f g = absurd (omega arith)
+
+heads-time : (row : ℕ) → 4 ≤ row → row < 6 → headOf row ≡ plain 5 ∷ []
+unfolding headOf
+heads-time zero h f = absurd (omega arith)
+heads-time (suc zero) h f = absurd (omega arith)
+heads-time (suc (suc zero)) h f = absurd (omega arith)
+heads-time (suc (suc (suc zero))) h f = absurd (omega arith)
+heads-time (suc (suc (suc (suc zero)))) h f = refl
+heads-time (suc (suc (suc (suc (suc zero))))) h f = refl
+heads-time (suc (suc (suc (suc (suc (suc n)))))) h f = absurd (omega arith)
+
+module _ (row : ℕ) {s : List ℕ} where
+  heads-are : {xs : List Item} {x y : End} → headOf row ≡ xs → Follows (each sheetItem xs) s x y → Follows (each sheetItem (headOf row)) s x y
+  heads-are {x = x} {y} e p = subst (λ l. Follows (each sheetItem l) s x y) (sym e) p
+
+  pub head-time : {x y : End} → 4 ≤ row → row < 6 → Follows (raw 5) s x y → Follows (each sheetItem (headOf row)) s x y
+  head-time h f p = heads-are (heads-time row h f) (items-alone p)
+
+  pub head-alone : {x y : End} → row < 4 → (row ≡ 1 → ⊥) → (row ≡ 3 → ⊥) → Common s x y → Follows (each sheetItem (headOf row)) s x y
+  head-alone {x} {y} h f g p = heads-are (heads-alone row h f g) (p [] y (follows-nil sheetItem))
+
+  pub head-service : {x y z : End} → row ≡ 1 → Common s x y → Follows (raw 2) s y z → Follows (each sheetItem (headOf row)) s x z
+  unfolding headOf
+  head-service {x} {y} {z} e p q =
+      heads-are (ap headOf e) (p (plain 2 ∷ filler ∷ []) z
+      (follows-cons sheetItem (plain 2) (filler ∷ []) q (follows-one sheetItem filler (follows-one sheetField (reserved 8) (follows-mute 255)))))
+
+  pub head-event : {x y z : End} → row ≡ 3 → Common s x y → Follows (raw 6) s y z → Follows (each sheetItem (headOf row)) s x z
+  unfolding headOf
+  head-event {x} {y} {z} e p q = heads-are (ap headOf e) (p (plain 6 ∷ []) z (items-alone q))
+
+  -- ---- entries
+
+  entries-are : {x y : End} (c : Form Entries) → _≡_ {A = Form Entries} (sheetEntries row) c → Follows c s x y → Follows (sheetEntries row) s x y
+  entries-are {x} {y} c e p = subst (λ d. Follows d s x y) (sym e) p
+
+  pub entries-none : {x : End} → 4 ≤ row → Follows (sheetEntries row) s x x
+  unfolding sheetEntries cell
+  entries-none h = entries-are (mute ([], [])) (go row h) (follows-mute ([], []))
+    where
+      go : (row : ℕ) → 4 ≤ row → _≡_ {A = Form Entries} (sheetEntries row) (mute ([], []))
+      go zero h = absurd (omega arith)
+      go (suc zero) h = absurd (omega arith)
+      go (suc (suc zero)) h = absurd (omega arith)
+      go (suc (suc (suc zero))) h = absurd (omega arith)
+      go (suc (suc (suc (suc zero)))) h = refl
+      go (suc (suc (suc (suc (suc zero))))) h = refl
+      go (suc (suc (suc (suc (suc (suc n)))))) h = refl
+
+  pub entries-service : {x y : End} → row ≡ 1 → Follows (counted (entryWith 2 true true)) s x y → Follows (sheetEntries row) s x y
+  unfolding sheetEntries cell entryOf sideOf
+  entries-service e p = entries-are (sheetFields [] then counted (entryWith 2 true true)) (ap sheetEntries e) (follows-then (follows-nil sheetField) p)
+
+  pub entries-event : {x y : End} → row ≡ 3 → Follows (counted (entryWith 10 false true)) s x y → Follows (sheetEntries row) s x y
+  unfolding sheetEntries cell entryOf sideOf
+  entries-event e p = entries-are (sheetFields [] then counted (entryWith 10 false true)) (ap sheetEntries e) (follows-then (follows-nil sheetField) p)
+
+  pub entries-stream : {x y : End} → row < 4 → (row ≡ 1 → ⊥) → (row ≡ 3 → ⊥) → Follows (counted (entryWith 4 false false)) s x y → Follows (sheetEntries row) s x y
+  unfolding sheetEntries cell entryOf sideOf
+  entries-stream h f g p = entries-are (sheetFields bare then counted (entryWith 4 false false)) (go row h f g) (follows-then side-reserved p)
+    where
+      go : (row : ℕ) → row < 4 → (row ≡ 1 → ⊥) → (row ≡ 3 → ⊥) → _≡_ {A = Form Entries} (sheetEntries row) (sheetFields bare then counted (entryWith 4 false false))
+      go zero h f g = refl
+      go (suc zero) h f g = absurd (f refl)
+      go (suc (suc zero)) h f g = refl
+      go (suc (suc (suc zero))) h f g = absurd (g refl)
+      go (suc (suc (suc (suc n)))) h f g = absurd (omega arith)
+
+  pub top-of : {n : ℕ} {x y : End} → n ≡ rowAt row .top → Follows (topBy n) s x y → Follows (sheetTop row) s x y
+  unfolding sheetTop
+  top-of {x = x} {y} e p = subst (λ n. Follows (topBy n) s x y) e p
+
+-- the bits before section_length stand in no sheet
+pub frame-none : {s : List ℕ} {x : End} → Follows (sheetFields frame) s x x
+frame-none = follows-cons sheetField (reserved 1) (reserved 2 ∷ []) (follows-mute 1) (follows-one sheetField (reserved 2) (follows-mute 3))
