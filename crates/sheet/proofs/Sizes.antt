@@ -1,6 +1,6 @@
 -- How long the section of a sheet is: section_length from the sheet's length and the number of its entries.
 use Prim.Native.Nat.{ℕ, zero, suc, _+_, _*_, _/_, _%_, _^_, _<_, _≤_}
-use mathlib.Core.Path.{_≡_, refl, sym, ap, _∙_, subst}
+use mathlib.Core.Path.{_≡_, refl, sym, ap, ap₂, _∙_, subst}
 use mathlib.Core.Bool.{Bool, true, false}
 use mathlib.Core.List.{List, [], _∷_, _++_}
 use native.Mathlib.Omega.{arith}
@@ -15,6 +15,7 @@ use Rattle.forms.specs.Fields.{Field, kept, reserved, sheetField, sheetFields, 
 use Rattle.forms.specs.Lists.{all, All, none, one, countedShow, counted, loopShow, loop, filling}
 use Rattle.sheet.specs.Content.{Item, plain, numbers, packed, bare, status, frame, headOf, entryOf, sideOf, Fields, Descriptor, Loop, Entry, Entries, Body, Content, tableOf, frameOf, bodyOf, rowIn}
 use Rattle.sheet.specs.Sheet.{sheetItem, descriptor, sheetLoop, sheetEntry, sheetTop, sheetEntries, behindId, sheetOf, SheetOk}
+use Rattle.sheet.specs.Reads.{cut, gain, countAt, spare}
 use Rattle.sheet.specs.Section.{sectionItem, sectionLoop, sectionEntry, sectionTop, sectionEntries, sectionBody, bodyBytes, sectionLength}
 
 -- ---- fields and items
@@ -191,14 +192,6 @@ module _ (row : ℕ) (b : List ℕ × Body) (o : behindId row .Ok b) where
 abbrev pub entriesIn : List ℕ × Body → ℕ
 entriesIn b = length (b .1 .1 .1 .1)
 
--- in each entry the sheet has so many bytes more than the section
-unfoldable pub cut : ℕ → ℕ
-cut row = getD (0 ∷ 3 ∷ 0 ∷ 2 ∷ 0 ∷ 0 ∷ []) row 0
-
--- by so many bytes less one section_length passes the length of a sheet without entries
-unfoldable pub gain : ℕ → ℕ
-gain row = getD (3 ∷ 2 ∷ 3 ∷ 1 ∷ 0 ∷ 4 ∷ []) row 0
-
 Sized : ℕ → List ℕ × Body → Type 0
 Sized row b = length (sectionBody row 0 .show (b .1)) + 4 * rowAt row .crc + cut row * entriesIn b ≡ length (behindId row .show b) + gain row
 
@@ -224,3 +217,44 @@ size-of (suc (suc (suc (suc (suc (suc n)))))) b h o = absurd (omega arith)
 pub section-size : (c : Content) → SheetOk c → sectionLength c + cut (rowIn c) * entriesIn (c .1) + 1 ≡ length (sheetOf c) + gain (rowIn c)
 unfolding SheetOk sheetOf sectionLength Sized
 section-size c o = let e = size-of (rowIn c) (c .1) (o .0) (o .1) in omega arith
+
+-- ---- the number of the entries, where a table has no top loop
+
+nothing : (l : List ℕ) → length l ≡ 0 → l ≡ []
+nothing [] e = refl
+nothing (x ∷ l) e = absurd (omega arith)
+
+after-head : (id : ℕ) (h rest : List ℕ) (k i j : ℕ) → length h ≡ k → numberAt 2 (id ∷ (h ++ (i ∷ j ∷ rest))) (k + 1) ≡ i * 256 + j
+unfolding numberAt
+after-head id h rest k i j e =
+    let a : length (id ∷ h) + 0 ≡ k + 1 = omega arith in
+    let b : length (id ∷ h) + 1 ≡ k + 1 + 1 = omega arith in
+    let x : getD (id ∷ (h ++ (i ∷ j ∷ rest))) (k + 1) 0 ≡ i = ap (λ n. getD (id ∷ (h ++ (i ∷ j ∷ rest))) n 0) (sym a) ∙ getD-append-add (id ∷ h) (i ∷ j ∷ rest) 0 0 in
+    let y : getD (id ∷ (h ++ (i ∷ j ∷ rest))) (k + 1 + 1) 0 ≡ j = ap (λ n. getD (id ∷ (h ++ (i ∷ j ∷ rest))) n 0) (sym b) ∙ getD-append-add (id ∷ h) (i ∷ j ∷ rest) 1 0 in
+    ap₂ (λ (m n : ℕ). m * 256 + n) x y
+
+-- what stands between the head and the entries shows no byte
+count-behind : (id k : ℕ) (f h : List ℕ) {A : Type 0} (c : Form A) (l : List A) → length f ≡ 0 → length h ≡ k → numberAt 2 (id ∷ (f ++ (h ++ counted c .show l))) (k + 1) ≡ length l
+unfolding countedShow
+count-behind id k f h c l e g =
+    let n : ℕ = length l in
+    ap (λ x. numberAt 2 (id ∷ (x ++ (h ++ counted c .show l))) (k + 1)) (nothing f e) ∙ after-head id h (all c l) k (n / 256) (n % 256) g ∙ omega arith
+
+entries-cut : (row id : ℕ) (b : List ℕ × Body) → row < 6 → behindId row .Ok b → cut row * numberAt 2 (id ∷ behindId row .show b) (countAt row) ≡ cut row * entriesIn b
+unfolding cut countAt cell headOf total fieldsSize sheetTop sheetEntries eachShow
+entries-cut zero id b h o = omega arith
+entries-cut (suc zero) id b h o =
+    ap (λ n. 3 * n) (count-behind id 8 (sheetFields frame .show (b .0)) (each sheetItem (headOf 1) .show (b .1 .0)) (sheetEntry 1) (b .1 .1 .1 .1)
+    (fields-size frame (b .0) (o .0)) (sheet-items (headOf 1) (b .1 .0) (o .1 .0)))
+entries-cut (suc (suc zero)) id b h o = omega arith
+entries-cut (suc (suc (suc zero))) id b h o =
+    ap (λ n. 2 * n) (count-behind id 12 (sheetFields frame .show (b .0)) (each sheetItem (headOf 3) .show (b .1 .0)) (sheetEntry 3) (b .1 .1 .1 .1)
+    (fields-size frame (b .0) (o .0)) (sheet-items (headOf 3) (b .1 .0) (o .1 .0)))
+entries-cut (suc (suc (suc (suc zero)))) id b h o = omega arith
+entries-cut (suc (suc (suc (suc (suc zero))))) id b h o = omega arith
+entries-cut (suc (suc (suc (suc (suc (suc n)))))) id b h o = absurd (omega arith)
+
+-- section_length, from the sheet's bytes
+pub section-spare : (c : Content) → SheetOk c → sectionLength c + spare (rowIn c) (sheetOf c) ≡ length (sheetOf c) + gain (rowIn c)
+unfolding SheetOk sheetOf spare
+section-spare c o = let e = section-size c o in let f = entries-cut (rowIn c) (tableOf c) (c .1) (o .0) (o .1) in omega arith
