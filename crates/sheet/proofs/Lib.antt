@@ -1,3 +1,4 @@
 pub mod SheetLaws
 pub mod ReadLaws
 pub mod Sizes
+pub mod JudgeLaws

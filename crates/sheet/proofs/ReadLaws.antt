@@ -399,3 +399,7 @@ module _ (row : ℕ) {s : List ℕ} where
 -- the bits before section_length stand in no sheet
 pub frame-none : {s : List ℕ} {x : End} → Follows (sheetFields frame) s x x
 frame-none = follows-cons sheetField (reserved 1) (reserved 2 ∷ []) (follows-mute 1) (follows-one sheetField (reserved 2) (follows-mute 3))
+
+-- a reading from a place, by its answer
+pub seen : {A : Type 0} {c : Form A} {s : List ℕ} {at : ℕ} {x y : End} → x ≡ y → Follows c s (At at) x → at ≤ length s → Reads c s at y
+seen {c = c} {s} {at} e h w = subst (Reads c s at) e (h .onward w)

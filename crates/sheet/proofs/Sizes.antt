@@ -258,3 +258,37 @@ entries-cut (suc (suc (suc (suc (suc (suc n)))))) id b h o = absurd (omega arith
 pub section-spare : (c : Content) → SheetOk c → sectionLength c + spare (rowIn c) (sheetOf c) ≡ length (sheetOf c) + gain (rowIn c)
 unfolding SheetOk sheetOf spare
 section-spare c o = let e = section-size c o in let f = entries-cut (rowIn c) (tableOf c) (c .1) (o .0) (o .1) in omega arith
+
+-- ---- row by row
+
+pub gain-none : (row : ℕ) → 4 ≤ row → (row ≡ 5 → ⊥) → gain row ≡ 0
+unfolding gain
+gain-none zero h g = absurd (omega arith)
+gain-none (suc zero) h g = absurd (omega arith)
+gain-none (suc (suc zero)) h g = absurd (omega arith)
+gain-none (suc (suc (suc zero))) h g = absurd (omega arith)
+gain-none (suc (suc (suc (suc zero)))) h g = refl
+gain-none (suc (suc (suc (suc (suc zero))))) h g = absurd (g refl)
+gain-none (suc (suc (suc (suc (suc (suc n)))))) h g = refl
+
+pub gain-loops : (row : ℕ) → row < 4 → (row ≡ 1 → ⊥) → (row ≡ 3 → ⊥) → gain row ≡ 3
+unfolding gain
+gain-loops zero h f g = refl
+gain-loops (suc zero) h f g = absurd (f refl)
+gain-loops (suc (suc zero)) h f g = refl
+gain-loops (suc (suc (suc zero))) h f g = absurd (g refl)
+gain-loops (suc (suc (suc (suc n)))) h f g = absurd (omega arith)
+
+cut-none : (row : ℕ) → (row ≡ 1 → ⊥) → (row ≡ 3 → ⊥) → cut row ≡ 0
+unfolding cut
+cut-none zero f g = refl
+cut-none (suc zero) f g = absurd (f refl)
+cut-none (suc (suc zero)) f g = refl
+cut-none (suc (suc (suc zero))) f g = absurd (g refl)
+cut-none (suc (suc (suc (suc zero)))) f g = refl
+cut-none (suc (suc (suc (suc (suc zero))))) f g = refl
+cut-none (suc (suc (suc (suc (suc (suc n)))))) f g = refl
+
+pub spare-one : (row : ℕ) (s : List ℕ) → (row ≡ 1 → ⊥) → (row ≡ 3 → ⊥) → spare row s ≡ 1
+unfolding spare
+spare-one row s f g = rw (cut-none row f g) (omega arith)

@@ -137,7 +137,7 @@ fn section_numbers(s: &[u8], from: End) -> End
     }
 }
 
-fn descriptors(s: &[u8], from: End) -> End
+pub fn descriptors(s: &[u8], from: End) -> End
     ensures { λ r. ⌜ Follows (counted descriptor) (now (s .entry)) from r ⌝ }
 {
     match from {
@@ -278,7 +278,7 @@ fn entries_of(s: &[u8], from: End, row: usize) -> End
 }
 
 // All behind the table_id; `top` is the row's column for a top loop.
-fn behind_id(s: &[u8], from: End, row: usize, top: usize) -> End
+pub fn behind_id(s: &[u8], from: End, row: usize, top: usize) -> End
     requires { ⌜ (row < 6) × (top ≡ rowAt row .top) ⌝ }
     ensures { λ r. ⌜ Follows (behindId row) (now (s .entry)) from r ⌝ }
 {
