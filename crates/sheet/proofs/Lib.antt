@@ -2,3 +2,4 @@ pub mod SheetLaws
 pub mod ReadLaws
 pub mod Sizes
 pub mod JudgeLaws
+pub mod Once
