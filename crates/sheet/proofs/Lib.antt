@@ -1,1 +1,5 @@
 pub mod SheetLaws
+pub mod ReadLaws
+pub mod Sizes
+pub mod JudgeLaws
+pub mod Once

@@ -1,5 +1,11 @@
 // Content sheets: whether bytes are one.
 ghost use mathlib.Core.Path.{_≡_};
+ghost use Rattle.forms.specs.Lists.{counted};
+ghost use Rattle.sheet.specs.Sheet.{descriptor};
+ghost use Rattle.sheet.specs.Reads.{told, judgedSheet, judgedLength, Reads, Known};
+
+mod read;
+mod size;
 
 // What is said of a sheet.
 pub enum Judged {
@@ -22,4 +28,56 @@ pub enum End {
     At(usize),
     EndsEarly,
     TooWide,
+}
+
+// Where a list of descriptors ends that begins, with the number of its items, at a place of a sheet.
+pub fn descriptors_end(sheet: &[u8], at: usize) -> End
+    ensures { λ r. ⌜ Reads (counted descriptor) (now (sheet .entry)) at r ⌝ }
+{
+    if sheet.len() < at {
+        return End::EndsEarly;
+    }
+    read::descriptors(sheet, End::At(at))
+}
+
+fn judge_length(most: usize, n: usize) -> Judged
+    ensures { λ r. ⌜ told r ≡ judgedLength most n ⌝ }
+{
+    if most < n {
+        return Judged::Long;
+    }
+    Judged::Fits(n)
+}
+
+// A sheet whose table_id is in the table.
+fn judge_known(sheet: &[u8], row: usize) -> Judged
+    requires { ⌜ Known (now sheet) row ⌝ }
+    ensures { λ r. ⌜ told r ≡ judgedSheet (now (sheet .entry)) ⌝ }
+{
+    let table = tables::row_at(row);
+    let end = read::behind_id(sheet, End::At(1), row, table.top);
+    match end {
+        End::At(e) => {
+            if e < sheet.len() {
+                return Judged::After;
+            }
+            judge_length(table.most, size::section_length(sheet, row))
+        }
+        End::EndsEarly => Judged::Early,
+        End::TooWide => Judged::Wide,
+    }
+}
+
+// "22 to 24 as read left to right, 25, 26"
+pub fn judge(sheet: &[u8]) -> Judged
+    ensures { λ r. ⌜ told r ≡ judgedSheet (now (sheet .entry)) ⌝ }
+{
+    if sheet.len() == 0 {
+        return Judged::Early;
+    }
+    let row = tables::row_of(sheet[0]);
+    if 6 <= row {
+        return Judged::Unknown;
+    }
+    judge_known(sheet, row)
 }

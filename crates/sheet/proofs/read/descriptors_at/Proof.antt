@@ -1,0 +1,40 @@
+-- `sheet::read::descriptors_at` meets its contract.
+use native.Mathlib.Omega.{arith}
+use Rattle.sheet.specs.Sheet.{descriptor}
+use Rattle.sheet.proofs.ReadLaws.{follows-counted, follows-early}
+use borrow.Author.Needs.{needs}
+use Rattle.sheet.proofs.read.descriptors_at.Statement.{statement}
+use Rattle.sheet.proofs.read.descriptors_at.Tie as tie
+
+less-requires : tie.Need-less-requires
+less-requires c κs = search needs
+
+returns : tie.Need-returns
+returns c = follows-early descriptor (c .before .before .before .args .s .now) (c .before .before .before .args .at) (omega (arith, c .before .less .ensures))
+
+number16-at-requires : tie.Need-number16-at-requires
+number16-at-requires c κs = search needs
+
+cast-count : tie.Need-cast-count
+cast-count c = search needs
+
+add-descriptors-times : tie.Need-add-descriptors-times
+add-descriptors-times c = search needs
+
+descriptors-times-requires : tie.Need-descriptors-times-requires
+descriptors-times-requires c κs = search needs
+
+returns-2 : tie.Need-returns-2
+returns-2 c = follows-counted descriptor (c .before .before .before .before .before .args .s .now) (c .before .before .before .before .before .args .at) (omega (arith, c .before .before .before .less .ensures)) (c .before .number16-at .ensures) (c .descriptors-times .ensures)
+
+pub descriptors-at-spec : {M : Type 1} → statement M
+descriptors-at-spec =
+    tie.close
+    (tie.spec
+    less-requires
+    returns
+    number16-at-requires
+    cast-count
+    add-descriptors-times
+    descriptors-times-requires
+    returns-2)
