@@ -10,3 +10,4 @@ pub mod HeadLaws
 pub mod CountLaws
 pub mod EntryLaws
 pub mod LoopLaws
+pub mod EntriesLaws

@@ -7,13 +7,14 @@ use lib.ListN.{length, getD}
 use Rattle.wire.specs.If.{if_then_else_}
 use Rattle.wire.specs.Parts.{Part}
 use Rattle.tables.specs.Tables.{rowAt}
-use Rattle.forms.specs.Form.{Form, _then_, each}
-use Rattle.forms.specs.Fields.{Field}
-use Rattle.forms.specs.Lists.{all, All, countedShow}
-use Rattle.forms.specs.Room.{put, sum}
+use Rattle.forms.specs.Form.{Form, mute, _then_, each}
+use Rattle.forms.specs.Fields.{Field, sheetFields, Fit}
+use Rattle.forms.specs.Lists.{all, All, countedShow, loopShow}
+use Rattle.forms.specs.Room.{put, sum, Done}
 use Rattle.sheet.specs.Content.{Item, version, flags, bare, status, headOf, entryOf, sideOf, Fields, Descriptor, Loop, Entry, Entries, Body}
-use Rattle.sheet.specs.Sheet.{descriptor, sheetItem, sheetLoop, sheetTop, sheetEntries}
-use Rattle.sheet.specs.Section.{sectionItem, sectionLoop, sectionEntry, sectionTop, sectionEntries}
+use Rattle.sheet.specs.Sheet.{descriptor, sheetItem, sheetLoop, sheetEntry}
+use Rattle.sheet.specs.Section.{sectionItem, sectionLoop, sectionEntry}
+use Rattle.forms.specs.declared.Place.{Place}
 
 -- a form for values of which more is known
 abbrev pub with : {A : Type 0} → Form A → (A → Type 0) → Form A
@@ -95,3 +96,35 @@ sideBack false x o to = o
 -- a number of two bytes, written
 abbrev pub putNumber : List ℕ → ℕ → ℕ → List ℕ
 putNumber o to n = put (put o to (n / 256 % 256 ∷ [])) (sum to 1) (n % 256 ∷ [])
+
+-- ---- top loop and entries
+
+abbrev pub topIf : Bool → Bool → Form Loop
+topIf b true = loopFrom b bare
+topIf b false = mute ([], [])
+
+-- entries in a section: after a length of their own, or up to the CRC_32
+abbrev pub entriesShown : Bool → ℕ → List ℕ → List Entry → List ℕ
+entriesShown true row vs es = loopShow (sectionEntry row) bare (vs, es)
+entriesShown false row vs es = all (sectionEntry row) es
+
+-- the fields beside that length
+abbrev pub BesideOk : Bool → List ℕ → Type 0
+BesideOk true vs = sheetFields bare .Ok vs
+BesideOk false vs = vs ≡ []
+
+-- entries that a sheet has at p's first place, and that take the room up to `end` from its second, are turned
+pub record EntriesForth (top : Bool) (row : ℕ) (s : List ℕ) (p : Place) (end : ℕ) (o : List ℕ) (q : Place) (o' : List ℕ) : Type 0 where
+  pub turned : (vs : List ℕ) (es : List Entry) → BesideOk top vs → All (entryFrom true row) es → length es < 65536
+      → Part s (p .at) (countedShow (sheetEntry row) es) → p .to + length (entriesShown top row vs es) ≡ end → end ≤ 4096 → end ≤ length o
+      → Done p (countedShow (sheetEntry row) es) (entriesShown top row vs es) o q o'
+
+abbrev pub BesideFit : Bool → List ℕ → Type 0
+BesideFit true vs = Fit bare vs
+BesideFit false vs = vs ≡ []
+
+-- entries that a section has at p's first place, up to `end` where they have no length of their own, are turned
+pub record EntriesBack (top : Bool) (row : ℕ) (s : List ℕ) (p : Place) (end : ℕ) (o : List ℕ) (q : Place) (o' : List ℕ) : Type 0 where
+  pub turned : (vs : List ℕ) (es : List Entry) → BesideFit top vs → All (sectionEntry row) es → length (all (sectionEntry row) es) < 4096
+      → Part s (p .at) (entriesShown top row vs es) → p .at + length (entriesShown top row vs es) ≡ end
+      → p .to + length (countedShow (sheetEntry row) es) ≤ length o → Done p (entriesShown top row vs es) (countedShow (sheetEntry row) es) o q o'

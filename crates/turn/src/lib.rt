@@ -1,5 +1,6 @@
 // Sheets into sections and back.
 mod counts;
+mod descriptors;
+mod entries;
 mod heads;
-mod loops_of;
 mod pieces;

@@ -1,12 +1,12 @@
--- `turn::loops_of::loop_forth` meets its contract.
+-- `turn::descriptors::loop_forth` meets its contract.
 use native.Mathlib.Omega.{arith}
 use mathlib.Core.Path.{ap, _∙_}
 use Rattle.forms.specs.Room.{sum}
 use Rattle.turn.specs.Ways.{putNumber}
 use Rattle.turn.proofs.LoopLaws.{side-small, turned-loop-forth}
 use borrow.Author.Needs.{needs}
-use Rattle.turn.proofs.loops_of.loop_forth.Statement.{statement}
-use Rattle.turn.proofs.loops_of.loop_forth.Tie as tie
+use Rattle.turn.proofs.descriptors.loop_forth.Statement.{statement}
+use Rattle.turn.proofs.descriptors.loop_forth.Tie as tie
 
 side-size-requires : tie.Need-side-size-requires
 side-size-requires c κs = search needs

@@ -1,9 +1,9 @@
--- `turn::loops_of::descriptors` meets its contract.
+-- `turn::descriptors::turn_loop` meets its contract.
 use Rattle.turn.specs.Ways.{loopFrom, sideIf}
 use Rattle.turn.proofs.PieceLaws.{forth, back}
 use borrow.Author.Needs.{needs}
-use Rattle.turn.proofs.loops_of.descriptors.Statement.{statement}
-use Rattle.turn.proofs.loops_of.descriptors.Tie as tie
+use Rattle.turn.proofs.descriptors.turn_loop.Statement.{statement}
+use Rattle.turn.proofs.descriptors.turn_loop.Tie as tie
 
 loop-forth-requires : tie.Need-loop-forth-requires
 loop-forth-requires c κs = search needs
@@ -23,7 +23,7 @@ same-length-2 c = search needs
 returns-2 : tie.Need-returns-2
 returns-2 c = back (λ b. loopFrom b (sideIf (c .before .before .before .before .before .before .before .args .status))) (c .before .before .before .before .before .before .before .args .forth) (c .before .before .before .before .if1 .left) (c .before .before .loop-back .ensures)
 
-pub descriptors-spec : {M : Type 1} → statement M
-descriptors-spec =
+pub turn-loop-spec : {M : Type 1} → statement M
+turn-loop-spec =
     tie.close
     (tie.spec loop-forth-requires same-length returns loop-back-requires same-length-2 returns-2)

@@ -1,9 +1,9 @@
--- `turn::loops_of::side_back` meets its contract.
+-- `turn::descriptors::side_back` meets its contract.
 use mathlib.Core.Path.{sym, ap, _∙_}
 use Rattle.turn.specs.Ways.{sideBack}
 use borrow.Author.Needs.{needs}
-use Rattle.turn.proofs.loops_of.side_back.Statement.{statement}
-use Rattle.turn.proofs.loops_of.side_back.Tie as tie
+use Rattle.turn.proofs.descriptors.side_back.Statement.{statement}
+use Rattle.turn.proofs.descriptors.side_back.Tie as tie
 
 put-byte-requires : tie.Need-put-byte-requires
 put-byte-requires c κs = search needs

@@ -1,7 +1,7 @@
--- `turn::loops_of::put_number` meets its contract.
+-- `turn::descriptors::put_number` meets its contract.
 use borrow.Author.Needs.{needs}
-use Rattle.turn.proofs.loops_of.put_number.Statement.{statement}
-use Rattle.turn.proofs.loops_of.put_number.Tie as tie
+use Rattle.turn.proofs.descriptors.put_number.Statement.{statement}
+use Rattle.turn.proofs.descriptors.put_number.Tie as tie
 
 cast-put-byte : tie.Need-cast-put-byte
 cast-put-byte c = search needs

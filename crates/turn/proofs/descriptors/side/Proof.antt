@@ -1,9 +1,9 @@
--- `turn::loops_of::side` meets its contract.
+-- `turn::descriptors::side` meets its contract.
 use mathlib.Core.Path.{sym, ap, _∙_}
 use Rattle.turn.specs.Ways.{sideAt}
 use borrow.Author.Needs.{needs}
-use Rattle.turn.proofs.loops_of.side.Statement.{statement}
-use Rattle.turn.proofs.loops_of.side.Tie as tie
+use Rattle.turn.proofs.descriptors.side.Statement.{statement}
+use Rattle.turn.proofs.descriptors.side.Tie as tie
 
 byte-at-requires : tie.Need-byte-at-requires
 byte-at-requires c κs = search needs

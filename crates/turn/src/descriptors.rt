@@ -75,7 +75,7 @@ fn loop_back(status: bool, s: &[u8], p: Place, room: &mut [u8]) -> Place
     }
 }
 
-pub fn descriptors(forth: bool, status: bool, s: &[u8], p: Place, room: &mut [u8]) -> Place
+pub fn turn_loop(forth: bool, status: bool, s: &[u8], p: Place, room: &mut [u8]) -> Place
     ensures { λ r. ⌜ Turned (loopFrom forth (sideIf status)) (loopTo forth (sideIf status)) (now (s .entry)) p (now (room .entry)) r (now (room .exit)) ⌝ }
 {
     if forth {

@@ -1,12 +1,12 @@
--- `turn::loops_of::loop_back` meets its contract.
+-- `turn::descriptors::loop_back` meets its contract.
 use mathlib.Core.Path.{ap, _∙_, subst}
 use lib.ListN.{take, drop}
 use Rattle.sheet.specs.Sheet.{descriptor}
 use Rattle.turn.specs.Ways.{NumberIn}
 use Rattle.turn.proofs.LoopLaws.{turned-loop-back}
 use borrow.Author.Needs.{needs}
-use Rattle.turn.proofs.loops_of.loop_back.Statement.{statement}
-use Rattle.turn.proofs.loops_of.loop_back.Tie as tie
+use Rattle.turn.proofs.descriptors.loop_back.Statement.{statement}
+use Rattle.turn.proofs.descriptors.loop_back.Tie as tie
 
 past-requires : tie.Need-past-requires
 past-requires c κs = search needs
