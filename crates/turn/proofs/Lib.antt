@@ -11,3 +11,4 @@ pub mod CountLaws
 pub mod EntryLaws
 pub mod LoopLaws
 pub mod EntriesLaws
+pub mod BodyLaws

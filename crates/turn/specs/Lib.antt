@@ -2,3 +2,4 @@
 pub mod Turn
 pub mod Ones
 pub mod Ways
+pub mod Bodies

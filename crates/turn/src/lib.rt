@@ -1,4 +1,5 @@
 // Sheets into sections and back.
+mod bodies;
 mod counts;
 mod descriptors;
 mod entries;

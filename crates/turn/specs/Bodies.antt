@@ -1,0 +1,36 @@
+-- What the functions that turn whole tables promise each other.
+use Prim.Native.Nat.{ℕ, _+_, _≤_, _<_}
+use mathlib.Core.Path.{_≡_}
+use mathlib.Core.List.{List}
+use lib.ListN.{length}
+use Rattle.wire.specs.Parts.{Part}
+use Rattle.wire.specs.Reading.{value}
+use Rattle.verdict.specs.Verdict.{accepted}
+use Rattle.section.specs.Reading.{judged}
+use Rattle.forms.specs.Room.{put, Done}
+use Rattle.sheet.specs.Content.{Body, Content, rowIn}
+use Rattle.sheet.specs.Sheet.{sheetBody, sheetOf}
+use Rattle.sheet.specs.Section.{sectionEntries, sectionBody, sectionLength, sectionOf, contentOf, readSheet}
+use Rattle.forms.specs.declared.Place.{Place}
+
+-- a section can hold it
+abbrev pub SectionOk : ℕ → Body → Type 0
+SectionOk row b = sectionBody row (length (sectionEntries row 0 .show (b .1 .1))) .Ok b
+
+-- what a sheet has at p's first place, and what takes the room up to `end` from its second, is turned
+pub record BodyForth (row : ℕ) (s : List ℕ) (p : Place) (end : ℕ) (o : List ℕ) (q : Place) (o' : List ℕ) : Type 0 where
+  pub turned : (b : Body) → sheetBody row .Ok b → SectionOk row b → Part s (p .at) (sheetBody row .show b) → p .to + length (sectionBody row 0 .show b) ≡ end
+      → end ≤ 4096 → end ≤ length o → Done p (sheetBody row .show b) (sectionBody row 0 .show b) o q o'
+
+-- what a section has at p's first place, up to `end`, is turned
+pub record BodyBack (row : ℕ) (s : List ℕ) (p : Place) (end : ℕ) (o : List ℕ) (q : Place) (o' : List ℕ) : Type 0 where
+  pub turned : (b : Body) → SectionOk row b → Part s (p .at) (sectionBody row 0 .show b) → p .at + length (sectionBody row 0 .show b) ≡ end → end ≤ 4096 → 0 < p .at
+      → p .to + length (sheetBody row .show b) ≤ length o → Done p (sectionBody row 0 .show b) (sheetBody row .show b) o q o'
+
+-- a section is made of a sheet's content, at the room's start
+pub record SectionWritten (s : List ℕ) (n row : ℕ) (o o' : List ℕ) : Type 0 where
+  pub written : (c : Content) → readSheet s ≡ value c → n ≡ sectionLength c → row ≡ rowIn c → 4096 ≤ length o → o' ≡ put o 0 (sectionOf c)
+
+-- a sheet is made of a section's content, at the room's start; r is its length
+pub record SheetWritten (s : List ℕ) (row : ℕ) (o : List ℕ) (r : ℕ) (o' : List ℕ) : Type 0 where
+  pub written : (c : Content) → judged s ≡ accepted → contentOf s ≡ value c → row ≡ rowIn c → 5120 ≤ length o → (o' ≡ put o 0 (sheetOf c)) × (r ≡ length (sheetOf c))
