@@ -44,7 +44,9 @@ fn section_numbers_at(s: &[u8], at: usize) -> End
     if wire::less(s.len(), at) < 2 {
         return End::EndsEarly;
     }
-    if s[at + 1] < s[at] {
+    let first = s[at];
+    let last = s[at + 1];
+    if last < first {
         return End::TooWide;
     }
     End::At(at + 2)
@@ -69,8 +71,8 @@ fn descriptors_times(s: &[u8], at: usize, count: usize) -> End
     ensures { λ r. ⌜ Follows (times descriptor count) (now (s .entry)) (At at) r ⌝ }
 {
     let mut p = at;
-    let mut k = count;
-    while 0 < k {
+    let mut left = count;
+    while 0 < left {
         let end = descriptor_at(s, p);
         match end {
             End::At(e) => {
@@ -83,7 +85,7 @@ fn descriptors_times(s: &[u8], at: usize, count: usize) -> End
                 return End::TooWide;
             }
         }
-        k -= 1;
+        left -= 1;
     }
     End::At(p)
 }
