@@ -2,13 +2,13 @@
 ghost use mathlib.Core.Path.{_≡_};
 ghost use mathlib.Core.List.{[], _∷_};
 ghost use Prim.Native.Nat.{_<_};
-ghost use Rattle.forms.specs.Form.{raw, _then_, each};
+ghost use Rattle.forms.specs.Form.{raw, each};
 ghost use Rattle.forms.specs.Fields.{below, sheetFields};
 ghost use Rattle.forms.specs.Lists.{times, counted};
 ghost use Rattle.tables.specs.Tables.{rowAt};
-ghost use Rattle.sheet.specs.Content.{Item, headOf};
+ghost use Rattle.sheet.specs.Content.{headOf};
 ghost use Rattle.sheet.specs.Content.Item.{numbers};
-ghost use Rattle.sheet.specs.Sheet.{sheetItem, descriptor, sheetLoop, sheetEntries, behindId};
+ghost use Rattle.sheet.specs.Sheet.{sheetItem, descriptor, sheetEntries, behindId};
 ghost use Rattle.sheet.specs.Reads.{Follows, Common, entryBy, sideBy, entryWith, topBy};
 ghost use Rattle.sheet.specs.declared.End.the-variants.{At};
 use crate::End;

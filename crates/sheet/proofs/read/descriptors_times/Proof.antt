@@ -1,7 +1,6 @@
 -- `sheet::read::descriptors_times` meets its contract: as the k items from the place p on are read, so are all from the place `at` on.
 use borrow.Author.Needs.{needs}
 use native.Mathlib.Omega.{arith}
-use mathlib.Core.Path.{subst}
 use Rattle.forms.specs.Lists.{times}
 use Rattle.sheet.specs.Sheet.{descriptor}
 use Rattle.sheet.specs.Reads.{Follows}
