@@ -2,23 +2,23 @@
 use Prim.Native.Nat.{ℕ, zero, suc, _+_, _-_, _*_, _^_, _<_, _≤_}
 use mathlib.Core.Path.{_≡_, refl, sym, ap, _∙_, subst}
 use mathlib.Core.Bool.{Bool, true, false}
-use mathlib.Core.List.{List, [], _∷_, _++_, append-nil}
+use mathlib.Core.List.{List, [], _∷_, append-nil}
 use native.Mathlib.Omega.{arith}
 use native.Mathlib.Decide.{decLe}
 use borrow.Author.Tests.{lt-ltb, le-ltb, le-leb}
 use lib.ListN.{length, getD, drop, length-drop}
 use lib.Seq.{drop-length}
-use lib.Dec.{ltb, leb}
+use lib.Dec.{ltb}
 use Rattle.wire.specs.If.{if_then_else_}
 use Rattle.wire.specs.Number.{numberAt}
-use Rattle.wire.specs.Reading.{Reading, value, refused, _>>=_}
+use Rattle.wire.specs.Reading.{value, refused, _>>=_}
 use Rattle.tables.specs.Tables.{cell, rowOf, rowAt}
-use Rattle.forms.specs.Form.{Form, Bytes, rawRead, raw, suchRead, such}
+use Rattle.forms.specs.Form.{Bytes, rawRead, raw, suchRead}
 use Rattle.forms.specs.Room.{sum}
 use Rattle.forms.proofs.Lawful.{read-on}
 use Rattle.forms.proofs.Puts.{sum-fits, sum-past}
-use Rattle.sheet.specs.Content.{Body, Content, rowIn}
-use Rattle.sheet.specs.Sheet.{behindId, sheetRead, sheetOf, SheetOk, sheet}
+use Rattle.sheet.specs.Content.{Content}
+use Rattle.sheet.specs.Sheet.{behindId, sheetRead, sheetOf, sheet}
 use Rattle.sheet.specs.Section.{sectionLength, readSheet}
 use Rattle.sheet.specs.Reads.{judgedSheet, Ends, cut, gain, countAt, spare, lengthBy, judgedLength, Known}
 use Rattle.sheet.proofs.SheetLaws.{sheet-lawful}

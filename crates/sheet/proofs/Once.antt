@@ -1,5 +1,5 @@
 -- Each promise allows one answer.
-use Prim.Native.Nat.{ℕ, _≤_}
+use Prim.Native.Nat.{ℕ}
 use mathlib.Core.Path.{_≡_, refl, sym, ap, _∙_}
 use mathlib.Core.List.{List}
 use native.Mathlib.Omega.{arith}
@@ -8,7 +8,7 @@ use lib.ListN.{length, drop, length-drop}
 use Rattle.wire.specs.If.{if_then_else_}
 use Rattle.wire.specs.Reading.{Reading, value, refused, value-is, refused-is, never}
 use Rattle.forms.specs.Form.{Form}
-use Rattle.sheet.specs.Reads.{told, Ends, Reads}
+use Rattle.sheet.specs.Reads.{told, Reads}
 use Rattle.sheet.specs.declared.Judged.{Judged}
 use Rattle.sheet.specs.declared.Judged.the-variants.{Fits, Early, Unknown, Wide, After, Long}
 use Rattle.sheet.specs.declared.End.{End}

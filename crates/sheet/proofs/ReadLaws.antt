@@ -2,7 +2,7 @@
 use Prim.Native.Nat.{ℕ, zero, suc, _+_, _-_, _^_, _≤_, _<_}
 use mathlib.Core.Path.{_≡_, refl, sym, ap, ap₂, _∙_, subst}
 use mathlib.Core.Bool.{Bool, true, false}
-use mathlib.Core.List.{List, [], _∷_, _++_}
+use mathlib.Core.List.{List, [], _∷_}
 use native.Mathlib.Omega.{arith}
 use borrow.Author.Tests.{le-leb, lt-leb, lt-ltb, le-ltb, ne-eqb}
 use lib.ListN.{length, getD, take, drop, length-drop}
@@ -13,13 +13,13 @@ use Rattle.wire.specs.Number.{number, numberAt}
 use Rattle.wire.specs.Reading.{Reading, value, refused, _>>=_}
 use Rattle.wire.specs.Parts.{two-front}
 use Rattle.tables.specs.Tables.{cell, rowAt}
-use Rattle.forms.specs.Form.{Front, Form, mute, rawRead, raw, bothRead, _then_, suchRead, such, eachRead, each}
+use Rattle.forms.specs.Form.{Form, mute, rawRead, raw, bothRead, _then_, suchRead, such, eachRead, each}
 use Rattle.forms.specs.Fields.{kept, reserved, belowRead, below, sheetField, sheetFields}
 use Rattle.forms.specs.Lists.{timesRead, times, countedRead, counted}
 use Rattle.forms.proofs.Lawful.{read-on}
-use Rattle.sheet.specs.Content.{Item, plain, numbers, version, flags, filler, bare, status, frame, common, headOf, entryOf, sideOf, Entries}
+use Rattle.sheet.specs.Content.{Item, plain, numbers, version, flags, filler, bare, frame, common, headOf, entryOf, sideOf, Entries}
 use Rattle.sheet.specs.Sheet.{inOrder, sheetItem, descriptorRead, descriptor, sheetLoop, sheetTop, sheetEntries}
-use Rattle.sheet.specs.Reads.{Ends, Reads, Onward, Follows, Common, entryBy, sideBy, entryWith, topBy}
+use Rattle.sheet.specs.Reads.{Reads, Onward, Follows, Common, entryBy, sideBy, entryWith, topBy}
 use Rattle.sheet.specs.declared.End.{End}
 use Rattle.sheet.specs.declared.End.the-variants.{At, EndsEarly, TooWide}
 

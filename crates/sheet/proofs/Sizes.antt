@@ -1,22 +1,22 @@
 -- How long the section of a sheet is: section_length from the sheet's length and the number of its entries.
-use Prim.Native.Nat.{ℕ, zero, suc, _+_, _*_, _/_, _%_, _^_, _<_, _≤_}
-use mathlib.Core.Path.{_≡_, refl, sym, ap, ap₂, _∙_, subst}
+use Prim.Native.Nat.{ℕ, zero, suc, _+_, _*_, _/_, _%_, _<_, _≤_}
+use mathlib.Core.Path.{_≡_, refl, sym, ap, ap₂, _∙_}
 use mathlib.Core.Bool.{Bool, true, false}
 use mathlib.Core.List.{List, [], _∷_, _++_}
 use native.Mathlib.Omega.{arith}
-use lib.ListN.{length, getD, drop, length-append}
+use lib.ListN.{length, getD, length-append}
 use lib.Seq.{getD-append-add}
 use lib.Dec.{eqb}
 use Rattle.wire.specs.If.{if_then_else_}
 use Rattle.wire.specs.Number.{numberAt}
 use Rattle.tables.specs.Tables.{cell, rowAt}
-use Rattle.forms.specs.Form.{Form, mute, raw, _then_, such, eachShow, EachOk, each}
-use Rattle.forms.specs.Fields.{Field, kept, reserved, sheetField, sheetFields, byteOf}
+use Rattle.forms.specs.Form.{Form, mute, _then_, eachShow, EachOk, each}
+use Rattle.forms.specs.Fields.{Field, kept, reserved, sheetField, sheetFields}
 use Rattle.forms.specs.Lists.{all, All, none, one, countedShow, counted, loopShow, loop, filling}
-use Rattle.sheet.specs.Content.{Item, plain, numbers, packed, bare, status, frame, headOf, entryOf, sideOf, Fields, Descriptor, Loop, Entry, Entries, Body, Content, tableOf, frameOf, bodyOf, rowIn}
+use Rattle.sheet.specs.Content.{Item, plain, numbers, packed, bare, frame, headOf, entryOf, sideOf, Fields, Loop, Entry, Entries, Body, Content, tableOf, rowIn}
 use Rattle.sheet.specs.Sheet.{sheetItem, descriptor, sheetLoop, sheetEntry, sheetTop, sheetEntries, behindId, sheetOf, SheetOk}
 use Rattle.sheet.specs.Reads.{cut, gain, countAt, spare}
-use Rattle.sheet.specs.Section.{sectionItem, sectionLoop, sectionEntry, sectionTop, sectionEntries, sectionBody, bodyBytes, sectionLength}
+use Rattle.sheet.specs.Section.{sectionItem, sectionLoop, sectionEntry, sectionTop, sectionEntries, sectionBody, sectionLength}
 
 -- ---- fields and items
 

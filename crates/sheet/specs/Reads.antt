@@ -84,7 +84,7 @@ topBy top = if eqb top 1 then sheetLoop bare else mute ([], [])
 unfoldable pub cut : ℕ → ℕ
 cut row = getD (0 ∷ 3 ∷ 0 ∷ 2 ∷ 0 ∷ 0 ∷ []) row 0
 
--- section_length passes the length of a sheet without entries by so many bytes less one
+-- section_length, with the bytes cut from the entries and the table_id, passes the sheet's length by so many bytes
 unfoldable pub gain : ℕ → ℕ
 gain row = getD (3 ∷ 2 ∷ 3 ∷ 1 ∷ 0 ∷ 4 ∷ []) row 0
 

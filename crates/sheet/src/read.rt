@@ -2,13 +2,13 @@
 ghost use mathlib.Core.Path.{_≡_};
 ghost use mathlib.Core.List.{[], _∷_};
 ghost use Prim.Native.Nat.{_<_};
-ghost use Rattle.forms.specs.Form.{raw, _then_, each};
+ghost use Rattle.forms.specs.Form.{raw, each};
 ghost use Rattle.forms.specs.Fields.{below, sheetFields};
 ghost use Rattle.forms.specs.Lists.{times, counted};
 ghost use Rattle.tables.specs.Tables.{rowAt};
-ghost use Rattle.sheet.specs.Content.{Item, headOf};
+ghost use Rattle.sheet.specs.Content.{headOf};
 ghost use Rattle.sheet.specs.Content.Item.{numbers};
-ghost use Rattle.sheet.specs.Sheet.{sheetItem, descriptor, sheetLoop, sheetEntries, behindId};
+ghost use Rattle.sheet.specs.Sheet.{sheetItem, descriptor, sheetEntries, behindId};
 ghost use Rattle.sheet.specs.Reads.{Follows, Common, entryBy, sideBy, entryWith, topBy};
 ghost use Rattle.sheet.specs.declared.End.the-variants.{At};
 use crate::End;
@@ -44,7 +44,9 @@ fn section_numbers_at(s: &[u8], at: usize) -> End
     if wire::less(s.len(), at) < 2 {
         return End::EndsEarly;
     }
-    if s[at + 1] < s[at] {
+    let first = s[at];
+    let last = s[at + 1];
+    if last < first {
         return End::TooWide;
     }
     End::At(at + 2)
@@ -69,8 +71,8 @@ fn descriptors_times(s: &[u8], at: usize, count: usize) -> End
     ensures { λ r. ⌜ Follows (times descriptor count) (now (s .entry)) (At at) r ⌝ }
 {
     let mut p = at;
-    let mut k = count;
-    while 0 < k {
+    let mut left = count;
+    while 0 < left {
         let end = descriptor_at(s, p);
         match end {
             End::At(e) => {
@@ -83,7 +85,7 @@ fn descriptors_times(s: &[u8], at: usize, count: usize) -> End
                 return End::TooWide;
             }
         }
-        k -= 1;
+        left -= 1;
     }
     End::At(p)
 }

@@ -1,10 +1,9 @@
 -- `sheet::read::descriptor_at` meets its contract.
 use native.Mathlib.Omega.{arith}
-use mathlib.Core.Path.{ap}
+use mathlib.Core.Path.{ap, sym}
 use Prim.Native.Nat.{_+_}
 use Rattle.sheet.specs.declared.End.the-variants.{At}
 use Rattle.sheet.specs.Sheet.{descriptor}
-use mathlib.Core.Path.{sym}
 use Rattle.sheet.proofs.ReadLaws.{reads-descriptor, early-descriptor, early-body, follows-told}
 use borrow.Author.Needs.{needs}
 use Rattle.sheet.proofs.read.descriptor_at.Statement.{statement}

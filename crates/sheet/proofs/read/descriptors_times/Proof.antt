@@ -1,7 +1,6 @@
 -- `sheet::read::descriptors_times` meets its contract: as the k items from the place p on are read, so are all from the place `at` on.
 use borrow.Author.Needs.{needs}
 use native.Mathlib.Omega.{arith}
-use mathlib.Core.Path.{subst}
 use Rattle.forms.specs.Lists.{times}
 use Rattle.sheet.specs.Sheet.{descriptor}
 use Rattle.sheet.specs.Reads.{Follows}
@@ -13,10 +12,10 @@ use Rattle.sheet.proofs.read.descriptors_times.Statement.{statement}
 use Rattle.sheet.proofs.read.descriptors_times.Tie as tie
 
 abbrev Inv-loop : tie.InvT-loop
-Inv-loop s at count p₀ k₀ p k = (r : End) → Follows (times descriptor k) s (At p) r → Follows (times descriptor count) s (At at) r
+Inv-loop s at count p₀ left₀ p left = (r : End) → Follows (times descriptor left) s (At p) r → Follows (times descriptor count) s (At at) r
 
 abbrev μ-loop : tie.MeasureT-loop
-μ-loop s at count p₀ k₀ p k = k
+μ-loop s at count p₀ left₀ p left = left
 
 loop-holds : tie.Need-loop-holds Inv-loop μ-loop
 loop-holds c = λ r h. h
@@ -39,8 +38,8 @@ enum-told-2 c = search needs
 returns-2 : tie.Need-returns-2 Inv-loop μ-loop
 returns-2 c = c .before .before .before .before .loop .inv _ (follows-item descriptor (c .before .before .before .loop-test .taken) (follows-told descriptor (c .enum-told2 .given .1) (c .before .before .descriptor-at .ensures)) (still-wide _ refl))
 
-sub-k : tie.Need-sub-k Inv-loop μ-loop
-sub-k c = search needs
+sub-left : tie.Need-sub-left Inv-loop μ-loop
+sub-left c = search needs
 
 loop-less : tie.Need-loop-less Inv-loop μ-loop
 loop-less c = search needs
@@ -64,7 +63,7 @@ descriptors-times-spec =
     returns
     enum-told-2
     returns-2
-    sub-k
+    sub-left
     loop-less
     loop-again
     returns-3)

@@ -11,20 +11,20 @@ less-requires c κs = search needs
 returns : tie.Need-returns
 returns c = early-numbers (c .before .before .before .args .s .now) (c .before .before .before .args .at) (omega (arith, c .before .less .ensures))
 
-add-if2 : tie.Need-add-if2
-add-if2 c = search needs
+shared-slice-read-first : tie.Need-shared-slice-read-first
+shared-slice-read-first c = search needs
 
-shared-slice-read-if2 : tie.Need-shared-slice-read-if2
-shared-slice-read-if2 c = search needs
+add-last : tie.Need-add-last
+add-last c = search needs
 
-shared-slice-read-if2-2 : tie.Need-shared-slice-read-if2-2
-shared-slice-read-if2-2 c = search needs
+shared-slice-read-last : tie.Need-shared-slice-read-last
+shared-slice-read-last c = search needs
 
 returns-2 : tie.Need-returns-2
 returns-2 c = wide-numbers (c .before .before .before .before .before .before .args .s .now) (c .before .before .before .before .before .before .args .at) (omega (arith, c .before .before .before .before .less .ensures)) (c .if2 .taken)
 
-add-t4 : tie.Need-add-t4
-add-t4 c = search needs
+add-t6 : tie.Need-add-t6
+add-t6 c = search needs
 
 returns-3 : tie.Need-returns-3
 returns-3 c = reads-numbers (c .before .before .before .before .before .before .args .s .now) (c .before .before .before .before .before .before .args .at) (omega (arith, c .before .before .before .before .less .ensures)) (omega (arith, c .if2))
@@ -35,9 +35,9 @@ section-numbers-at-spec =
     (tie.spec
     less-requires
     returns
-    add-if2
-    shared-slice-read-if2
-    shared-slice-read-if2-2
+    shared-slice-read-first
+    add-last
+    shared-slice-read-last
     returns-2
-    add-t4
+    add-t6
     returns-3)

@@ -1,5 +1,4 @@
 -- `sheet::size::spared` meets its contract.
-use native.Mathlib.Omega.{arith}
 use mathlib.Core.Path.{sym, ap, _∙_}
 use Prim.Native.Nat.{_+_, _*_}
 use Rattle.sheet.specs.Reads.{spare, cut, countAt}
