@@ -34,9 +34,9 @@ below-sound n s v t w e =
     let r = x .0 .1 in
     if-case P (ltb (getD a 0 0) n)
     (λ h g.
-      let q : _≡_ {A = ℕ × List ℕ} (getD a 0 0, r) (v, t) = value-is g in
-      let p : getD a 0 0 ≡ v = ap (λ (z : ℕ × List ℕ). z .0) q in
-      (one-read s a r (x .1) ∙ ap (λ (z : ℕ × List ℕ). z .0 ∷ z .1) q, subst (λ k. k < n) p (ltb-true _ _ h)))
+    let q : _≡_ {A = ℕ × List ℕ} (getD a 0 0, r) (v, t) = value-is g in
+    let p : getD a 0 0 ≡ v = ap (λ (z : ℕ × List ℕ). z .0) q in
+    (one-read s a r (x .1) ∙ ap (λ (z : ℕ × List ℕ). z .0 ∷ z .1) q, subst (λ k. k < n) p (ltb-true _ _ h)))
     (λ _ g. absurd (never (sym g)))
     (x .2)
   where

@@ -48,10 +48,11 @@ read-on f e = ap (λ y. y >>= f) e
 
 pub mute-lawful : {A : Type 0} (v : A) → Lawful (mute v)
 mute-lawful {A} v = record {
-    sound = λ s a r w e.
-        let p : _≡_ {A = A × List ℕ} (v, s) (a, r) = value-is e in
-        (ap (λ (z : A × List ℕ). z .1) p, sym (ap (λ (z : A × List ℕ). z .0) p));
-    complete = λ a r o. ap (λ x. value (x, r)) (sym o) }
+  sound = λ s a r w e.
+      let p : _≡_ {A = A × List ℕ} (v, s) (a, r) = value-is e in
+      (ap (λ (z : A × List ℕ). z .1) p, sym (ap (λ (z : A × List ℕ). z .0) p));
+  complete = λ a r o. ap (λ x. value (x, r)) (sym o);
+}
 
 pub raw-read : (n : ℕ) (a r : List ℕ) → length a ≡ n → rawRead n (a ++ r) ≡ value (a, r)
 unfolding rawRead
@@ -62,10 +63,10 @@ unfolding rawRead
 raw-shown n s a r =
     if-case P (leb n (length s))
     (λ h e.
-      let x : _≡_ {A = List ℕ × List ℕ} (take n s, drop n s) (a, r) = value-is e in
-      let p : take n s ≡ a = ap (λ (z : List ℕ × List ℕ). z .0) x in
-      let q : drop n s ≡ r = ap (λ (z : List ℕ × List ℕ). z .1) x in
-      (sym (take-append-drop n s) ∙ ap₂ (λ x y. x ++ y) p q, sym (ap length p) ∙ length-take-le n s (leb-true _ _ h)))
+    let x : _≡_ {A = List ℕ × List ℕ} (take n s, drop n s) (a, r) = value-is e in
+    let p : take n s ≡ a = ap (λ (z : List ℕ × List ℕ). z .0) x in
+    let q : drop n s ≡ r = ap (λ (z : List ℕ × List ℕ). z .1) x in
+    (sym (take-append-drop n s) ∙ ap₂ (λ x y. x ++ y) p q, sym (ap length p) ∙ length-take-le n s (leb-true _ _ h)))
     (λ _ e. absurd (never (sym e)))
   where
     P : Front (List ℕ) → Type 0
@@ -113,9 +114,9 @@ module _ {A : Type 0} (c : Form A) (k : ℕ) (test : A → Bool) where
       let r = x .0 .1 in
       if-case P (test a)
       (λ h g.
-        let q : _≡_ {A = A × List ℕ} (a, r) (b, t) = value-is g in
-        let y = f s b t w (x .1 ∙ ap value q) in
-        (y .0, (y .1, sym (ap (λ (z : A × List ℕ). test (z .0)) q) ∙ h)))
+      let q : _≡_ {A = A × List ℕ} (a, r) (b, t) = value-is g in
+      let y = f s b t w (x .1 ∙ ap value q) in
+      (y .0, (y .1, sym (ap (λ (z : A × List ℕ). test (z .0)) q) ∙ h)))
       (λ _ g. absurd (never (sym g)))
       (x .2)
     where

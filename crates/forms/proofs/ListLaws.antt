@@ -47,7 +47,8 @@ module _ {A : Type 0} (c : Form A) where
       subst (λ (z : List A × List ℕ). Shown (suc k) s (z .0) (z .1)) q (record {
         bytes = p .0 ∙ ap (λ j. c .show a ++ j) (v .bytes) ∙ sym (append-assoc (c .show a) (all c m) u);
         number = ap suc (v .number);
-        ok = one (p .1) (v .ok) })
+        ok = one (p .1) (v .ok);
+      })
 
   -- ---- after the number of the items
 

@@ -30,11 +30,13 @@ done-length {p = p} {o = o} x u f g = ap length (g .room) ∙ length-put o (p .t
 -- nothing stands there, and nothing is written
 pub turned-nothing : {A : Type 0} (c d : Form A) (s : List ℕ) (p : Place) (o : List ℕ) → ((a : A) → c .Ok a → (c .show a ≡ []) × (d .show a ≡ []))
     → Turned c d s p o p o
-turned-nothing c d s p o h = record { turned = λ a k w f.
-    let e = h a k in
-    let lc = ap length (e .0) in
-    let ld = ap length (e .1) in
-    record { room = sym (ap (put o (p .to)) (e .1) ∙ put-none o (p .to) (omega arith)); read = omega arith; written = omega arith } }
+turned-nothing c d s p o h = record {
+  turned = λ a k w f.
+      let e = h a k in
+      let lc = ap length (e .0) in
+      let ld = ap length (e .1) in
+      record { room = sym (ap (put o (p .to)) (e .1) ∙ put-none o (p .to) (omega arith)); read = omega arith; written = omega arith };
+}
 
 module _ {A B : Type 0} {c d : Form A} {c' d' : Form B} {s : List ℕ} {p q r : Place} {o o' o'' : List ℕ} where
   -- one behind the other
@@ -58,14 +60,16 @@ module _ {A B : Type 0} {c d : Form A} {c' d' : Form B} {s : List ℕ} {p q r : 
 -- what is turned as one form is turned as another that shows the same
 module _ {A B : Type 0} {c d : Form A} {c' d' : Form B} {s : List ℕ} {p q : Place} {o o' : List ℕ} where
   pub turned-as : ((b : B) → c' .Ok b → (a : A) × c .Ok a × (c' .show b ≡ c .show a) × (d' .show b ≡ d .show a)) → Turned c d s p o q o' → Turned c' d' s p o q o'
-  turned-as h g = record { turned = λ b k w f.
-      let x = h b k in
-      let e = x .2 in
-      let i = x .3 in
-      let le = ap length e in
-      let li = ap length i in
-      let t = g .turned (x .0) (x .1) (subst (Part s (p .at)) e w) (omega arith) in
-      record { room = t .room ∙ ap (put o (p .to)) (sym i); read = omega (arith, t .read); written = omega (arith, t .written) } }
+  turned-as h g = record {
+    turned = λ b k w f.
+        let x = h b k in
+        let e = x .2 in
+        let i = x .3 in
+        let le = ap length e in
+        let li = ap length i in
+        let t = g .turned (x .0) (x .1) (subst (Part s (p .at)) e w) (omega arith) in
+        record { room = t .room ∙ ap (put o (p .to)) (sym i); read = omega (arith, t .read); written = omega (arith, t .written) };
+  }
 
 module _ {A : Type 0} {c d : Form A} {s : List ℕ} {p q : Place} {o o' : List ℕ} where
   pub turned-such : (k j : ℕ) (t u : A → Bool) → Turned c d s p o q o' → Turned (such c k t) (such d j u) s p o q o'

@@ -28,9 +28,10 @@ descriptorRead s = rawRead 2 s >>= λ h. rawRead (getD (h .0) 1 0) (h .1) >>= λ
 
 abbrev pub descriptor : Form Descriptor
 descriptor = record {
-    read = descriptorRead;
-    show = λ d. d .tag ∷ length (d .body) ∷ d .body;
-    Ok = λ d. length (d .body) < 256 }
+  read = descriptorRead;
+  show = λ d. d .tag ∷ length (d .body) ∷ d .body;
+  Ok = λ d. length (d .body) < 256;
+}
 
 abbrev pub sheetLoop : List Field → Form Loop
 sheetLoop fs = sheetFields fs then counted descriptor

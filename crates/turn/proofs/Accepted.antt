@@ -95,17 +95,20 @@ module _ (row p : ℕ) (size : (rowAt row .fixed ≡ 0 → ⊥) → sizes (entry
           → Stands ((if t then sectionLoop bare else mute ([], [])) .show l
           ++ (if z then mute ([], []) else if t then loop (sectionEntry row) bare else mute [] then filling (sectionEntry row) n) .show es)
       go true true f t o k =
-          let d = descriptors-stand (p + 2) (l .1) in
-          (d .0 ∷ [], subst (λ m. grammar.Inside (rowAt row) p m (d .0 ∷ [])) (sym (append-nil (loopShow descriptor bare l)))
-          (grammar.loop (eqb-true _ _ t) (eqb-true _ _ f) _ _ (says bare half-bare (l .0) (o .0) (length (all descriptor (l .1))) (o .1)) (d .1)))
+          let d = descriptors-stand (p + 2) (l .1) in (
+            d .0 ∷ [],
+            subst (λ m. grammar.Inside (rowAt row) p m (d .0 ∷ [])) (sym (append-nil (loopShow descriptor bare l)))
+                (grammar.loop (eqb-true _ _ t) (eqb-true _ _ f) _ _ (says bare half-bare (l .0) (o .0) (length (all descriptor (l .1))) (o .1)) (d .1)),
+          )
       go true false f t o k = ([], grammar.nothing (eqb-false _ _ t) (eqb-true _ _ f))
       go false true f t o k =
           let q = eqb-false _ _ f in
           let d = descriptors-stand (p + 2) (l .1) in
-          let r = entries-stand row (size q) (p + (2 + length (all descriptor (l .1))) + 2) (es .1) (k .2) in
-          (d .0 ∷ r .0,
-          grammar.loops (eqb-true _ _ t) q _ _ (all descriptor (l .1)) (says bare half-bare (l .0) (o .0) (length (all descriptor (l .1))) (o .1)) (d .1) _ _
-          (says bare half-bare (es .0) (k .0) (length (all (sectionEntry row) (es .1))) (k .1)) (r .1))
+          let r = entries-stand row (size q) (p + (2 + length (all descriptor (l .1))) + 2) (es .1) (k .2) in (
+            d .0 ∷ r .0,
+            grammar.loops (eqb-true _ _ t) q _ _ (all descriptor (l .1)) (says bare half-bare (l .0) (o .0) (length (all descriptor (l .1))) (o .1)) (d .1) _ _
+                (says bare half-bare (es .0) (k .0) (length (all (sectionEntry row) (es .1))) (k .1)) (r .1),
+          )
       go false false f t o k =
           let q = eqb-false _ _ f in
           let r = entries-stand row (size q) p (es .1) (k .1 .1) in

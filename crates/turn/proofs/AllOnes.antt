@@ -94,8 +94,14 @@ unfolding SheetOk
 sheet-ok c h u n =
     let row = rowIn c in (
       h .known,
-      (fields-ok frame (frameOf c) (h .frame-fits) (u .in-frame),
-      (items-ok (headOf row) (bodyOf c .0) (h .body .0) (u .in-head),
-      (top-ok row (bodyOf c .1 .0) (h .body .1 .0) (u .in-top),
-      entries-ok row (length (entriesBytes c)) (bodyOf c .1 .1) (h .body .1 .1) n (u .in-second) (u .in-entries)))),
+      (
+        fields-ok frame (frameOf c) (h .frame-fits) (u .in-frame),
+        (
+          items-ok (headOf row) (bodyOf c .0) (h .body .0) (u .in-head),
+          (
+            top-ok row (bodyOf c .1 .0) (h .body .1 .0) (u .in-top),
+            entries-ok row (length (entriesBytes c)) (bodyOf c .1 .1) (h .body .1 .1) n (u .in-second) (u .in-entries),
+          ),
+        ),
+      ),
     )

@@ -112,17 +112,19 @@ module _ (row : ℕ) (t : Bool) (ht : t ≡ eqb (rowAt row .top) 1) (hf : eqb (r
           → (if z then mute ([], []) else if y then loop (sectionEntry row) bare else mute [] then filling (sectionEntry row) n) .Ok e → InSection
       go x y true p q r o = let k : _≡_ {A = ℕ} 0 1 = cc (hf) in absurd (omega arith)
       go true true false p q r o = record {
-          beside = subst (λ b. BesideFit b (e .0)) (sym p) (o .0);
-          entries = o .2;
-          small = rw (q, r) (omega arith);
-          in-sheet = rw (q, r) (ap (λ l. l ++ countedShow (sheetEntry row) (e .1)) (bare-shown (e .0) (o .0)));
-          in-section = rw (p, q, r) refl }
+        beside = subst (λ b. BesideFit b (e .0)) (sym p) (o .0);
+        entries = o .2;
+        small = rw (q, r) (omega arith);
+        in-sheet = rw (q, r) (ap (λ l. l ++ countedShow (sheetEntry row) (e .1)) (bare-shown (e .0) (o .0)));
+        in-section = rw (p, q, r) refl;
+      }
       go false false false p q r o = record {
-          beside = subst (λ b. BesideFit b (e .0)) (sym p) (o .0);
-          entries = o .1 .1;
-          small = rw (q, r) (omega arith);
-          in-sheet = rw (q, r) (ap (λ l. l ++ countedShow (sheetEntry row) (e .1)) (none-shown (e .0)));
-          in-section = rw (p, q, r) refl }
+        beside = subst (λ b. BesideFit b (e .0)) (sym p) (o .0);
+        entries = o .1 .1;
+        small = rw (q, r) (omega arith);
+        in-sheet = rw (q, r) (ap (λ l. l ++ countedShow (sheetEntry row) (e .1)) (none-shown (e .0)));
+        in-section = rw (p, q, r) refl;
+      }
       go true false false p q r o = let k : _≡_ {A = ℕ} 0 1 = cc (ht) in absurd (omega arith)
       go false true false p q r o = let k : _≡_ {A = ℕ} 0 1 = cc (ht) in absurd (omega arith)
 
@@ -135,13 +137,15 @@ module _ (row : ℕ) (t : Bool) (ht : t ≡ eqb (rowAt row .top) 1) (hf : eqb (r
           → (if z then mute ([], []) else if y then loop (sectionEntry row) bare else mute [] then filling (sectionEntry row) n) .Ok e → InBoth
       go x y true p q r o u = let k : _≡_ {A = ℕ} 0 1 = cc (hf) in absurd (omega arith)
       go true true false p q r o u = record {
-          beside = subst (λ b. BesideOk b (e .0)) (sym p) (o .0);
-          entries = both-ok row (e .1) (o .1 .1) (u .2);
-          few = o .1 .0 }
+        beside = subst (λ b. BesideOk b (e .0)) (sym p) (o .0);
+        entries = both-ok row (e .1) (o .1 .1) (u .2);
+        few = o .1 .0;
+      }
       go false false false p q r o u = record {
-          beside = subst (λ b. BesideOk b (e .0)) (sym p) (no-fields (e .0) (o .0));
-          entries = both-ok row (e .1) (o .1 .1) (u .1 .1);
-          few = o .1 .0 }
+        beside = subst (λ b. BesideOk b (e .0)) (sym p) (no-fields (e .0) (o .0));
+        entries = both-ok row (e .1) (o .1 .1) (u .1 .1);
+        few = o .1 .0;
+      }
       go true false false p q r o u = let k : _≡_ {A = ℕ} 0 1 = cc (ht) in absurd (omega arith)
       go false true false p q r o u = let k : _≡_ {A = ℕ} 0 1 = cc (ht) in absurd (omega arith)
 
@@ -241,36 +245,44 @@ done-none p o x a e f h =
 module _ (row : ℕ) (t : Bool) (ht : t ≡ eqb (rowAt row .top) 1) {s o o₁ o₂ : List ℕ} {p q r : Place} (end : ℕ) where
   pub body-forth-none : eqb (rowAt row .fixed) 0 ≡ true → Turned (itemsFrom true (headOf row)) (itemsTo true (headOf row)) s p o q o₁
       → Turned (topIf true t) (topIf false t) s q o₁ r o₂ → BodyForth row s p end o r o₂
-  body-forth-none hf h u = record { turned = λ b ok sok w e small f.
-      forth-parts row t ht {o₃ = o₂} {v = r} end h u b ok sok w e f
-      (λ wz k g. let n = none-forms row 0 (b .1 .1) hf in done-none r o₂ _ _ (n .0) (n .1) (omega arith)) }
+  body-forth-none hf h u = record {
+    turned = λ b ok sok w e small f.
+        forth-parts row t ht {o₃ = o₂} {v = r} end h u b ok sok w e f
+        (λ wz k g. let n = none-forms row 0 (b .1 .1) hf in done-none r o₂ _ _ (n .0) (n .1) (omega arith));
+  }
 
   pub body-back-none : eqb (rowAt row .fixed) 0 ≡ true → Turned (itemsFrom false (headOf row)) (itemsTo false (headOf row)) s p o q o₁
       → Turned (topIf false t) (topIf true t) s q o₁ r o₂ → BodyBack row s p end o r o₂
-  body-back-none hf h u = record { turned = λ b sok w e small start f.
-      back-parts row t ht {o₃ = o₂} {v = r} end h u b sok w e f
-      (λ wz k g. let n = none-forms row 0 (b .1 .1) hf in done-none r o₂ _ _ (n .1) (n .0) (omega arith)) }
+  body-back-none hf h u = record {
+    turned = λ b sok w e small start f.
+        back-parts row t ht {o₃ = o₂} {v = r} end h u b sok w e f
+        (λ wz k g. let n = none-forms row 0 (b .1 .1) hf in done-none r o₂ _ _ (n .1) (n .0) (omega arith));
+  }
 
 module _ (row : ℕ) (t : Bool) (ht : t ≡ eqb (rowAt row .top) 1) {s o o₁ o₂ o₃ : List ℕ} {p q r v : Place} (end : ℕ) where
   pub body-forth : eqb (rowAt row .fixed) 0 ≡ false → Turned (itemsFrom true (headOf row)) (itemsTo true (headOf row)) s p o q o₁
       → Turned (topIf true t) (topIf false t) s q o₁ r o₂ → EntriesForth t row s r end o₂ v o₃ → BodyForth row s p end o v o₃
-  body-forth hf h u m = record { turned = λ b ok sok w e small f.
-      forth-parts row t ht {o₃ = o₃} {v = v} end h u b ok sok w e f
-      (λ wz k g.
+  body-forth hf h u m = record {
+    turned = λ b ok sok w e small f.
+        forth-parts row t ht {o₃ = o₃} {v = v} end h u b ok sok w e f
+        (λ wz k g.
         let x = in-section-forms row t ht hf (b .1 .1) _ (sok .1 .1) in
         let y = in-both-forms row t ht hf (b .1 .1) _ (ok .1 .1) (sok .1 .1) in
         done-as (sym (x .in-sheet)) (sym (x .in-section))
-        (m .turned (b .1 .1 .0) (b .1 .1 .1) (y .beside) (y .entries) (y .few) (subst (Part s (r .at)) (x .in-sheet) wz) (ap (λ l. r .to + length l) (sym (x .in-section)) ∙ k) small g)) }
+        (m .turned (b .1 .1 .0) (b .1 .1 .1) (y .beside) (y .entries) (y .few) (subst (Part s (r .at)) (x .in-sheet) wz) (ap (λ l. r .to + length l) (sym (x .in-section)) ∙ k) small g));
+  }
 
   pub body-back : eqb (rowAt row .fixed) 0 ≡ false → Turned (itemsFrom false (headOf row)) (itemsTo false (headOf row)) s p o q o₁
       → Turned (topIf false t) (topIf true t) s q o₁ r o₂ → EntriesBack t row s r end o₂ v o₃ → BodyBack row s p end o v o₃
-  body-back hf h u m = record { turned = λ b sok w e small start f.
-      back-parts row t ht {o₃ = o₃} {v = v} end h u b sok w e f
-      (λ wz k g.
+  body-back hf h u m = record {
+    turned = λ b sok w e small start f.
+        back-parts row t ht {o₃ = o₃} {v = v} end h u b sok w e f
+        (λ wz k g.
         let x = in-section-forms row t ht hf (b .1 .1) _ (sok .1 .1) in
         let l = x .small in
         let x' = length-append (eachShow sectionItem (headOf row) (b .0)) (sectionTop row .show (b .1 .0) ++ sectionEntries row 0 .show (b .1 .1)) in
         let y' = length-append (sectionTop row .show (b .1 .0)) (sectionEntries row 0 .show (b .1 .1)) in
         done-as (sym (x .in-section)) (sym (x .in-sheet))
         (m .turned (b .1 .1 .0) (b .1 .1 .1) (x .beside) (x .entries) (omega arith) (subst (Part s (r .at)) (x .in-section) wz)
-        (ap (λ l. r .at + length l) (sym (x .in-section)) ∙ k) (subst (λ l. r .to + length l ≤ length o₂) (x .in-sheet) g))) }
+        (ap (λ l. r .at + length l) (sym (x .in-section)) ∙ k) (subst (λ l. r .to + length l ≤ length o₂) (x .in-sheet) g)));
+  }

@@ -81,7 +81,7 @@ number-read row s at es h w =
     omega arith
 
 -- a number of two bytes, put
-number-put : (o : List ℕ) (to v : ℕ) → length o < 2 ^ 64 → to + 2 ≤ length o → putNumber o to v ≡ put o to (v / 256 % 256 ∷ v % 256 ∷ [])
+pub number-put : (o : List ℕ) (to v : ℕ) → length o < 2 ^ 64 → to + 2 ≤ length o → putNumber o to v ≡ put o to (v / 256 % 256 ∷ v % 256 ∷ [])
 number-put o to v lo f =
     ap (λ q. put (put o to (v / 256 % 256 ∷ [])) q (v % 256 ∷ [])) (sum-fits to 1 (omega arith)) ∙ put-put o to (v / 256 % 256 ∷ []) (omega arith) (v % 256 ∷ []) (omega arith)
 
@@ -114,41 +114,45 @@ module _ (row : ℕ) (s o : List ℕ) (ls : length s < 2 ^ 64) (lo : length o < 
   pub forth-top : {z q : Place} {x o' : List ℕ} → z .at ≡ sum (p .at) 2 → z .to ≡ sum (p .to) 2 → x ≡ putNumber o (p .to) (sum 0xF000 (end - z .to))
       → Turned (times (entryFrom true row) number) (times (entryTo true row) number) s z x q o' → EntriesForth true row s p end o q o'
   unfolding countedShow loopShow
-  forth-top {z} {q} {x} {o'} ha ht hx t = record { turned = λ vs es ov oe h w e small f.
-      let body = all (sectionEntry row) es in
-      let N : ℕ = length body in
-      let n = part-within (countedShow (sheetEntry row) es) w in
-      let to : z .to ≡ p .to + 2 = ht ∙ sum-fits (p .to) 2 (omega arith) in
-      let v : ℕ = 0xF000 + N in
-      let left : end - z .to ≡ N = omega arith in
-      let iv : sum 0xF000 (end - z .to) ≡ v = ap (sum 0xF000) left ∙ sum-fits 0xF000 N (omega arith) in
-      let pk = beside-ones vs ov in
-      let hi : v / 256 % 256 ≡ pack bare vs * 16 + N / 256 = omega arith in
-      let hj : v % 256 ≡ N % 256 = omega arith in
-      let zz : p .to ≡ p .to + 0 = omega arith in
-      let none = sym (put-none o (p .to) (omega arith)) in
-      let hx' : x ≡ putNumber o (p .to) v = hx ∙ ap (putNumber o (p .to)) iv in
-      let pt = put-three o (p .to) [] v body lo (omega arith) o x (p .to) none zz hx' in
-      let lx : length x ≡ length o = number-length o x (p .to) v lo (omega arith) hx' in
-      let d = entries-done es oe h w {z = z} {q = q} {x = x} {o' = o'} ha (omega arith) t in
-      let s2 : sum (p .to) 2 ≡ z .to = sym ht in
-      record {
-        room = d .room ∙ ap (λ k. put x k body) (sym s2) ∙ pt ∙ ap₂ (λ i j. put o (p .to) (i ∷ j ∷ body)) hi hj;
-        read = d .read ∙ omega (arith, ha, sum-fits (p .at) 2 (omega arith));
-        written = d .written ∙ omega arith;
-      } }
+  forth-top {z} {q} {x} {o'} ha ht hx t = record {
+    turned = λ vs es ov oe h w e small f.
+        let body = all (sectionEntry row) es in
+        let N : ℕ = length body in
+        let n = part-within (countedShow (sheetEntry row) es) w in
+        let to : z .to ≡ p .to + 2 = ht ∙ sum-fits (p .to) 2 (omega arith) in
+        let v : ℕ = 0xF000 + N in
+        let left : end - z .to ≡ N = omega arith in
+        let iv : sum 0xF000 (end - z .to) ≡ v = ap (sum 0xF000) left ∙ sum-fits 0xF000 N (omega arith) in
+        let pk = beside-ones vs ov in
+        let hi : v / 256 % 256 ≡ pack bare vs * 16 + N / 256 = omega arith in
+        let hj : v % 256 ≡ N % 256 = omega arith in
+        let zz : p .to ≡ p .to + 0 = omega arith in
+        let none = sym (put-none o (p .to) (omega arith)) in
+        let hx' : x ≡ putNumber o (p .to) v = hx ∙ ap (putNumber o (p .to)) iv in
+        let pt = put-three o (p .to) [] v body lo (omega arith) o x (p .to) none zz hx' in
+        let lx : length x ≡ length o = number-length o x (p .to) v lo (omega arith) hx' in
+        let d = entries-done es oe h w {z = z} {q = q} {x = x} {o' = o'} ha (omega arith) t in
+        let s2 : sum (p .to) 2 ≡ z .to = sym ht in
+        record {
+          room = d .room ∙ ap (λ k. put x k body) (sym s2) ∙ pt ∙ ap₂ (λ i j. put o (p .to) (i ∷ j ∷ body)) hi hj;
+          read = d .read ∙ omega (arith, ha, sum-fits (p .at) 2 (omega arith));
+          written = d .written ∙ omega arith;
+        };
+  }
 
   pub forth-plain : {z q : Place} {o' : List ℕ} → z .at ≡ sum (p .at) 2 → z .to ≡ p .to → Turned (times (entryFrom true row) number) (times (entryTo true row) number) s z o q o'
       → EntriesForth false row s p end o q o'
   unfolding countedShow
-  forth-plain {z} {q} {o'} ha ht t = record { turned = λ vs es ov oe h w e small f.
-      let n = part-within (countedShow (sheetEntry row) es) w in
-      let d = entries-done es oe h w {z = z} {q = q} {x = o} {o' = o'} ha (omega arith) t in
-      record {
-        room = d .room ∙ ap (λ k. put o k (all (sectionEntry row) es)) ht;
-        read = d .read ∙ omega (arith, ha, sum-fits (p .at) 2 (omega arith));
-        written = d .written ∙ omega arith;
-      } }
+  forth-plain {z} {q} {o'} ha ht t = record {
+    turned = λ vs es ov oe h w e small f.
+        let n = part-within (countedShow (sheetEntry row) es) w in
+        let d = entries-done es oe h w {z = z} {q = q} {x = o} {o' = o'} ha (omega arith) t in
+        record {
+          room = d .room ∙ ap (λ k. put o k (all (sectionEntry row) es)) ht;
+          read = d .read ∙ omega (arith, ha, sum-fits (p .at) 2 (omega arith));
+          written = d .written ∙ omega arith;
+        };
+  }
 
 -- ---- back
 
@@ -177,30 +181,34 @@ module _ (row : ℕ) (s o : List ℕ) (ls : length s < 2 ^ 64) (lo : length o < 
   pub back-top : (k n : ℕ) {z q : Place} {x o' : List ℕ} → n ≡ len12At s (p .at) → NumberIn (sectionEntry row) (take n (drop (sum (p .at) 2) s)) k → z .at ≡ sum (p .at) 2
       → z .to ≡ sum (p .to) 2 → x ≡ putNumber o (p .to) k → Turned (times (entryFrom false row) k) (times (entryTo false row) k) s z x q o' → EntriesBack true row s p end o q o'
   unfolding loopShow
-  back-top k n {z} {q} {x} {o'} hn hk ha ht hx t = record { turned = λ vs es ov oe small w e f.
-      let body = all (sectionEntry row) es in
-      let N : ℕ = length body in
-      let a : ℕ = pack bare vs * 16 + N / 256 in
-      let b : ℕ = N % 256 in
-      let within = part-within (a ∷ b ∷ body) w in
-      let ba : getD s (p .at) 0 ≡ a = part-first-byte (a ∷ b ∷ body) w (omega arith) in
-      let bb : getD s (p .at + 1) 0 ≡ b = part-byte (a ∷ b ∷ body) w 1 (omega arith) in
-      let iN : n ≡ N = hn ∙ ap₂ len12 ba bb ∙ says bare half-bare vs ov N small in
-      let s2 : sum (p .at) 2 ≡ p .at + 2 = sum-fits (p .at) 2 (omega arith) in
-      let wb : Part s (p .at + 2) body = part-second (a ∷ b ∷ []) body w in
-      let tk : take n (drop (sum (p .at) 2) s) ≡ body = ap₂ (λ i j. take i (drop j s)) iN s2 ∙ part-taken wb in
-      let d = back-done es (p .at + 2) oe small wb f k (hk es oe (sym tk)) {z = z} {q = q} {x = x} {o' = o'} (ha ∙ s2) ht hx t in
-      let r = d .1 in
-      record { room = d .0; read = omega arith; written = d .2 } }
+  back-top k n {z} {q} {x} {o'} hn hk ha ht hx t = record {
+    turned = λ vs es ov oe small w e f.
+        let body = all (sectionEntry row) es in
+        let N : ℕ = length body in
+        let a : ℕ = pack bare vs * 16 + N / 256 in
+        let b : ℕ = N % 256 in
+        let within = part-within (a ∷ b ∷ body) w in
+        let ba : getD s (p .at) 0 ≡ a = part-first-byte (a ∷ b ∷ body) w (omega arith) in
+        let bb : getD s (p .at + 1) 0 ≡ b = part-byte (a ∷ b ∷ body) w 1 (omega arith) in
+        let iN : n ≡ N = hn ∙ ap₂ len12 ba bb ∙ says bare half-bare vs ov N small in
+        let s2 : sum (p .at) 2 ≡ p .at + 2 = sum-fits (p .at) 2 (omega arith) in
+        let wb : Part s (p .at + 2) body = part-second (a ∷ b ∷ []) body w in
+        let tk : take n (drop (sum (p .at) 2) s) ≡ body = ap₂ (λ i j. take i (drop j s)) iN s2 ∙ part-taken wb in
+        let d = back-done es (p .at + 2) oe small wb f k (hk es oe (sym tk)) {z = z} {q = q} {x = x} {o' = o'} (ha ∙ s2) ht hx t in
+        let r = d .1 in
+        record { room = d .0; read = omega arith; written = d .2 };
+  }
 
   pub back-plain : (k : ℕ) {z q : Place} {x o' : List ℕ} → NumberIn (sectionEntry row) (take (end - p .at) (drop (p .at) s)) k → z .at ≡ p .at
       → z .to ≡ sum (p .to) 2 → x ≡ putNumber o (p .to) k → Turned (times (entryFrom false row) k) (times (entryTo false row) k) s z x q o' → EntriesBack false row s p end o q o'
-  back-plain k {z} {q} {x} {o'} hk ha ht hx t = record { turned = λ vs es ov oe small w e f.
-      let body = all (sectionEntry row) es in
-      let iN : end - p .at ≡ length body = omega arith in
-      let tk : take (end - p .at) (drop (p .at) s) ≡ body = ap (λ i. take i (drop (p .at) s)) iN ∙ part-taken w in
-      let d = back-done es (p .at) oe small w f k (hk es oe (sym tk)) {z = z} {q = q} {x = x} {o' = o'} ha ht hx t in
-      record { room = d .0; read = d .1; written = d .2 } }
+  back-plain k {z} {q} {x} {o'} hk ha ht hx t = record {
+    turned = λ vs es ov oe small w e f.
+        let body = all (sectionEntry row) es in
+        let iN : end - p .at ≡ length body = omega arith in
+        let tk : take (end - p .at) (drop (p .at) s) ≡ body = ap (λ i. take i (drop (p .at) s)) iN ∙ part-taken w in
+        let d = back-done es (p .at) oe small w f k (hk es oe (sym tk)) {z = z} {q = q} {x = x} {o' = o'} ha ht hx t in
+        record { room = d .0; read = d .1; written = d .2 };
+  }
 
 -- ---- the top loop
 

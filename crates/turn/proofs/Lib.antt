@@ -12,3 +12,4 @@ pub mod EntryLaws
 pub mod LoopLaws
 pub mod EntriesLaws
 pub mod BodyLaws
+pub mod WholeLaws

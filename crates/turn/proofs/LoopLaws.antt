@@ -63,10 +63,11 @@ side-written true x m o to b (i ∷ j ∷ []) f h e l =
     let oi = f .0 in
     let oj = f .1 .0 in
     let hi : x / 32 ≡ i = omega arith in
-    let hj : x / 16 % 2 ≡ j = omega arith in
-    (refl,
-    ap₂ (λ y z. put (put o to (y ∷ [])) (sum to 1) (z ∷ [])) hi hj ∙ ap (λ k. put (put o to (i ∷ [])) k (j ∷ [])) (sum-fits to 1 (omega arith))
-    ∙ put-put o to (i ∷ []) (omega arith) (j ∷ []) (omega arith))
+    let hj : x / 16 % 2 ≡ j = omega arith in (
+      refl,
+      ap₂ (λ y z. put (put o to (y ∷ [])) (sum to 1) (z ∷ [])) hi hj ∙ ap (λ k. put (put o to (i ∷ [])) k (j ∷ [])) (sum-fits to 1 (omega arith))
+          ∙ put-put o to (i ∷ []) (omega arith) (j ∷ []) (omega arith),
+    )
 side-written true x m o to b (i ∷ j ∷ k ∷ vs) f h e l = absurd (f .1 .1)
 side-written false x m o to b [] f h e l = absurd f
 side-written false x m o to b (i ∷ []) f h e l = (refl, sym (put-none o to (omega arith)))

@@ -50,9 +50,11 @@ module _ (s o : List ℕ) (ls : length s < 2 ^ 64) (lo : length o < 2 ^ 64) (p :
 
   pub turned-raw : (n : ℕ) {q : Place} {o' : List ℕ} → o' ≡ put o (p .to) (take n (drop (p .at) s)) → q .at ≡ sum (p .at) n → q .to ≡ sum (p .to) n
       → Turned (raw n) (raw n) s p o q o'
-  turned-raw n e a b = record { turned = λ x k w f.
-      let t : take n (drop (p .at) s) ≡ x = ap (λ m. take m (drop (p .at) s)) (sym k) ∙ part-taken w in
-      done x x w f (e ∙ ap (put o (p .to)) t) (a ∙ ap (sum (p .at)) (sym k)) (b ∙ ap (sum (p .to)) (sym k)) }
+  turned-raw n e a b = record {
+    turned = λ x k w f.
+        let t : take n (drop (p .at) s) ≡ x = ap (λ m. take m (drop (p .at) s)) (sym k) ∙ part-taken w in
+        done x x w f (e ∙ ap (put o (p .to)) t) (a ∙ ap (sum (p .at)) (sym k)) (b ∙ ap (sum (p .to)) (sym k));
+  }
 
 -- ---- a byte of reserved bits, a value and a flag
 
@@ -136,27 +138,31 @@ module _ (s o : List ℕ) (ls : length s < 2 ^ 64) (lo : length o < 2 ^ 64) (p :
 
   pub turned-pack : (v : Bool) (x : ℕ) → x ≡ (256 - 2 * spanOf v + getD s (p .at) 0 * 2 + getD s (sum (p .at) 1) 0) % 256 → {q : Place} {o' : List ℕ}
       → o' ≡ put o (p .to) (x ∷ []) → q .at ≡ sum (p .at) 2 → q .to ≡ sum (p .to) 1 → Turned (sheetItem (special v)) (sectionItem (special v)) s p o q o'
-  turned-pack v x is {q} {o'} e a b = record { turned = λ vs k w f.
-      let t = two-of v vs k in
-      let y : List ℕ = t .kept-value ∷ t .kept-flag ∷ [] in
-      let w' : Part s (p .at) y = subst (Part s (p .at)) (t .in-sheet) w in
-      let r = two-read (t .kept-value) (t .kept-flag) w' in
-      let i : x ≡ (256 - 2 * spanOf v + t .kept-value * 2 + t .kept-flag) % 256 = is ∙ ap₂ (λ m n. (256 - 2 * spanOf v + m * 2 + n) % 256) (r .0) (r .1) in
-      let u : x ∷ [] ≡ sectionItem (special v) .show vs = ap (λ z. z ∷ []) i ∙ sym (t .in-section) in
-      done s o ls lo p (sheetItem (special v) .show vs) (sectionItem (special v) .show vs) w f (e ∙ ap (put o (p .to)) u)
-      (a ∙ ap (λ l. sum (p .at) (length l)) (sym (t .in-sheet))) (b ∙ ap (λ l. sum (p .to) (length l)) u) }
+  turned-pack v x is {q} {o'} e a b = record {
+    turned = λ vs k w f.
+        let t = two-of v vs k in
+        let y : List ℕ = t .kept-value ∷ t .kept-flag ∷ [] in
+        let w' : Part s (p .at) y = subst (Part s (p .at)) (t .in-sheet) w in
+        let r = two-read (t .kept-value) (t .kept-flag) w' in
+        let i : x ≡ (256 - 2 * spanOf v + t .kept-value * 2 + t .kept-flag) % 256 = is ∙ ap₂ (λ m n. (256 - 2 * spanOf v + m * 2 + n) % 256) (r .0) (r .1) in
+        let u : x ∷ [] ≡ sectionItem (special v) .show vs = ap (λ z. z ∷ []) i ∙ sym (t .in-section) in
+        done s o ls lo p (sheetItem (special v) .show vs) (sectionItem (special v) .show vs) w f (e ∙ ap (put o (p .to)) u)
+        (a ∙ ap (λ l. sum (p .at) (length l)) (sym (t .in-sheet))) (b ∙ ap (λ l. sum (p .to) (length l)) u);
+  }
 
   pub turned-unpack : (v : Bool) (i j : ℕ) → i ≡ getD s (p .at) 0 / 2 % spanOf v → j ≡ getD s (p .at) 0 % 2 → {q : Place} {o' : List ℕ}
       → o' ≡ put (put o (p .to) (i ∷ [])) (sum (p .to) 1) (j ∷ []) → q .at ≡ sum (p .at) 1 → q .to ≡ sum (p .to) 2
       → Turned (sectionItem (special v)) (sheetItem (special v)) s p o q o'
-  turned-unpack v i j hi hj {q} {o'} e a b = record { turned = λ vs k w f.
-      let t = byte-of v vs k in
-      let r : getD s (p .at) 0 ≡ t .x = part-first-byte (t .x ∷ []) (subst (Part s (p .at)) (t .in-section) w) (omega arith) in
-      let u : i ∷ j ∷ [] ≡ sheetItem (special v) .show vs = ap₂ (λ m n. m ∷ n ∷ []) (hi ∙ ap (λ z. z / 2 % spanOf v) r) (hj ∙ ap (λ z. z % 2) r) ∙ sym (t .in-sheet) in
-      let l = ap length u in
-      done s o ls lo p (sectionItem (special v) .show vs) (sheetItem (special v) .show vs) w f
-      (e ∙ two-put i j (omega arith) ∙ ap (put o (p .to)) u)
-      (a ∙ ap (λ l. sum (p .at) (length l)) (sym (t .in-section))) (b ∙ ap (λ l. sum (p .to) (length l)) u) }
+  turned-unpack v i j hi hj {q} {o'} e a b = record {
+    turned = λ vs k w f.
+        let t = byte-of v vs k in
+        let r : getD s (p .at) 0 ≡ t .x = part-first-byte (t .x ∷ []) (subst (Part s (p .at)) (t .in-section) w) (omega arith) in
+        let u : i ∷ j ∷ [] ≡ sheetItem (special v) .show vs = ap₂ (λ m n. m ∷ n ∷ []) (hi ∙ ap (λ z. z / 2 % spanOf v) r) (hj ∙ ap (λ z. z % 2) r) ∙ sym (t .in-sheet) in
+        let l = ap length u in
+        done s o ls lo p (sectionItem (special v) .show vs) (sheetItem (special v) .show vs) w f
+        (e ∙ two-put i j (omega arith) ∙ ap (put o (p .to)) u)
+        (a ∙ ap (λ l. sum (p .at) (length l)) (sym (t .in-section))) (b ∙ ap (λ l. sum (p .to) (length l)) u);
+  }
 
   -- ---- a byte of reserved bits
 

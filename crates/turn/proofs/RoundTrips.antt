@@ -80,11 +80,11 @@ from-section n s t w e = roomy (ltb n 5120) e
 
 -- ---- and when it does
 
-to-section : (n : ℕ) (s : List ℕ) (c : Content) → 4096 ≤ n → readSheet s ≡ reading.value c → toSection n s ≡ gives (sectionOf c)
+pub to-section : (n : ℕ) (s : List ℕ) (c : Content) → 4096 ≤ n → readSheet s ≡ reading.value c → toSection n s ≡ gives (sectionOf c)
 unfolding toSection
 to-section n s c h e = rw (le-ltb n 4096 h, e) refl
 
-to-sheet : (n : ℕ) (s : List ℕ) (c : Content) → 5120 ≤ n → judged s ≡ verdict.accepted → contentOf s ≡ reading.value c → toSheet n s ≡ gives (sheetOf c)
+pub to-sheet : (n : ℕ) (s : List ℕ) (c : Content) → 5120 ≤ n → judged s ≡ verdict.accepted → contentOf s ≡ reading.value c → toSheet n s ≡ gives (sheetOf c)
 unfolding toSheet
 to-sheet n s c h e f = rw (le-ltb n 5120 h, e, f) refl
 

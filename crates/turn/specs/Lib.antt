@@ -3,3 +3,4 @@ pub mod Turn
 pub mod Ones
 pub mod Ways
 pub mod Bodies
+pub mod Answers

@@ -53,7 +53,14 @@ fn entries(forth: bool, row: usize, number: usize, s: &[u8], p: Place, room: &mu
 }
 
 // Entries into a section, which has room for them up to the place `end`; where the table has a top loop they have a length of their own.
-pub fn entries_forth(top: bool, row: usize, s: &[u8], p: Place, end: usize, room: &mut [u8]) -> Place
+pub fn entries_forth(
+    top: bool,
+    row: usize,
+    s: &[u8],
+    p: Place,
+    end: usize,
+    room: &mut [u8],
+) -> Place
     requires { ⌜ row < 4 ⌝ }
     ensures { λ r. ⌜ EntriesForth top row (now (s .entry)) p end (now (room .entry)) r (now (room .exit)) ⌝ }
 {
@@ -68,7 +75,15 @@ pub fn entries_forth(top: bool, row: usize, s: &[u8], p: Place, end: usize, room
 }
 
 // Entries into a sheet. Where they have no length of their own they end at the place `end`.
-pub fn entries_back(top: bool, fixed: usize, row: usize, s: &[u8], p: Place, end: usize, room: &mut [u8]) -> Place
+pub fn entries_back(
+    top: bool,
+    fixed: usize,
+    row: usize,
+    s: &[u8],
+    p: Place,
+    end: usize,
+    room: &mut [u8],
+) -> Place
     requires { ⌜ EntrySizes fixed row ⌝ }
     ensures { λ r. ⌜ EntriesBack top row (now (s .entry)) p end (now (room .entry)) r (now (room .exit)) ⌝ }
 {

@@ -50,7 +50,11 @@ fn value_of(version: bool, x: u8) -> u8
 fn pack_two(version: bool, s: &[u8], p: Place, room: &mut [u8]) -> Place
     ensures { λ r. ⌜ Turned (sheetItem (special version)) (sectionItem (special version)) (now (s .entry)) p (now (room .entry)) r (now (room .exit)) ⌝ }
 {
-    put_byte(room, p.to, joined(version, byte_at(s, p.at), byte_at(s, past(p.at, 1))));
+    put_byte(
+        room,
+        p.to,
+        joined(version, byte_at(s, p.at), byte_at(s, past(p.at, 1))),
+    );
     Place {
         at: past(p.at, 2),
         to: past(p.to, 1),

@@ -50,10 +50,11 @@ loop-again c =
     let q = c .before .before .before .before .loop .p in
     let m = sum-more q (2 + c .before .wide .result) (length l) (c .before .before .before .loop-test .taken) (c .before .before .before .before .before .before .good .0 .0) (two (c .before .wide .result)) in
     let e = c .past .ensures in
-    let n : 2 + c .before .wide .result ≡ 2 + getD l (q + 1) 0 = ap (λ x. 2 + x) (c .before .wide .ensures .same ∙ c .before .before .byte-at .ensures) in
-    (omega (arith, c .before .before .before .before .loop .inv .0),
-    count-on descriptor descriptor-full l q (c .before .before .before .before .loop .k) (c .past .result)
-    (λ a r o z. e ∙ ap (sum q) (n ∙ descriptor-size a r l q z)) (c .before .before .before .loop-test .taken) (c .before .before .before .before .before .before .good .0 .0) (c .before .before .before .before .loop .inv .1))
+    let n : 2 + c .before .wide .result ≡ 2 + getD l (q + 1) 0 = ap (λ x. 2 + x) (c .before .wide .ensures .same ∙ c .before .before .byte-at .ensures) in (
+      omega (arith, c .before .before .before .before .loop .inv .0),
+      count-on descriptor descriptor-full l q (c .before .before .before .before .loop .k) (c .past .result)
+          (λ a r o z. e ∙ ap (sum q) (n ∙ descriptor-size a r l q z)) (c .before .before .before .loop-test .taken) (c .before .before .before .before .before .before .good .0 .0) (c .before .before .before .before .loop .inv .1),
+    )
 
 returns : tie.Need-returns Inv-loop μ-loop
 returns c = count-ends descriptor descriptor-full (c .before .before .before .args .bytes .now) (c .before .loop .p) (c .before .loop .k) (omega arith) (c .before .loop .inv .1)

@@ -53,10 +53,11 @@ loop-again c =
     let q = c .before .before .before .before .loop .p in
     let m = sum-more q (c .before .before .before .before .before .before .args .fixed + c .before .length12-at .result) (length l) (c .before .before .before .loop-test .taken) (c .before .before .before .before .before .before .good .0 .0) (some (c .before .before .before .before .before .before .args .fixed) (c .before .before .before .before .before .before .args .row) (c .before .before .before .before .before .before .pre) (c .before .length12-at .result)) in
     let e = c .past2 .ensures in
-    let n : c .before .before .before .before .before .before .args .fixed + c .before .length12-at .result ≡ c .before .before .before .before .before .before .args .fixed + len12At l (sum q (c .before .before .before .before .before .before .args .fixed - 2)) = ap (λ x. c .before .before .before .before .before .before .args .fixed + x) (c .before .length12-at .ensures .same ∙ ap (len12At l) (c .before .before .past .ensures)) in
-    (omega (arith, c .before .before .before .before .loop .inv .0),
-    count-on (sectionEntry (c .before .before .before .before .before .before .args .row)) (entry-full (c .before .before .before .before .before .before .args .row)) l q (c .before .before .before .before .loop .k) (c .past2 .result)
-    (λ a r o z. e ∙ ap (sum q) (n ∙ entry-size (c .before .before .before .before .before .before .args .fixed) (c .before .before .before .before .before .before .args .row) (c .before .before .before .before .before .before .pre) a r l q (c .before .before .before .before .before .before .good .0 .0) o z)) (c .before .before .before .loop-test .taken) (c .before .before .before .before .before .before .good .0 .0) (c .before .before .before .before .loop .inv .1))
+    let n : c .before .before .before .before .before .before .args .fixed + c .before .length12-at .result ≡ c .before .before .before .before .before .before .args .fixed + len12At l (sum q (c .before .before .before .before .before .before .args .fixed - 2)) = ap (λ x. c .before .before .before .before .before .before .args .fixed + x) (c .before .length12-at .ensures .same ∙ ap (len12At l) (c .before .before .past .ensures)) in (
+      omega (arith, c .before .before .before .before .loop .inv .0),
+      count-on (sectionEntry (c .before .before .before .before .before .before .args .row)) (entry-full (c .before .before .before .before .before .before .args .row)) l q (c .before .before .before .before .loop .k) (c .past2 .result)
+          (λ a r o z. e ∙ ap (sum q) (n ∙ entry-size (c .before .before .before .before .before .before .args .fixed) (c .before .before .before .before .before .before .args .row) (c .before .before .before .before .before .before .pre) a r l q (c .before .before .before .before .before .before .good .0 .0) o z)) (c .before .before .before .loop-test .taken) (c .before .before .before .before .before .before .good .0 .0) (c .before .before .before .before .loop .inv .1),
+    )
 
 returns : tie.Need-returns Inv-loop μ-loop
 returns c = count-ends (sectionEntry (c .before .before .before .args .row)) (entry-full (c .before .before .before .args .row)) (c .before .before .before .args .bytes .now) (c .before .loop .p) (c .before .loop .k) (omega arith) (c .before .loop .inv .1)

@@ -1,0 +1,81 @@
+// A whole section or sheet, at the room's start.
+ghost use mathlib.Core.Path.{_≡_};
+ghost use Prim.Native.Nat.{_/_, _%_};
+ghost use lib.ListN.{take};
+ghost use lib.Dec.{eqb};
+ghost use Rattle.wire.specs.If.{if_then_else_};
+ghost use Rattle.crc.specs.Crc.{crc};
+ghost use Rattle.forms.specs.Room.{sum};
+ghost use Rattle.turn.specs.Ways.{putNumber};
+ghost use Rattle.turn.specs.Bodies.{SectionWritten, SheetWritten};
+use crate::bodies::body_back;
+use crate::bodies::body_forth;
+use crate::bodies::is_one;
+use crate::descriptors::put_number;
+use forms::Place;
+use forms::past;
+use forms::put_byte;
+use tables::row_at;
+use wire::less;
+use wire::numbers::byte_at;
+use wire::parts::part;
+
+// The syntax bit and the reserved bits before section_length, in two bytes.
+fn leading(syntax: usize) -> usize
+    ensures { λ r. ⌜ r ≡ (if eqb syntax 1 then 0xF000 else 0x7000) ⌝ }
+{
+    if is_one(syntax) {
+        return 0xF000;
+    }
+    0x7000
+}
+
+// The bytes of a CRC_32, where the table has one.
+fn crc_size(crc: usize) -> usize
+    ensures { λ r. ⌜ r ≡ (if eqb crc 1 then 4 else 0) ⌝ }
+{
+    if is_one(crc) {
+        return 4;
+    }
+    0
+}
+
+// The CRC_32 of what stands before the place `end` is put there.
+fn seal(room: &mut [u8], end: usize)
+    ensures { λ _. ⌜ now (room .exit) ≡ putNumber (putNumber (now (room .entry)) end (crc (take end (now (room .entry))) / 65536)) (sum end 2) (crc (take end (now (room .entry))) % 65536) ⌝ }
+{
+    let register = crc::crc32(part(room, 0, end)) as usize;
+    put_number(room, end, register / 65536);
+    put_number(room, past(end, 2), register % 65536);
+}
+
+// The section of a sheet that was judged; n is its section_length.
+pub fn write_section(sheet: &[u8], n: usize, number: usize, room: &mut [u8])
+    ensures { λ _. ⌜ SectionWritten (now (sheet .entry)) n number (now (room .entry)) (now (room .exit)) ⌝ }
+{
+    if 6 <= number {
+        return;
+    }
+    let row = row_at(number);
+    let end = less(past(n, 3), crc_size(row.crc));
+    put_byte(room, 0, byte_at(sheet, 0));
+    put_number(room, 1, past(leading(row.syntax), n));
+    body_forth(number, sheet, Place { at: 1, to: 3 }, end, room);
+    if is_one(row.crc) {
+        seal(room, end);
+    }
+}
+
+// The sheet of a section that was judged, and its length.
+pub fn write_sheet(section: &[u8], number: usize, room: &mut [u8]) -> usize
+    ensures { λ r. ⌜ SheetWritten (now (section .entry)) number (now (room .entry)) r (now (room .exit)) ⌝ }
+{
+    if 6 <= number {
+        return 0;
+    }
+    let row = row_at(number);
+    let end = less(section.len(), crc_size(row.crc));
+    put_byte(room, 0, byte_at(section, 0));
+    let q = body_back(number, section, Place { at: 3, to: 1 }, end, room);
+    q.to
+}
