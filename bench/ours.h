@@ -1,0 +1,16 @@
+/* The archive that `archive` makes. A slice goes as a pointer and a length. */
+#ifndef OURS_H
+#define OURS_H
+#include <stddef.h>
+#include <stdint.h>
+
+/* pid, last counter or 16 for none, bytes in hand, pointer, delivered, broken, filler, skipped */
+typedef uint32_t record[8];
+/* sections * 65536 + bytes of a packet taken; REPEATED and up for the rest */
+enum { REPEATED = 0xFFFFFFFE };
+extern uint64_t timed_collect(record *, uint8_t *hold, size_t, uint8_t *out, size_t, const uint8_t *packet, size_t);
+/* the refusal's number, 0 for none */
+extern uint32_t timed_judge(const uint8_t *section, size_t);
+extern uint32_t timed_crc32(const uint8_t *, size_t);
+
+#endif
