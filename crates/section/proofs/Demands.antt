@@ -4,10 +4,10 @@ use mathlib.Core.Path.{_≡_, refl, sym, _∙_}
 use mathlib.Core.List.{List, [], _∷_}
 use native.Mathlib.Omega.{arith}
 use Rattle.tables.specs.Tables.{cell, holds, first, rowOf}
-use Rattle.verdict.specs.Verdict.{Said, accepted, refused, numberOf}
+use Rattle.verdict.specs.Verdict.{Said, accepted, refused}
 use Rattle.section.specs.Reading.{_andThen_, opening, wrongSyntax, lengthOutside, sizeDiffers, crcFails, aboveLast, header, plain, inside, read, judged}
 use Rattle.section.specs.Demands.{AcceptsExactlyIf, RefusesExactlyIf, RefusesEverything, SingleAnswer}
-use Rattle.section.proofs.Exactly.{Claims, verdict-true, accepted-exactly-if, refused-exactly-if}
+use Rattle.section.proofs.Exactly.{Claims, verdict-true, accepted-exactly-if}
 
 -- a TDT, which has no CRC_32 to compute
 abbrev tdt : List ℕ

@@ -1,7 +1,7 @@
 -- A delivery system's frequency is the number that the first eight digits of its body are.
 use Prim.Native.Nat.{ℕ}
 use mathlib.Core.Path.{_≡_, refl, sym, ap, _∙_}
-use mathlib.Core.List.{List, [], _∷_, _++_}
+use mathlib.Core.List.{List, _∷_, _++_}
 use lib.Dec.{eqb}
 use lib.ListN.{length}
 use Rattle.wire.specs.If.{if-case}
@@ -13,7 +13,7 @@ use Rattle.delivery.specs.Cable.{fields as cableFields, cable}
 use Rattle.delivery.specs.Satellite.{fields as satelliteFields, satellite}
 use Rattle.delivery.specs.declared.cable.Cable.{Cable}
 use Rattle.delivery.specs.declared.satellite.Satellite.{Satellite}
-use Rattle.worked.specs.Worked.{Counted, zeros, holds, cableSteps, satelliteSteps}
+use Rattle.worked.specs.Worked.{zeros, holds, cableSteps, satelliteSteps}
 
 -- the body of a descriptor of eleven bytes
 body-is : (tag : ℕ) (l b : List ℕ) → fixed 11 tag (tag ∷ 11 ∷ l) ≡ value b → l ≡ b

@@ -1,6 +1,5 @@
 -- Document 01, "Worked values (starred: proved, as a single list under a single statement)". Most of them the checker computes.
 use mathlib.Core.Path.{refl}
-use mathlib.Core.List.{[], _∷_}
 use native.Mathlib.Omega.{arith}
 use Rattle.wire.specs.Number.{numberAt}
 use Rattle.wire.specs.Digits.{bcdAfter, bcdOf}

@@ -6,7 +6,6 @@ use mathlib.Core.List.{List, [], _∷_, _++_}
 use lib.ListN.{getD, take, set}
 use Rattle.wire.specs.Reading.{Reading, value, refused, _>>=_}
 use Rattle.wire.specs.Number.{numberAt}
-use Rattle.wire.specs.Trail.{Trail}
 use Rattle.verdict.specs.Verdict.{Said, accepted, refused as refusedAt}
 use Rattle.section.specs.Reading.{judged}
 use Rattle.clock.specs.Time.{timeOf}
