@@ -1,17 +1,16 @@
 -- What is read next is entered next: where reading stands after each way through a turn.
-use mathlib.Core.Path.{_≡_, refl, sym, ap, _∙_, subst}
+use mathlib.Core.Path.{_≡_, refl, sym, ap, _∙_}
 use mathlib.Core.Bool.{Bool, true, false}
-use mathlib.Core.List.{List, [], _∷_, _++_, append-nil}
-use mathlib.Core.Logic.{⊎-elim}
-use Prim.Native.Nat.{ℕ, _+_, _-_, _*_, _/_, _%_, _≤_, _<_}
+use mathlib.Core.List.{List, [], _++_}
+use Prim.Native.Nat.{ℕ, _+_, _-_, _/_, _%_, _≤_, _<_}
 use native.Mathlib.Omega.{arith}
-use lib.ListN.{length, take, drop, getD, length-append, length-take, length-drop, take-append-drop}
+use lib.ListN.{length, take, drop, length-append, length-drop, take-append-drop}
 use lib.Seq.{length-take-le, take-take, take-add, drop-at, drop-drop}
 use lib.Dec.{leb, eqb}
 use borrow.Author.Tests.{leb-true, leb-false, le-leb, lt-leb, eq-eqb, ne-eqb}
 use Rattle.wire.specs.If.{if_then_else_}
 use Rattle.account.specs.Entered.{firstPid, freshAccount, Kept, keptAs, entered, enteredAll, pieces}
-use Rattle.account.specs.Reads.{accountOf, wholeAccount, Reads, GotIn, GotSays, Moved, accountFor, EndedAs}
+use Rattle.account.specs.Reads.{accountOf, Reads, GotIn, GotSays, Moved, accountFor, EndedAs}
 use Rattle.account.specs.declared.tally.Account.{Account}
 use Rattle.account.specs.declared.input.Place.{Place}
 use Rattle.account.specs.declared.input.Got.{Got}

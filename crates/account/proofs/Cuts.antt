@@ -1,10 +1,10 @@
 -- Pieces of an input, and the account of an input that comes in two parts: however it is cut, the same packets are entered.
 use mathlib.Core.Path.{_≡_, refl, sym, ap, _∙_}
-use mathlib.Core.List.{List, [], _∷_, _++_, append-assoc}
+use mathlib.Core.List.{List, [], _∷_, _++_}
 use Prim.Native.Nat.{ℕ, zero, suc, _+_, _-_, _*_, _/_, _%_, _≤_, _<_}
 use native.Mathlib.Nat.{zero-add, suc-add}
 use native.Mathlib.Omega.{arith}
-use lib.ListN.{length, take, drop, getD, length-append, length-drop, take-append-drop, List·getD-append}
+use lib.ListN.{length, take, drop, length-append, length-drop, List·getD-append}
 use lib.Seq.{take-append-le, drop-append-le, drop-drop}
 use Rattle.account.specs.Entered.{firstPid, freshAccount, Kept, keptAs, entered, enteredAll, pieces}
 use Rattle.account.specs.Reads.{accountOf}

@@ -1,7 +1,7 @@
 -- The input, and where reading stands in it. No contract can say which bytes a read brings; these say that whatever came, and however it was cut
 -- into reads, is entered packet by packet, once and in order.
 use mathlib.Core.Path.{_≡_}
-use mathlib.Core.Bool.{Bool, true, false}
+use mathlib.Core.Bool.{true}
 use mathlib.Core.List.{List, _++_}
 use Prim.Native.Nat.{ℕ, _+_, _-_, _/_, _%_, _≤_, _<_}
 use lib.ListN.{length, take, drop}

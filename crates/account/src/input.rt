@@ -2,11 +2,10 @@
 use crate::tally;
 use crate::tally::Account;
 ghost use mathlib.Core.Path.{_≡_};
-ghost use mathlib.Core.List.{List};
-ghost use Prim.Native.Nat.{ℕ, _+_, _≤_, _<_};
-ghost use lib.ListN.{length, take};
+ghost use Prim.Native.Nat.{_+_, _≤_, _<_};
+ghost use lib.ListN.{length};
 ghost use Rattle.account.specs.Entered.{firstPid};
-ghost use Rattle.account.specs.Reads.{Reads, GotIn, GotSays, Moved, accountFor, Absorbs, Ends, Turns, EndsFor};
+ghost use Rattle.account.specs.Reads.{GotIn, GotSays, Moved, accountFor, Absorbs, Ends, Turns, EndsFor};
 
 // What reading came to: an error, fewer than 188 bytes in all, or the account.
 pub enum Ended {

@@ -7,7 +7,7 @@ use native.Mathlib.Omega.{arith}
 use borrow.Author.Tests.{ltb-true, ltb-false}
 use lib.Dec.{eqb, ltb}
 use lib.IntN.{ℤ, natAbs}
-use Rattle.wire.specs.If.{if_then_else_, if-case}
+use Rattle.wire.specs.If.{if-case}
 use Rattle.wire.specs.Reading.{value, _>>=_, value-is, never, through}
 use Rattle.wire.specs.Number.{number}
 use Rattle.wire.specs.Digits.{bcdOf}

@@ -1,7 +1,7 @@
 -- Two answers that tell the same are the same.
-use mathlib.Core.Path.{_≡_, refl, sym, ap}
+use mathlib.Core.Path.{_≡_, refl}
 use native.Mathlib.Omega.{arith}
-use Rattle.wire.specs.Reading.{value-is, refused-is, never}
+use Rattle.wire.proofs.Unique.{answer-once}
 use Rattle.clock.specs.Fault.{numbered}
 use Rattle.clock.specs.Time as time
 use Rattle.clock.specs.Duration as duration
@@ -27,19 +27,16 @@ fault-once TooEarly OutOfRange e = absurd (omega arith)
 fault-once TooEarly TooEarly e = refl
 
 pub time-once : (p q : Time) → time.told p ≡ time.told q → p ≡ q
-time-once (time-is a) (time-is b) e = ap time-is (value-is e)
-time-once (time-is a) (time-refused g) e = absurd (never e)
-time-once (time-refused f) (time-is b) e = absurd (never (sym e))
-time-once (time-refused f) (time-refused g) e = ap time-refused (fault-once f g (refused-is e))
+time-once =
+    answer-once time.told time-is time-refused numbered (λ a. refl) (λ w. refl)
+    (λ P f g r. elim r [ time-is a ↦ f a | time-refused w ↦ g w ]) fault-once
 
 pub duration-once : (p q : Duration) → duration.told p ≡ duration.told q → p ≡ q
-duration-once (duration-is a) (duration-is b) e = ap duration-is (value-is e)
-duration-once (duration-is a) (duration-refused g) e = absurd (never e)
-duration-once (duration-refused f) (duration-is b) e = absurd (never (sym e))
-duration-once (duration-refused f) (duration-refused g) e = ap duration-refused (fault-once f g (refused-is e))
+duration-once =
+    answer-once duration.told duration-is duration-refused numbered (λ a. refl) (λ w. refl)
+    (λ P f g r. elim r [ duration-is a ↦ f a | duration-refused w ↦ g w ]) fault-once
 
 pub offset-once : (p q : Offset) → offset.told p ≡ offset.told q → p ≡ q
-offset-once (Minutes a) (Minutes b) e = ap Minutes (value-is e)
-offset-once (Minutes a) (offset-refused g) e = absurd (never e)
-offset-once (offset-refused f) (Minutes b) e = absurd (never (sym e))
-offset-once (offset-refused f) (offset-refused g) e = ap offset-refused (fault-once f g (refused-is e))
+offset-once =
+    answer-once offset.told Minutes offset-refused numbered (λ a. refl) (λ w. refl)
+    (λ P f g r. elim r [ Minutes n ↦ f n | offset-refused w ↦ g w ]) fault-once

@@ -2,34 +2,32 @@
 use mathlib.Core.Path.{_≡_, refl, sym, ap, _∙_, subst}
 use mathlib.Core.Bool.{Bool, true, false, _||_}
 use mathlib.Core.List.{List, [], _∷_, _++_, append-assoc, append-nil, map, map-id, flatten}
-use mathlib.Core.Option.{Option, none, some}
-use Prim.Native.Nat.{ℕ, zero, suc, _+_, _-_, _%_, _^_, _≤_, _<_}
-use native.Mathlib.Nat.{add-zero, zero-add, mod-add-mod}
+use mathlib.Core.Option.{Option}
+use Prim.Native.Nat.{ℕ, suc, _+_, _%_, _^_, _≤_}
+use native.Mathlib.Nat.{add-zero, mod-add-mod}
 use native.Mathlib.Omega.{arith}
 use lib.ListN.{length, take, drop, length-append, length-drop}
 use lib.Seq.{take-append-seam, drop-append-seam}
-use lib.Dec.{ltb, eqb}
+use lib.Dec.{ltb}
 use borrow.Author.Tests.{ltb-false}
 use Rattle.wire.specs.If.{if_then_else_}
 use Rattle.collector.specs.Each.{Each}
-use Rattle.collector.specs.Packet.{counterOf}
-use Rattle.collector.specs.Rules.{Fate, pointer, delivered, broken, filler, skipped, in-hand, Story, sameFate, bytesOf, countOf, handOf, marked, holding, totalOf, plain, Carried, takenIn}
-use Rattle.collector.specs.Refusals.{lastOf, cannotStand, Judged, refuse, carries, judged, repeats, Ruling, repeated, takes, carriedIn, ruledOn, ruledBy, ruling}
+use Rattle.collector.specs.Rules.{Fate, pointer, delivered, broken, filler, skipped, in-hand, Story, sameFate, countOf, handOf, marked, holding, totalOf, plain, Carried, takenIn}
+use Rattle.collector.specs.Refusals.{lastOf, cannotStand, Judged, refuse, carries, judged, repeats, Ruling, repeated, takes, carriedIn, ruledBy, ruling}
 use Rattle.collector.specs.Refusals as Refusals
-use Rattle.collector.specs.Answer.{Told, Outcome}
-use Rattle.collector.specs.Answer as Answer
-use Rattle.collector.specs.Collected.{freshRecord, unaltered, recordAfter, over, takenTo, outcomeOf, collected}
+use Rattle.collector.specs.Answer.{Outcome}
+use Rattle.collector.specs.Collected.{freshRecord, recordAfter, over, takenTo, outcomeOf}
 use Rattle.collector.specs.History.{Byte, valueOf, numbered, History, unbegun, numberedIn, after, historyFrom}
-use Rattle.collector.specs.Run.{Promised, Call, Run, no-call, one-call, Fare, fareOf, ruledFare, Lent, lentOf, rulingOn, lastAfter, carriedBy, faresFrom, takenFrom, cut, handedBy, handed, bytesBy}
+use Rattle.collector.specs.Run.{Promised, Call, Run, no-call, one-call, fareOf, ruledFare, lentOf, rulingOn, lastAfter, carriedBy, faresFrom, takenFrom, cut, handedBy, handed, bytesBy}
 use Rattle.collector.specs.Demand3.{Counted}
 use Rattle.collector.specs.declared.Record.{Record}
 use Rattle.collector.proofs.Marks.{bytesOf-marked}
 use Rattle.collector.proofs.Runs.{total-prefix}
-use Rattle.collector.proofs.Beside.{Beside, bareOf, beside-taken}
-use Rattle.collector.proofs.Keeps.{each-of, keep-taken}
+use Rattle.collector.proofs.Beside.{Beside, beside-taken}
+use Rattle.collector.proofs.Keeps.{keep-taken}
 use Rattle.collector.proofs.Kept.{Any, WholeSection, AllWhole, keeps-whole}
 use Rattle.collector.proofs.Payloads.{any}
-use Rattle.collector.proofs.Table.{or-false, Carries, carries-of}
+use Rattle.collector.proofs.Table.{or-false, carries-of}
 use Rattle.collector.proofs.Stands.{Standing, standing-none, stands-taken, few-standing, stands-after}
 
 -- ---- sections cut by their own headers

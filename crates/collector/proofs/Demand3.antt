@@ -1,27 +1,26 @@
 -- Demand 3: each of its statements holds of the promise that `step` and `collect` make.
 use mathlib.Core.Path.{_≡_, refl, sym, ap, _∙_, subst}
-use mathlib.Core.Bool.{Bool, true, false, not}
+use mathlib.Core.Bool.{Bool, true, false}
 use mathlib.Core.List.{List, [], _∷_, _++_, append-assoc, append-nil, map}
-use mathlib.Core.Logic.{_↔_, _⊎_, inl, inr, ⊎-elim}
+use mathlib.Core.Logic.{_↔_, inl, inr, ⊎-elim}
 use mathlib.Core.Option.{Option, none, some}
-use Prim.Native.Nat.{ℕ, suc, _+_, _%_, _^_, _≤_, _<_}
-use native.Mathlib.Nat.{mod-add-mod}
+use Prim.Native.Nat.{ℕ, _+_, _%_, _^_, _≤_}
 use native.Mathlib.Omega.{arith}
 use lib.ListN.{length}
 use lib.Dec.{ltb, eqb}
-use borrow.Author.Tests.{le-ltb, eqb-true, eqb-false, eq-eqb, ne-eqb}
+use borrow.Author.Tests.{le-ltb, eqb-true, eqb-false}
 use Rattle.wire.specs.If.{if_then_else_}
 use Rattle.collector.specs.Each.{Each}
 use Rattle.collector.specs.Packet.{startFlag, control, counterOf, payloadFrom}
-use Rattle.collector.specs.Rules.{pointer, delivered, broken, filler, skipped, in-hand, Story, countOf, Carried}
-use Rattle.collector.specs.Refusals.{Row, refusals, firstOf, Judged, refuse, carries, judgedBy, judged, repeats, Ruling, takes, carriedIn, ruledBy, ruling}
+use Rattle.collector.specs.Rules.{pointer, delivered, broken, filler, skipped, Story, countOf, Carried}
+use Rattle.collector.specs.Refusals.{Row, refusals, firstOf, carries, judgedBy, judged, repeats, Ruling, takes, carriedIn, ruledBy}
 use Rattle.collector.specs.Refusals as Refusals
-use Rattle.collector.specs.Answer.{Told, refused}
+use Rattle.collector.specs.Answer.{refused}
 use Rattle.collector.specs.Collected.{freshRecord}
 use Rattle.collector.specs.History.{Byte, valueOf, numbered, History, unbegun, numberedIn, after, historyFrom, historyOf, payloadsFrom}
 use Rattle.collector.specs.Run.{Promised, Call, Run, Fare, taken, fareOf, ruledFare, Lent, lentOf, rulingOn, lastAfter, faresFrom, NotRefused, NotRepeated}
 use Rattle.collector.specs.Run as R
-use Rattle.collector.specs.Demand3.{TakenIf, Counted, takenBy, storyBy, HandedOut, TakenExactlyIf, ByPacketsAlone, NeverUnfit, CountersAreFates, CountersMakeUp, DeliveredInOrder, OneFateEach}
+use Rattle.collector.specs.Demand3.{TakenIf, Counted, takenBy, storyBy, TakenExactlyIf, ByPacketsAlone, NeverUnfit, CountersAreFates, CountersMakeUp, DeliveredInOrder, OneFateEach}
 use Rattle.collector.specs.declared.Record.{Record}
 use Rattle.collector.proofs.Keeps.{each-of, keep-taken}
 use Rattle.collector.proofs.Kept.{Any, Kept, keeps-kept, points-kept, kept-holding, counts-in, sumOf}

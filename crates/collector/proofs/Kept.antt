@@ -3,16 +3,15 @@
 use mathlib.Core.Path.{_≡_, refl, sym, ap, _∙_, subst}
 use mathlib.Core.Bool.{Bool, true, false}
 use mathlib.Core.List.{List, [], _∷_, _++_, append-assoc, append-nil, map, map-append, flatten}
-use Prim.Native.Nat.{ℕ, zero, suc, _+_, _≤_, _<_}
-use native.Mathlib.Nat.{add-zero}
+use Prim.Native.Nat.{ℕ, suc, _+_, _≤_}
 use native.Mathlib.Omega.{arith}
-use lib.ListN.{length, take, drop, length-append}
+use lib.ListN.{length, length-append}
 use lib.Dec.{ltb, eqb}
-use borrow.Author.Tests.{ltb-true, ltb-false, eqb-true}
+use borrow.Author.Tests.{ltb-false, eqb-true}
 use Rattle.wire.specs.If.{if_then_else_}
 use Rattle.collector.specs.Each.{Each}
-use Rattle.collector.specs.Rules.{Fate, pointer, delivered, broken, filler, skipped, in-hand, Mark, Story, sameFate, outOfHand, bytesOf, countOf, handOf, marked, given, settled, brokenOff, finished, holding, totalOf, Size, going, whole, over, sizeOf, goesOn, sectionsIn, payload}
-use Rattle.collector.proofs.Marks.{flatten-append, flatten-snoc, bytesOf-more, bytesOf-marked, settled-append, settled-marked, settled-bytes, settled-other, settled-hand, settled-twice}
+use Rattle.collector.specs.Rules.{Fate, pointer, delivered, broken, filler, skipped, in-hand, Mark, Story, sameFate, outOfHand, bytesOf, countOf, handOf, marked, given, settled, brokenOff, finished, holding, totalOf, going, whole, over, sizeOf}
+use Rattle.collector.proofs.Marks.{flatten-snoc, bytesOf-more, bytesOf-marked, settled-append, settled-marked, settled-bytes, settled-other, settled-hand, settled-twice}
 use Rattle.collector.proofs.Keeps.{each-append, Keeps}
 
 -- a byte of which nothing is asked

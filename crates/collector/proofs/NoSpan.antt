@@ -2,10 +2,10 @@
 -- and a break takes it.
 use mathlib.Core.Path.{_≡_, refl, sym, ap, _∙_, subst}
 use mathlib.Core.Bool.{Bool, true, false}
-use mathlib.Core.List.{List, [], _∷_, _++_, append-assoc, append-nil, map, map-append}
+use mathlib.Core.List.{List, [], _∷_, _++_, append-assoc, map, map-append}
 use mathlib.Core.Logic.{⊎-elim}
-use mathlib.Core.Option.{Option, none, some}
-use Prim.Native.Nat.{ℕ, zero, suc, _+_, _%_, _≤_, _<_}
+use mathlib.Core.Option.{Option, some}
+use Prim.Native.Nat.{ℕ, suc, _+_, _≤_, _<_}
 use native.Mathlib.Omega.{arith}
 use lib.ListN.{length, getD, length-append}
 use lib.Seq.{getD-at}
@@ -13,7 +13,7 @@ use borrow.Author.Tests.{eqb-true}
 use Rattle.wire.specs.If.{if_then_else_}
 use Rattle.collector.specs.Each.{Each}
 use Rattle.collector.specs.Rules.{Fate, pointer, delivered, broken, in-hand, Story, sameFate, handOf, given, settled, follows, joined, Carried}
-use Rattle.collector.specs.History.{Byte, valueOf, numbered, History, unbegun, numberedIn, after, historyFrom, historyOf, counterAt, BreakAfter, Spans, Unbroken}
+use Rattle.collector.specs.History.{Byte, valueOf, numbered, History, unbegun, after, historyFrom, counterAt, BreakAfter, Spans, Unbroken}
 use Rattle.collector.specs.Demand3.{NoSectionSpans}
 use Rattle.collector.proofs.Marks.{bytesOf-more, settled-hand}
 use Rattle.collector.proofs.Runs.{lt-or-ge}

@@ -1,25 +1,23 @@
 -- From the code's answer for a packet's payload to the outcome of the call.
 use mathlib.Core.Path.{_≡_, refl, sym, ap, _∙_, subst}
 use mathlib.Core.Bool.{Bool, true, false}
-use mathlib.Core.List.{List, [], _∷_, _++_, append-nil, map, map-id, flatten}
+use mathlib.Core.List.{List, [], _∷_, _++_, map, map-id, flatten}
 use Prim.Native.Nat.{ℕ, _+_, _%_, _^_, _≤_, _<_}
 use native.Mathlib.Nat.{zero-add, add-zero}
 use native.Mathlib.Omega.{arith}
 use lib.ListN.{length, take, drop, length-append}
-use Rattle.wire.specs.If.{if_then_else_}
-use Rattle.collector.specs.Each.{Each}
-use Rattle.collector.specs.Rules.{Fate, pointer, delivered, broken, filler, skipped, in-hand, Story, sameFate, bytesOf, countOf, handOf, marked, given, settled, brokenOff, holding, joined, plain, goesOn, payload}
+use Rattle.collector.specs.Rules.{Fate, pointer, delivered, broken, filler, skipped, in-hand, Story, bytesOf, countOf, handOf, marked, given, brokenOff, holding, joined, plain, goesOn, payload}
 use Rattle.collector.specs.Answer as Answer
 use Rattle.collector.specs.Answer.{came}
 use Rattle.collector.specs.Collected.{over, recordAfter, takenTo}
-use Rattle.collector.specs.Inside.{CanStand, Fit, Ends, Small, pointCount, countedOf}
+use Rattle.collector.specs.Inside.{Fit, Ends, Small, pointCount, countedOf}
 use Rattle.collector.specs.declared.Record.{Record}
 use Rattle.collector.specs.declared.Last.the-variants.{Counter}
 use Rattle.collector.specs.declared.Answer.the-variants.{Taken}
 use Rattle.collector.specs.declared.stretch.Came.{Came}
 use Rattle.collector.proofs.Marks.{bytesOf-more, bytesOf-marked, settled-hand, settled-marked}
 use Rattle.collector.proofs.Beside.{Beside, beside-payload}
-use Rattle.collector.proofs.Keeps.{each-of, keep-goes, keep-sections, keep-payload}
+use Rattle.collector.proofs.Keeps.{keep-goes, keep-sections, keep-payload}
 use Rattle.collector.proofs.Kept.{Any, Kept, keeps-kept, points-kept, kept-holding, delivered-in, keeps-points}
 use Rattle.collector.proofs.Payloads.{plain-sections, any, same-hand, more-sections, small-of}
 

@@ -2,24 +2,23 @@
 use mathlib.Core.Path.{_≡_, refl, sym, ap, _∙_, subst}
 use mathlib.Core.Bool.{Bool, true, false}
 use mathlib.Core.List.{List, [], _∷_, _++_, append-assoc, append-nil, map, map-id, flatten}
-use mathlib.Core.Option.{Option}
-use Prim.Native.Nat.{ℕ, zero, suc, _+_, _-_, _%_, _^_, _≤_, _<_}
-use native.Mathlib.Nat.{add-zero, zero-add}
+use Prim.Native.Nat.{ℕ, _+_, _-_, _≤_, _<_}
+use native.Mathlib.Nat.{add-zero}
 use native.Mathlib.Numerals.{add-one}
 use native.Mathlib.Omega.{arith}
-use lib.ListN.{length, take, drop, getD, length-append, length-drop, length-take, take-append-drop}
-use lib.Seq.{take-all, take-append-seam, drop-append-add, drop-drop, drop-cons, length-take-le}
+use lib.ListN.{length, take, drop, getD, length-append, length-drop}
+use lib.Seq.{take-all, take-append-seam, drop-append-add, drop-drop, drop-cons}
 use Rattle.wire.specs.If.{if_then_else_}
 use Rattle.collector.specs.Each.{Each}
-use Rattle.collector.specs.Rules.{Fate, pointer, delivered, broken, filler, skipped, in-hand, Story, sameFate, bytesOf, countOf, handOf, marked, given, settled, brokenOff, holding, joined, plain, goesOn, sectionsIn, started, payload}
+use Rattle.collector.specs.Rules.{Fate, pointer, broken, filler, skipped, in-hand, Story, sameFate, bytesOf, countOf, handOf, marked, given, brokenOff, holding, plain, goesOn, sectionsIn, started, payload}
 use Rattle.collector.specs.Collected.{over}
-use Rattle.collector.specs.Inside.{Ends, Small, bothOf, pointCount}
+use Rattle.collector.specs.Inside.{Ends, Small, bothOf}
 use Rattle.collector.specs.declared.stretch.Came.{Came}
-use Rattle.collector.proofs.Marks.{flatten-append, bytesOf-more, bytesOf-marked, settled-hand}
+use Rattle.collector.proofs.Marks.{flatten-append, bytesOf-more, settled-hand}
 use Rattle.collector.proofs.Rooms.{ends-as}
 use Rattle.collector.proofs.Beside.{Beside, beside-broken, beside-goes, beside-sections}
 use Rattle.collector.proofs.Keeps.{each-of, keep-goes, keep-sections}
-use Rattle.collector.proofs.Kept.{Any, Kept, keeps-kept, kept-holding, counts-in, delivered-in, few-in, keeps-points}
+use Rattle.collector.proofs.Kept.{Any, Kept, keeps-kept, kept-holding, counts-in, delivered-in, few-in}
 
 -- ---- beside, over bare numbers
 

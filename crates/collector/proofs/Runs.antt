@@ -1,16 +1,16 @@
 -- Whole runs of bytes under the byte-at-a-time rules: what the code does at once.
 use mathlib.Core.Path.{_≡_, refl, sym, ap, _∙_, subst}
 use mathlib.Core.Bool.{Bool, true, false}
-use mathlib.Core.List.{List, [], _∷_, _++_, append-assoc, append-nil, map, map-id}
+use mathlib.Core.List.{List, [], _∷_, _++_, append-assoc, append-nil, map-id}
 use mathlib.Core.Logic.{_⊎_, inl, inr, ⊎-elim}
 use Prim.Native.Nat.{ℕ, zero, suc, _+_, _-_, _≤_, _<_}
 use native.Mathlib.Omega.{arith}
-use lib.ListN.{length, take, drop, getD, length-append, length-take, length-drop, List·getD-append, take-append-drop}
-use lib.Seq.{split-at, take-suc, take-append-add}
-use lib.Dec.{ltb, eqb}
+use lib.ListN.{length, take, drop, getD, length-append, length-take, List·getD-append, take-append-drop}
+use lib.Seq.{split-at, take-suc}
+use lib.Dec.{ltb}
 use borrow.Author.Tests.{ltb-true, ltb-false, lt-ltb, le-ltb, eq-eqb, ne-eqb}
-use Rattle.collector.specs.Rules.{Fate, broken, in-hand, Mark, Story, handOf, marked, given, settled, brokenOff, finished, Mode, begin, inside, filling, skipping, breaking, Next, totalOf, Size, going, whole, over, sizeOf, grown, plain, byteIn, stretch}
-use Rattle.collector.proofs.Marks.{bytesOf-append, bytesOf-more, marked-append, settled-append, settled-marked}
+use Rattle.collector.specs.Rules.{Fate, broken, in-hand, Mark, Story, handOf, marked, given, settled, brokenOff, finished, Mode, inside, breaking, Next, totalOf, Size, going, whole, over, sizeOf, grown, plain, byteIn, stretch}
+use Rattle.collector.proofs.Marks.{bytesOf-more, marked-append, settled-append, settled-marked}
 
 lt-at : (a b : ℕ) (t : Bool) → ltb a b ≡ t → (a < b) ⊎ (b ≤ a)
 lt-at a b true e = inl (ltb-true a b e)

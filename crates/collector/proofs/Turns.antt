@@ -1,17 +1,16 @@
 -- The turns of the loop over the sections of a stretch.
 use mathlib.Core.Path.{_≡_, refl, sym, ap, _∙_, subst}
 use mathlib.Core.Bool.{Bool, true, false}
-use mathlib.Core.List.{List, [], _∷_, _++_, append-assoc, append-nil, flatten}
+use mathlib.Core.List.{List, [], _∷_, _++_, append-assoc, flatten}
 use mathlib.Core.Logic.{⊎-elim}
 use Prim.Native.Nat.{ℕ, zero, suc, _+_, _-_, _≤_, _<_}
-use native.Mathlib.Nat.{add-zero}
 use native.Mathlib.Omega.{arith}
 use lib.ListN.{length, take, drop, getD, length-append, length-drop, drop-of-length-le}
 use lib.Seq.{paste, length-paste, drop-drop, drop-cons, length-take-le, take-all}
 use lib.Dec.{eqb}
 use borrow.Author.Tests.{eq-eqb, ne-eqb}
 use Rattle.wire.specs.If.{if_then_else_}
-use Rattle.collector.specs.Rules.{Fate, delivered, broken, filler, skipped, in-hand, Mark, Story, sameFate, bytesOf, countOf, handOf, marked, given, settled, brokenOff, finished, holding, begin, inside, filling, breaking, Next, totalOf, begun, plain, stretch, sectionsIn}
+use Rattle.collector.specs.Rules.{Fate, delivered, broken, filler, skipped, in-hand, Mark, Story, sameFate, bytesOf, handOf, marked, given, settled, brokenOff, finished, holding, begin, inside, filling, Next, totalOf, begun, plain, stretch, sectionsIn}
 use Rattle.collector.specs.Collected.{over}
 use Rattle.collector.specs.Inside.{LookSays, Ends}
 use Rattle.collector.specs.declared.stretch.Look.{Look}

@@ -1,20 +1,19 @@
 -- Each wrong collector of document 01's last chapter is shut out by one of demand 3's statements, on the worked packet or its section.
 use mathlib.Core.Path.{_≡_, refl, ap}
 use mathlib.Core.Logic.{inr}
-use mathlib.Core.List.{List, [], _∷_, map}
+use mathlib.Core.List.{List, [], _∷_}
 use mathlib.Core.Option.{none}
-use Prim.Native.Nat.{ℕ, _%_, _^_}
+use Prim.Native.Nat.{ℕ}
 use native.Mathlib.Omega.{arith}
 use lib.ListN.{length}
-use Rattle.collector.specs.Rules.{sizeOf, follows, filler, countOf}
+use Rattle.collector.specs.Rules.{sizeOf, follows}
 use Rattle.collector.specs.Refusals.{cannotStand, judged, repeats}
-use Rattle.collector.specs.Answer.{Told, Outcome, refused, repeated, taken}
+use Rattle.collector.specs.Answer.{Outcome, refused, repeated, taken}
 use Rattle.collector.specs.Collected.{freshRecord, collected}
-use Rattle.collector.specs.Run.{Collector, Call, Run, no-call, one-call, Fare, fareOf, Lent, NotRefused, NotRepeated}
+use Rattle.collector.specs.Run.{Call, no-call, one-call, Fare, NotRefused, NotRepeated}
 use Rattle.collector.specs.Run as R
 use Rattle.collector.specs.Demand3.{TakenExactlyIf, CountersAreFates, DeliveredInOrder}
 use Rattle.collector.specs.WrongCollectors.{RefusesEvery, CallsRepeated, DoesNothing, Pretends, InventsCounters, invented, worked, short, hold₀, out₀}
-use Rattle.collector.specs.declared.Record.{Record}
 
 -- a call with a packet, as an outcome tells it
 abbrev callOf : List ℕ → Outcome → Call

@@ -1,5 +1,5 @@
 -- What one call of the collector comes to, for every record, hold, out room and packet.
-use mathlib.Core.List.{List, [], _∷_, _++_, flatten}
+use mathlib.Core.List.{List, _++_, flatten}
 use Prim.Native.Nat.{ℕ, _+_, _%_, _^_}
 use lib.ListN.{length, take, drop}
 use Rattle.collector.specs.Rules.{pointer, delivered, broken, filler, skipped, Story, countOf, handOf, holding, plain, takenIn}

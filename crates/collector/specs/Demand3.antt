@@ -7,11 +7,11 @@ use mathlib.Core.Option.{Option, none}
 use Prim.Native.Nat.{ℕ, _+_, _%_, _^_, _≤_}
 use lib.ListN.{length, take}
 use Rattle.collector.specs.Each.{Each}
-use Rattle.collector.specs.Rules.{pointer, delivered, broken, filler, skipped, in-hand, Mark, Story, bytesOf, countOf, handOf, Carried}
-use Rattle.collector.specs.Answer.{Told, refused}
+use Rattle.collector.specs.Rules.{pointer, delivered, broken, filler, skipped, in-hand, Story, bytesOf, countOf, handOf, Carried}
+use Rattle.collector.specs.Answer.{refused}
 use Rattle.collector.specs.Collected.{freshRecord}
-use Rattle.collector.specs.History.{Byte, valueOf, History, historyOf, payloadsFrom, Unbroken}
-use Rattle.collector.specs.Run.{Collector, Call, Run, Fare, taken, fareOf, Lent, lentOf, rulingOn, lastAfter, faresFrom, takenFrom, NotRefused, NotRepeated, handedBy, handed, bytesBy}
+use Rattle.collector.specs.History.{Byte, valueOf, historyOf, payloadsFrom, Unbroken}
+use Rattle.collector.specs.Run.{Collector, Call, Run, taken, fareOf, lentOf, rulingOn, lastAfter, faresFrom, takenFrom, NotRefused, NotRepeated, handedBy, handed, bytesBy}
 use Rattle.collector.specs.declared.Record.{Record}
 
 -- "A packet is taken exactly if it is neither refused nor, by document 01's rule, repeated." Each call is held against the packets before it.

@@ -1,16 +1,16 @@
 -- A sequence of calls of a collector, "the out room being any at each call", and how the packets of one fare by the packets alone.
 use mathlib.Core.Path.{_≡_}
 use mathlib.Core.Logic.{_⊎_}
-use mathlib.Core.Bool.{Bool, false}
-use mathlib.Core.List.{List, [], _∷_, _++_, map}
-use mathlib.Core.Option.{Option, none, some}
+use mathlib.Core.Bool.{false}
+use mathlib.Core.List.{List, [], _∷_, _++_}
+use mathlib.Core.Option.{Option, some}
 use Prim.Native.Nat.{ℕ, zero, suc}
 use lib.ListN.{length, take, drop}
 use lib.Dec.{ltb}
 use Rattle.collector.specs.Each.{Each}
 use Rattle.collector.specs.Packet.{control, counterOf}
 use Rattle.collector.specs.Rules.{totalOf, Carried}
-use Rattle.collector.specs.Refusals.{Row, refusals, repeats, Ruling, ruling}
+use Rattle.collector.specs.Refusals.{refusals, repeats, Ruling, ruling}
 use Rattle.collector.specs.Refusals as Refusals
 use Rattle.collector.specs.Answer.{Told, Outcome}
 use Rattle.collector.specs.Answer as Answer

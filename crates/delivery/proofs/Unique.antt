@@ -1,6 +1,7 @@
 -- Two answers that tell the same are the same.
-use mathlib.Core.Path.{_≡_, sym, ap}
-use Rattle.wire.specs.Reading.{value-is, refused-is, never}
+use mathlib.Core.Path.{_≡_, refl}
+use Rattle.wire.proofs.Unique.{answer-once}
+use Rattle.layout.specs.Refusal.{numbered}
 use Rattle.layout.proofs.Unique.{refusal-once}
 use Rattle.delivery.specs.Satellite as satellite
 use Rattle.delivery.specs.declared.satellite.Answer.{Answer as Satellite}
@@ -13,19 +14,16 @@ use Rattle.delivery.specs.declared.terrestrial.Answer.{Answer as Terrest
 use Rattle.delivery.specs.declared.terrestrial.Answer.the-variants.{Is as terrestrial-is, Refused as terrestrial-refused}
 
 pub satellite-once : (p q : Satellite) → satellite.told p ≡ satellite.told q → p ≡ q
-satellite-once (satellite-is a) (satellite-is b) e = ap satellite-is (value-is e)
-satellite-once (satellite-is a) (satellite-refused w) e = absurd (never e)
-satellite-once (satellite-refused v) (satellite-is b) e = absurd (never (sym e))
-satellite-once (satellite-refused v) (satellite-refused w) e = ap satellite-refused (refusal-once v w (refused-is e))
+satellite-once =
+    answer-once satellite.told satellite-is satellite-refused numbered (λ a. refl) (λ w. refl)
+    (λ P f g r. elim r [ satellite-is a ↦ f a | satellite-refused w ↦ g w ]) refusal-once
 
 pub cable-once : (p q : Cable) → cable.told p ≡ cable.told q → p ≡ q
-cable-once (cable-is a) (cable-is b) e = ap cable-is (value-is e)
-cable-once (cable-is a) (cable-refused w) e = absurd (never e)
-cable-once (cable-refused v) (cable-is b) e = absurd (never (sym e))
-cable-once (cable-refused v) (cable-refused w) e = ap cable-refused (refusal-once v w (refused-is e))
+cable-once =
+    answer-once cable.told cable-is cable-refused numbered (λ a. refl) (λ w. refl)
+    (λ P f g r. elim r [ cable-is a ↦ f a | cable-refused w ↦ g w ]) refusal-once
 
 pub terrestrial-once : (p q : Terrestrial) → terrestrial.told p ≡ terrestrial.told q → p ≡ q
-terrestrial-once (terrestrial-is a) (terrestrial-is b) e = ap terrestrial-is (value-is e)
-terrestrial-once (terrestrial-is a) (terrestrial-refused w) e = absurd (never e)
-terrestrial-once (terrestrial-refused v) (terrestrial-is b) e = absurd (never (sym e))
-terrestrial-once (terrestrial-refused v) (terrestrial-refused w) e = ap terrestrial-refused (refusal-once v w (refused-is e))
+terrestrial-once =
+    answer-once terrestrial.told terrestrial-is terrestrial-refused numbered (λ a. refl) (λ w. refl)
+    (λ P f g r. elim r [ terrestrial-is a ↦ f a | terrestrial-refused w ↦ g w ]) refusal-once

@@ -1,17 +1,16 @@
 -- What fits a layout, said by the bytes themselves: each form is read exactly if the bytes have it.
 use mathlib.Core.Path.{_≡_, refl, sym, ap, ap₂, _∙_, subst}
-use mathlib.Core.Bool.{true, false}
 use mathlib.Core.List.{List, [], _∷_, _++_, append-assoc}
-use Prim.Native.Nat.{ℕ, suc, _+_, _-_, _*_, _/_, _%_, _<_, _≤_}
+use Prim.Native.Nat.{ℕ, _+_, _*_, _/_, _%_, _<_, _≤_}
 use native.Mathlib.Numerals.{add-one}
 use native.Mathlib.Omega.{arith}
 use borrow.Author.Tests.{eqb-true, eq-eqb, ltb-true, lt-ltb, le-ltb}
 use lib.Dec.{eqb, ltb}
 use lib.ListN.{length, getD, take, drop, length-append, length-drop, take-append-drop}
 use lib.Seq.{drop-cons, drop-drop, take-all, take-length, getD-at}
-use Rattle.wire.specs.If.{if_then_else_, if-case}
+use Rattle.wire.specs.If.{if-case}
 use Rattle.wire.specs.Parts.{part-front}
-use Rattle.wire.specs.Reading.{Reading, value, refused, _>>=_, value-is, never, through}
+use Rattle.wire.specs.Reading.{value, refused, value-is, never, through}
 use Rattle.layout.specs.Refusal.{partAt, bytesOf}
 use Rattle.layout.specs.Body.{lengthed, framed}
 use Rattle.layout.specs.Items.{items, count, place}

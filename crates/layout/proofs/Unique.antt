@@ -4,6 +4,7 @@ use mathlib.Core.List.{List}
 use Prim.Native.Nat.{ℕ, _<_}
 use native.Mathlib.Omega.{arith}
 use Rattle.wire.specs.Reading.{value-is, refused-is, never}
+use Rattle.wire.proofs.Unique.{answer-once}
 use Rattle.clock.specs.Fault as fault
 use Rattle.clock.specs.declared.Fault.{Fault}
 use Rattle.clock.specs.declared.Fault.the-variants.{BadDigit, OutOfRange, TooEarly}
@@ -57,22 +58,19 @@ body-once s (body-refused v) Fits e = absurd (never (sym e))
 body-once s (body-refused v) (body-refused w) e = ap body-refused (refusal-once v w (refused-is e))
 
 pub count-once : (p q : Count) → toldCount p ≡ toldCount q → p ≡ q
-count-once (Items a) (Items b) e = ap Items (value-is e)
-count-once (Items a) (count-refused w) e = absurd (never e)
-count-once (count-refused v) (Items b) e = absurd (never (sym e))
-count-once (count-refused v) (count-refused w) e = ap count-refused (refusal-once v w (refused-is e))
+count-once =
+    answer-once toldCount Items count-refused numbered (λ a. refl) (λ w. refl)
+    (λ P f g r. elim r [ Items a ↦ f a | count-refused w ↦ g w ]) refusal-once
 
 pub place-once : (p q : Place) → toldPlace p ≡ toldPlace q → p ≡ q
-place-once (At a) (At b) e = ap At (value-is e)
-place-once (At a) (place-refused w) e = absurd (never e)
-place-once (place-refused v) (At b) e = absurd (never (sym e))
-place-once (place-refused v) (place-refused w) e = ap place-refused (refusal-once v w (refused-is e))
+place-once =
+    answer-once toldPlace At place-refused numbered (λ a. refl) (λ w. refl)
+    (λ P f g r. elim r [ At a ↦ f a | place-refused w ↦ g w ]) refusal-once
 
 pub number-once : (p q : Number) → field.told p ≡ field.told q → p ≡ q
-number-once (Is a) (Is b) e = ap Is (value-is e)
-number-once (Is a) (number-refused w) e = absurd (never e)
-number-once (number-refused v) (Is b) e = absurd (never (sym e))
-number-once (number-refused v) (number-refused w) e = ap number-refused (fault-once v w (refused-is e))
+number-once =
+    answer-once field.told Is number-refused fault.numbered (λ a. refl) (λ w. refl)
+    (λ P f g r. elim r [ Is a ↦ f a | number-refused w ↦ g w ]) fault-once
 
 pub texts-once : (p q : Texts) → texts.told p ≡ texts.told q → p ≡ q
 texts-once (Are a) (Are b) e = ap Are (value-is e)

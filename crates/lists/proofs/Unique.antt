@@ -1,6 +1,7 @@
 -- Two answers that tell the same are the same.
-use mathlib.Core.Path.{_≡_, sym, ap}
-use Rattle.wire.specs.Reading.{value-is, refused-is, never}
+use mathlib.Core.Path.{_≡_, refl}
+use Rattle.wire.proofs.Unique.{answer-once}
+use Rattle.layout.specs.Refusal.{numbered}
 use Rattle.layout.proofs.Unique.{refusal-once}
 use Rattle.lists.specs.ServiceList as service-list
 use Rattle.lists.specs.declared.service_list.Answer.{Answer as ServiceList}
@@ -16,25 +17,21 @@ use Rattle.lists.specs.declared.local_time_offset.Answer.{Answer as Loca
 use Rattle.lists.specs.declared.local_time_offset.Answer.the-variants.{Is as local-time-offset-is, Refused as local-time-offset-refused}
 
 pub service-list-once : (p q : ServiceList) → service-list.told p ≡ service-list.told q → p ≡ q
-service-list-once (service-list-is a) (service-list-is b) e = ap service-list-is (value-is e)
-service-list-once (service-list-is a) (service-list-refused w) e = absurd (never e)
-service-list-once (service-list-refused v) (service-list-is b) e = absurd (never (sym e))
-service-list-once (service-list-refused v) (service-list-refused w) e = ap service-list-refused (refusal-once v w (refused-is e))
+service-list-once =
+    answer-once service-list.told service-list-is service-list-refused numbered (λ a. refl) (λ w. refl)
+    (λ P f g r. elim r [ service-list-is a ↦ f a | service-list-refused w ↦ g w ]) refusal-once
 
 pub content-once : (p q : Content) → content.told p ≡ content.told q → p ≡ q
-content-once (content-is a) (content-is b) e = ap content-is (value-is e)
-content-once (content-is a) (content-refused w) e = absurd (never e)
-content-once (content-refused v) (content-is b) e = absurd (never (sym e))
-content-once (content-refused v) (content-refused w) e = ap content-refused (refusal-once v w (refused-is e))
+content-once =
+    answer-once content.told content-is content-refused numbered (λ a. refl) (λ w. refl)
+    (λ P f g r. elim r [ content-is a ↦ f a | content-refused w ↦ g w ]) refusal-once
 
 pub parental-rating-once : (p q : ParentalRating) → parental-rating.told p ≡ parental-rating.told q → p ≡ q
-parental-rating-once (parental-rating-is a) (parental-rating-is b) e = ap parental-rating-is (value-is e)
-parental-rating-once (parental-rating-is a) (parental-rating-refused w) e = absurd (never e)
-parental-rating-once (parental-rating-refused v) (parental-rating-is b) e = absurd (never (sym e))
-parental-rating-once (parental-rating-refused v) (parental-rating-refused w) e = ap parental-rating-refused (refusal-once v w (refused-is e))
+parental-rating-once =
+    answer-once parental-rating.told parental-rating-is parental-rating-refused numbered (λ a. refl) (λ w. refl)
+    (λ P f g r. elim r [ parental-rating-is a ↦ f a | parental-rating-refused w ↦ g w ]) refusal-once
 
 pub local-time-offset-once : (p q : LocalTimeOffset) → local-time-offset.told p ≡ local-time-offset.told q → p ≡ q
-local-time-offset-once (local-time-offset-is a) (local-time-offset-is b) e = ap local-time-offset-is (value-is e)
-local-time-offset-once (local-time-offset-is a) (local-time-offset-refused w) e = absurd (never e)
-local-time-offset-once (local-time-offset-refused v) (local-time-offset-is b) e = absurd (never (sym e))
-local-time-offset-once (local-time-offset-refused v) (local-time-offset-refused w) e = ap local-time-offset-refused (refusal-once v w (refused-is e))
+local-time-offset-once =
+    answer-once local-time-offset.told local-time-offset-is local-time-offset-refused numbered (λ a. refl) (λ w. refl)
+    (λ P f g r. elim r [ local-time-offset-is a ↦ f a | local-time-offset-refused w ↦ g w ]) refusal-once

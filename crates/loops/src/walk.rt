@@ -1,6 +1,6 @@
 // A walk over one loop of descriptors.
 ghost use mathlib.Core.Path.{_≡_};
-ghost use Rattle.loops.specs.Descriptors.{stepAt, toldStep, placeAfter, Steps, descriptorOf};
+ghost use Rattle.loops.specs.Descriptors.{stepAt, toldStep, Steps, descriptorOf};
 
 // What stands at a place of a loop.
 pub enum Step {

@@ -1,17 +1,16 @@
 -- Two rolls that differ only in marks above the last number, or in what else means nothing, behave alike, whatever sections follow.
 use Prim.Native.Nat.{ℕ, zero, suc, _+_, _<_, _≤_}
-use mathlib.Core.Path.{_≡_, refl, sym, ap, ap₂, _∙_, subst}
+use mathlib.Core.Path.{_≡_, refl, sym, ap, ap₂, _∙_}
 use mathlib.Core.Bool.{Bool, true, false, false≢true}
 use mathlib.Core.Logic.{_⊎_, inl, inr}
-use mathlib.Core.List.{List, [], _∷_}
+use mathlib.Core.List.{List, _∷_}
 use native.Mathlib.Omega.{arith}
 use lib.Dec.{eqb}
 use borrow.Author.Tests.{eqb-true, eqb-false}
 use Rattle.wire.specs.If.{if_then_else_}
 use Rattle.roll.specs.Answer.{Says, missing}
 use Rattle.roll.specs.Marks.{has, unmarked, marked, Whole, smallest, smallestMissing}
-use Rattle.roll.specs.SubTable.{subTableOf, compared, sameIds}
-use Rattle.roll.specs.Roll.{versionIn, numberIn, lastIn, another, startsAfresh, begunWith, continued, after, asked, Outcome, answering, refusal, taking}
+use Rattle.roll.specs.Roll.{numberIn, another, startsAfresh, begunWith, continued, after, asked, answering, refusal, taking}
 use Rattle.roll.specs.Sequence.{Bytes, AllBytes, none, more}
 use Rattle.roll.specs.Alike.{Alike, empty, begun, answersTo}
 use Rattle.roll.proofs.MarkLaws.{unmarked-whole, marked-whole, marked-has, marked-keeps}

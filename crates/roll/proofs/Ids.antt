@@ -6,7 +6,6 @@ use mathlib.Core.List.{List}
 use lib.ListN.{getD}
 use lib.Dec.{eqb}
 use borrow.Author.Tests.{eqb-true, eq-eqb}
-use Rattle.wire.specs.If.{if_then_else_}
 use Rattle.roll.specs.SubTable.{isSdt, isEit, wordAt, idsThatCount, networkIn, subTableOf, compared, sameIds}
 use Rattle.roll.specs.declared.SubTable.{SubTable}
 

@@ -1,10 +1,9 @@
 -- A step by its four tests: it takes the section, or refuses it and stays as it is.
 use Prim.Native.Nat.{ℕ}
 use mathlib.Core.Path.{_≡_, refl, sym}
-use mathlib.Core.Bool.{Bool, true, false, not, _&&_, false≢true}
+use mathlib.Core.Bool.{Bool, true, false, not, false≢true}
 use mathlib.Core.Logic.{_⊎_, inl, inr}
 use mathlib.Core.List.{List}
-use Rattle.wire.specs.If.{if_then_else_}
 use Rattle.verdict.specs.Verdict.{Said, accepted, refused, isAccepted, numberOf, placeOf}
 use Rattle.section.specs.Reading.{judged}
 use Rattle.roll.specs.Roll.{isCurrent, hasNoSubTable, another, after, refusal, answering, takingAccepted, taking}

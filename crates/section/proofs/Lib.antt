@@ -5,4 +5,5 @@ pub mod InEntries
 pub mod InSection
 pub mod HeaderTests
 pub mod Exactly
+pub mod Demands
 pub mod Handed

@@ -3,3 +3,4 @@ pub mod Entries
 pub mod Reading
 pub mod Grammar
 pub mod Faults
+pub mod Demands

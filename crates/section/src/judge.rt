@@ -1,7 +1,7 @@
 // Document 01, "Judging a section": any bytes in, a verdict out.
 ghost use mathlib.Core.Path.{_≡_};
 ghost use Prim.Native.Nat.{_≤_};
-ghost use lib.ListN.{length, drop};
+ghost use lib.ListN.{drop};
 ghost use Rattle.verdict.specs.Verdict.{told};
 ghost use Rattle.tables.specs.Tables.{FixedTwo};
 ghost use Rattle.section.specs.Reading.{fills, leavesRoom, oneLoop, secondLoop, twoLoops, inside};

@@ -6,7 +6,7 @@ use native.Mathlib.Nat.{mul-le-mul-right, one-mul, zero-mul, zero-add, lt-of-lt-
 use native.Mathlib.Omega.{arith}
 use borrow.Author.Tests.{ltb-false, le-ltb}
 use lib.Dec.{ltb}
-use Rattle.wire.specs.If.{if_then_else_, if-case}
+use Rattle.wire.specs.If.{if-case}
 use Rattle.wire.specs.Reading.{value, refused}
 use Rattle.wire.specs.Digits.{digit, bcdAfter, bcdOf}
 

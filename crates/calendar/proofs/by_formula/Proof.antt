@@ -1,6 +1,5 @@
 -- The formulas by the law that holds them to the calendar; no sum of theirs wraps.
 use Rattle.calendar.proofs.AnnexC.{early, late, yearOf, dayOf, monthOf, dayIn, early-right, late-right}
-use native.Mathlib.Omega.{arith}
 use borrow.Author.Needs.{needs}
 use Rattle.calendar.proofs.by_formula.Statement.{statement}
 use Rattle.calendar.proofs.by_formula.Tie as tie

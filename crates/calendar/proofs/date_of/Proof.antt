@@ -1,5 +1,5 @@
 -- 65 below the first day, else the date.
-use mathlib.Core.Path.{sym, ap}
+use mathlib.Core.Path.{ap}
 use borrow.Author.Tests.{lt-ltb, le-ltb}
 use Rattle.wire.specs.Reading.{value}
 use Rattle.calendar.specs.Calendar.{dateOf}

@@ -1,5 +1,5 @@
 -- `collector::step` meets its contract: the verdict decides the outcome.
-use mathlib.Core.Path.{_≡_, sym, ap, _∙_}
+use mathlib.Core.Path.{sym, ap, _∙_}
 use borrow.Author.Needs.{needs}
 use Rattle.collector.specs.Refusals.{lastOf, Judged, ruledBy}
 use Rattle.collector.specs.Answer.{Outcome}

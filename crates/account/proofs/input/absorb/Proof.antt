@@ -1,7 +1,6 @@
 -- `account::input::absorb` meets its contract.
-use mathlib.Core.Path.{_≡_, ap, _∙_}
+use mathlib.Core.Path.{ap, _∙_}
 use Prim.Native.Nat.{_/_}
-use native.Mathlib.Omega.{arith}
 use borrow.Author.Needs.{needs}
 use Rattle.account.specs.Entered.{keptAs, enteredAll, pieces}
 use Rattle.account.specs.declared.tally.Account.{Account}

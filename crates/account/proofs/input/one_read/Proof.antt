@@ -1,13 +1,13 @@
 -- `account::input::one_read` meets its contract.
-use mathlib.Core.Path.{_≡_, refl, sym, ap, subst}
+use mathlib.Core.Path.{_≡_, sym, subst}
 use mathlib.Core.List.{List, [], append-nil}
 use Prim.Native.Nat.{ℕ, _+_}
 use native.Mathlib.Omega.{arith}
 use borrow.Author.Needs.{needs}
-use lib.ListN.{length, take, drop}
+use lib.ListN.{take, drop}
 use Rattle.account.specs.Reads.{Reads, Behind, GotSays}
 use Rattle.account.specs.declared.input.Got.{Got}
-use Rattle.account.specs.declared.input.Got.the-variants.{Bytes, Again, End, Failed}
+use Rattle.account.specs.declared.input.Got.the-variants.{Bytes, Again, End}
 use Rattle.account.proofs.Absorbed.{reads-again}
 use Rattle.account.proofs.input.one_read.Statement.{statement}
 use Rattle.account.proofs.input.one_read.Tie as tie

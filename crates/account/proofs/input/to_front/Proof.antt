@@ -1,10 +1,9 @@
 -- `account::input::to_front` meets its contract: the bytes moved so far are right, and those still to be moved stand where they stood.
 use mathlib.Core.Path.{_≡_, refl, sym, ap, _∙_}
 use mathlib.Core.List.{List, [], _∷_, _++_}
-use Prim.Native.Nat.{ℕ, suc, _+_, _-_, _≤_, _<_}
+use Prim.Native.Nat.{ℕ, _+_, _-_, _≤_, _<_}
 use native.Mathlib.Numerals.{add-one}
 use native.Mathlib.Omega.{arith}
-use borrow.Author.Needs.{needs}
 use lib.ListN.{length, take, drop, getD, set, length-set, length-drop}
 use lib.Seq.{take-suc, take-suc-set, drop-set-lt, getD-drop}
 use Rattle.account.proofs.input.to_front.Statement.{statement}

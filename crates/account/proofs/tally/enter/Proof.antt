@@ -1,7 +1,6 @@
 -- `account::tally::enter` meets its contract.
-use mathlib.Core.Path.{_≡_, ap, _∙_}
+use mathlib.Core.Path.{ap, _∙_}
 use borrow.Author.Needs.{needs}
-use Rattle.collector.specs.Answer.{Outcome}
 use Rattle.account.specs.Entered.{keptAs, enteredAs}
 use Rattle.account.proofs.tally.enter.Statement.{statement}
 use Rattle.account.proofs.tally.enter.Tie as tie

@@ -1,5 +1,5 @@
 -- `account::tally::one_more` meets its contract.
-use mathlib.Core.Path.{_≡_, sym, ap, _∙_}
+use mathlib.Core.Path.{sym, ap, _∙_}
 use borrow.Author.Needs.{needs}
 use Rattle.collector.specs.Answer.{told}
 use Rattle.collector.specs.declared.Answer.{Answer}

@@ -1,12 +1,9 @@
 -- The sign turned, and what is stored read back.
-use mathlib.Core.Path.{_≡_, refl, sym, ap, _∙_, subst}
 use mathlib.Core.Bool.{true}
 use Prim.Native.Nat.{ℕ}
 use mir.Syntax.{w16}
-use mir.Val.{SFits, toZ, ofZ}
 use mir.Facts.{toZ-pos}
 use borrow.Author.Needs.{needs}
-use Rattle.clock.specs.Offset.{signed}
 use Rattle.clock.proofs.SignedMinutes.{negated, signed-fits, signed-kept}
 use Rattle.clock.proofs.offset.signed_minutes.Statement.{statement}
 use Rattle.clock.proofs.offset.signed_minutes.Tie as tie

@@ -1,5 +1,5 @@
 -- `collector::packet::addressed` meets its contract: the tests are rows 44 to 47 of the table, in their order.
-use mathlib.Core.Path.{_≡_, sym, _∙_}
+use mathlib.Core.Path.{sym, _∙_}
 use borrow.Author.Needs.{needs}
 use borrow.Author.Tests.{le-leb, lt-leb, eq-eqb, ne-eqb}
 use Rattle.collector.proofs.packet.addressed.Statement.{statement}

@@ -1,10 +1,9 @@
 -- `collector::packet::held_unfit` meets its contract: each test decides one part of `heldUnfit`.
-use mathlib.Core.Path.{_≡_, sym, ap}
-use mathlib.Core.Bool.{Bool, false}
-use Prim.Native.Nat.{ℕ, _≤_, _<_}
+use mathlib.Core.Path.{sym, ap}
+use Prim.Native.Nat.{ℕ, _<_}
 use native.Mathlib.Omega.{arith}
 use borrow.Author.Needs.{needs}
-use borrow.Author.Tests.{lt-ltb, le-ltb, le-leb, lt-leb, eq-eqb, ne-eqb}
+use borrow.Author.Tests.{lt-ltb, le-leb, lt-leb, eq-eqb, ne-eqb}
 use Rattle.collector.specs.Refusals.{heldUnfit}
 use Rattle.collector.proofs.packet.held_unfit.Statement.{statement}
 use Rattle.collector.proofs.packet.held_unfit.Tie as tie

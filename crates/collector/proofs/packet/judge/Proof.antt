@@ -1,5 +1,5 @@
 -- `collector::packet::judge` meets its contract: the tests are the first rows of the table, in their order.
-use mathlib.Core.Path.{_≡_, sym, _∙_}
+use mathlib.Core.Path.{sym, _∙_}
 use borrow.Author.Needs.{needs}
 use borrow.Author.Tests.{lt-ltb, le-ltb, eq-eqb, ne-eqb}
 use Rattle.collector.specs.Refusals.{judged}

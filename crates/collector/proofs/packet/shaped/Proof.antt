@@ -1,5 +1,5 @@
 -- `collector::packet::shaped` meets its contract: the adaptation control decides which law of the table holds.
-use mathlib.Core.Path.{_≡_, sym, ap, _∙_, subst}
+use mathlib.Core.Path.{sym, _∙_, subst}
 use Prim.Native.Nat.{ℕ, _+_}
 use borrow.Author.Needs.{needs}
 use Rattle.collector.specs.Inside.{PayloadAt}

@@ -6,7 +6,7 @@ use native.Mathlib.Omega.{arith}
 use borrow.Author.Needs.{needs}
 use lib.ListN.{length, take, drop, length-append, length-take, length-drop}
 use lib.Seq.{length-take-le}
-use Rattle.collector.proofs.Payloads.{front, back, kept-front, kept-back, front-bytes, small-of, ends-start}
+use Rattle.collector.proofs.Payloads.{kept-front, kept-back, front-bytes, small-of, ends-start}
 use Rattle.collector.proofs.payload.started.Statement.{statement}
 use Rattle.collector.proofs.payload.started.Tie as tie
 

@@ -1,6 +1,4 @@
 -- `collector::stretch::go_on` meets its contract: each way out is a law of `Goes`.
-use mathlib.Core.Path.{_≡_}
-use mathlib.Core.List.{List}
 use Prim.Native.Nat.{ℕ, _+_, _≤_, _<_}
 use native.Mathlib.Omega.{arith}
 use borrow.Author.Needs.{needs}

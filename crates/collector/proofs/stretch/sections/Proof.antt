@@ -1,6 +1,4 @@
 -- `collector::stretch::sections` meets its contract: the invariant is `Turn`, and each way out of a turn is a law of `Turns`.
-use mathlib.Core.Path.{_≡_}
-use mathlib.Core.List.{List}
 use Prim.Native.Nat.{ℕ, _-_, _≤_}
 use native.Mathlib.Omega.{arith}
 use borrow.Author.Needs.{needs}

@@ -1,5 +1,4 @@
 -- The layout's refusal, or the fields of the body.
-use mathlib.Core.Path.{_∙_, ap}
 use Rattle.delivery.specs.Cable.{cable}
 use borrow.Author.Needs.{needs}
 use Rattle.delivery.proofs.cable.read.Statement.{statement}

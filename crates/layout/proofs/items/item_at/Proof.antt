@@ -1,9 +1,7 @@
 -- The place of an item. An index below their number lies inside, so that neither product nor sum wraps.
 use Rattle.layout.proofs.Inside.{inside}
-use Prim.Native.Nat.{_*_, _<_}
-use mathlib.Core.Path.{_≡_, sym, ap}
 use denote.Ref.{now}
-use lib.ListN.{length, take, length-drop}
+use lib.ListN.{length-drop}
 use native.Mathlib.Omega.{arith}
 use borrow.Author.Tests.{lt-ltb, le-ltb}
 use Rattle.layout.specs.Items.{place}

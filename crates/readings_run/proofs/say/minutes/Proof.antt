@@ -1,6 +1,5 @@
 -- A number below zero is turned, and what is turned fits.
 use Rattle.readings_run.proofs.Sizes.{wide-back, turned-fits, turned, kept}
-use mathlib.Core.Path.{sym, ap, _∙_}
 use mir.Facts.{toZ-ofZ, sfits-widen}
 use borrow.Author.Needs.{needs}
 use Rattle.readings_run.proofs.say.minutes.Statement.{statement}

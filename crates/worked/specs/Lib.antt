@@ -1,0 +1,2 @@
+-- The starred values of document 01.
+pub mod Worked
