@@ -1,0 +1,9 @@
+-- What the structs that C is given say.
+pub mod Numbers
+pub mod Judge
+pub mod Search
+pub mod Walk
+pub mod Texts
+pub mod Clock
+pub mod Lists
+pub mod Delivery
