@@ -1,5 +1,6 @@
 -- What the structs that C is given say.
 pub mod Numbers
+pub mod Collect
 pub mod Judge
 pub mod Search
 pub mod Walk
