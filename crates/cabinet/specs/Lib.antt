@@ -8,3 +8,4 @@ pub mod Texts
 pub mod Clock
 pub mod Lists
 pub mod Delivery
+pub mod Roll

@@ -7,6 +7,7 @@ pub mod judge;
 pub mod list_readings;
 mod moments;
 mod numbers;
+pub mod rolls;
 pub mod tag_search;
 pub mod text_readings;
 pub mod times;

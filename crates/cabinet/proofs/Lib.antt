@@ -1,0 +1,2 @@
+-- Laws that several proofs cite, and what the promises come to.
+pub mod Mapped
