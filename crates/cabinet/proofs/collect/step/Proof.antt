@@ -1,8 +1,5 @@
 -- The step beneath, with record and answer in numbers.
-use mathlib.Core.Path.{ap, _∙_}
-use Rattle.collector.specs.Collected.{collected}
-use Rattle.collector.specs.declared.Record.{Record}
-use Rattle.cabinet.specs.Collect.{outcomeSays, collecting}
+use Rattle.cabinet.proofs.Outcomes.{collecting-is}
 use borrow.Author.Needs.{needs}
 use Rattle.cabinet.proofs.collect.step.Statement.{statement}
 use Rattle.cabinet.proofs.collect.step.Tie as tie
@@ -26,11 +23,9 @@ same-length-2 : tie.Need-same-length-2
 same-length-2 c = search needs
 
 returns : tie.Need-returns
-unfolding collecting
 returns c =
     let a = c .before .before .before .before .before .before .before .before .before .before .before .before .before .before .args in
-    let lent = ap (λ (r : Record). outcomeSays (collected r (a .hold .now) (a .out .now) (a .packet .now))) (c .before .before .before .before .before .before .before .before .before .before .record-in .ensures) in
-    rw (c .before .record-says .ensures, c .answer-says .ensures) (ap outcomeSays (c .before .before .before .before .before .before .before .step .ensures) ∙ lent)
+    rw (c .before .record-says .ensures, c .answer-says .ensures) (collecting-is (a .rec) (a .hold .now) (a .out .now) (a .packet .now) (c .before .before .before .before .before .before .before .before .before .before .record-in .ensures) (c .before .before .before .before .before .before .before .step .ensures))
 
 pub step-spec : {M : Type 1} → statement M
 step-spec =

@@ -18,7 +18,7 @@ place-requires c κs = search needs
 
 returns : tie.Need-returns
 unfolding judgeSays
-returns c = cc
+returns c = rw (← c .before .before .judge .ensures, c .before .number .ensures, c .place .ensures)
 
 pub lohitunga-judge-spec : {M : Type 1} → statement M
 lohitunga-judge-spec =

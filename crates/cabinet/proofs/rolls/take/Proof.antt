@@ -1,8 +1,5 @@
 -- The section is taken by the roll that the numbers stand for.
-use mathlib.Core.Path.{ap, _∙_}
-use Rattle.roll.specs.Roll.{taking}
-use Rattle.roll.specs.declared.Roll.{Roll}
-use Rattle.cabinet.specs.Roll.{outcomeSays, rolling}
+use Rattle.cabinet.proofs.Outcomes.{rolling-is}
 use borrow.Author.Needs.{needs}
 use Rattle.cabinet.proofs.rolls.take.Statement.{statement}
 use Rattle.cabinet.proofs.rolls.take.Tie as tie
@@ -20,11 +17,9 @@ answer-says-requires : tie.Need-answer-says-requires
 answer-says-requires c κs = search needs
 
 returns : tie.Need-returns
-unfolding rolling
 returns c =
     let a = c .before .before .before .before .before .before .args in
-    let lent = ap (λ (r : Roll). outcomeSays (a .roll) (taking r (a .section .now))) (c .before .before .before .before .roll-in .ensures) in
-    rw (c .before .kept .ensures, c .answer-says .ensures) (ap (outcomeSays (a .roll)) (c .before .before .before .take .ensures) ∙ lent)
+    rw (c .before .kept .ensures, c .answer-says .ensures) (rolling-is (a .roll) (a .section .now) (c .before .before .before .before .roll-in .ensures) (c .before .before .before .take .ensures))
 
 pub take-spec : {M : Type 1} → statement M
 take-spec =
