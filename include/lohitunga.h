@@ -4,15 +4,31 @@
  * number of threads may call them at once, each with what it lends.
  *
  * What holds for every call
- * - Bytes are lent as a pointer and a length. They may hold anything. The pointer is not null and points to as many bytes as the length says; with a
- *   length of 0 it may be any pointer that is not null. A pointer to a record is not null, is aligned as its type, and points to one record, whose fields
- *   may hold anything.
+ * - Bytes are lent as a pointer and a length. They may hold anything. The pointer points to as many bytes as the length says; with a length of 0 it
+ *   may be any, also a null pointer. A pointer to a record or a roll is aligned as its type and points to one, whose fields may hold anything.
  * - What is lent by a pointer without `const` overlaps nothing else that is lent to the same call. Bytes lent by `const` pointers may overlap each other.
  * - No call keeps a pointer. No call writes through a `const` pointer.
- * - Every answer has the field `number`: 0, or the number of the first refusal that applies, in the order of its table below. A refusal alters nothing
- *   that was lent. Where `number` is not 0 every other field of the answer is 0, but for `place`, and for `next` of the walk.
+ * - Every answer of a call that can refuse has the field `number`: 0, or the number of the first refusal that applies, in the order of its table
+ *   below. A refusal alters nothing that was lent. Where `number` is not 0 every other field of the answer is 0, but for `place`, and for `next` of the
+ *   walk.
  * - A place and a `start` are counted from the first byte lent as 0.
- * - Each call ends, traps never, and reads and writes nothing but what was lent. It is proved, for every input.
+ * - Each call ends, traps never, and reads and writes nothing but what was lent. This is proved for every input, and so is what each call answers.
+ * - Of the C library they call memcpy and memset.
+ *
+ * The stack that a call needs at most, in bytes below the caller's stack pointer, its return address included and that of memcpy and memset left out:
+ *   lohitunga_roll_take            2,168
+ *   lohitunga_search               1,832
+ *   lohitunga_judge                1,272
+ *   lohitunga_crc32                  664
+ *   lohitunga_roll_ask               304
+ *   lohitunga_collect                184
+ *   lohitunga_satellite              184
+ *   lohitunga_terrestrial            184
+ *   lohitunga_service_list           136
+ *   lohitunga_local_time_offset       96
+ *   lohitunga_time                    48
+ *   lohitunga_cable                   40
+ *   every other                        8
  */
 #ifndef LOHITUNGA_H
 #define LOHITUNGA_H
