@@ -9,3 +9,4 @@ pub mod Clock
 pub mod Lists
 pub mod Delivery
 pub mod Roll
+pub mod Run
