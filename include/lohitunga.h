@@ -57,7 +57,7 @@ uint32_t lohitunga_crc32(const uint8_t *bytes, size_t size);
  *   46     the packet has another PID
  *   47     transport_scrambling_control is not 00
  *   48     adaptation_field_control is 00; or 11 with a length above 182; or 10 with a length other than 183
- *   49     the packet has payload and the start flag, and its pointer is above the payload's length minus 2
+ *   49     the packet has payload and the start flag, and its pointer is above the payload's length minus 2 (a payload of 1 byte: always)
  */
 #define LOHITUNGA_PACKET 188
 #define LOHITUNGA_HOLD 4096
@@ -87,7 +87,8 @@ typedef struct lohitunga_collect_answer {
 /* A record without counter, with nothing in hand and zeros. Any number is taken; a pid above 8,191 gets 43 at each packet. */
 lohitunga_record lohitunga_fresh(uint16_t pid);
 
-/* One packet. Alters the record; the first in_hand bytes of the hold; the first `size` bytes of the out room. All other bytes of either stay. */
+/* One packet. Alters the record; of the hold the first bytes, as many as are then in hand; of the out room the first `size` bytes. All other bytes of
+ * either stay. */
 lohitunga_collect_answer lohitunga_collect(lohitunga_record *record, uint8_t *hold, size_t hold_size, uint8_t *out, size_t out_size,
                                            const uint8_t *packet, size_t packet_size);
 
