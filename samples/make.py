@@ -29,7 +29,7 @@ def packet(payload, counter, start, pid=PID, sync=0x47, error=0, scrambling=0):
     return head + bytes([scrambling << 6 | (0x30 if payload else 0x20) | counter, room - 1]) + field + payload
 
 
-def packed(sections, counter):
+def packed(sections, counter, pid=PID):
     """Packets that carry the sections end to end."""
     out, rest, waiting = [], b"", list(sections)
     while rest or waiting:
@@ -49,7 +49,7 @@ def packed(sections, counter):
             piece = waiting.pop(0)
             space = 184 - len(body)
             body, rest = body + piece[:space], piece[space:]
-        out.append(packet((body + b"\xFF" * 184)[:184], counter % 16, start))
+        out.append(packet((body + b"\xFF" * 184)[:184], counter % 16, start, pid))
         counter += 1
     return out, counter
 

@@ -1,0 +1,253 @@
+/* Measures the stack that each call uses: the call is run on a stack that was painted, and what is painted over shows how deep it went.
+ *
+ *     paint FILE PID ...      streams of packets, whose sections are lent too; a line for each call: its name, and the bytes used below the caller's
+ *                             stack pointer, return address included, at most over all inputs
+ */
+#include <stdio.h>
+#include <stdlib.h>
+#include <string.h>
+#include <ucontext.h>
+
+#include "lohitunga.h"
+
+enum { ROOM = 65536, GAP = 1024 };
+
+static uint8_t stack[ROOM] __attribute__((aligned(64)));
+static ucontext_t here, there;
+static void (*chosen)(void);
+static uint8_t *volatile pointer_at_call;
+
+/* What follows the call, back in the C library, stays above what the call used. */
+static void below_a_gap(void) {
+    volatile char gap[GAP];
+    gap[0] = 0;
+    chosen();
+    gap[1] = gap[0];
+}
+
+static size_t used_by(void (*thunk)(void), int paint) {
+    memset(stack, paint, ROOM);
+    getcontext(&there);
+    there.uc_stack.ss_sp = stack;
+    there.uc_stack.ss_size = ROOM;
+    there.uc_link = &here;
+    chosen = thunk;
+    makecontext(&there, below_a_gap, 0);
+    swapcontext(&here, &there);
+    size_t deepest = 0;
+    while (stack[deepest] == (uint8_t)paint)
+        deepest++;
+    return pointer_at_call - (stack + deepest);
+}
+
+/* What the thunks lend. */
+static const uint8_t *bytes;
+static size_t size, number;
+static uint8_t hold[LOHITUNGA_HOLD], out[LOHITUNGA_OUT];
+static lohitunga_record record;
+static lohitunga_roll roll;
+static volatile uint8_t taken[512];
+
+#define AT_CALL() __asm__ volatile("mov %%rsp, %0" : "=m"(pointer_at_call))
+#define CALLS(CALL) \
+    CALL(lohitunga_crc32, uint32_t, (bytes, size)) \
+    CALL(lohitunga_fresh, lohitunga_record, (number)) \
+    CALL(lohitunga_collect, lohitunga_collect_answer, (&record, hold, sizeof hold, out, sizeof out, bytes, size)) \
+    CALL(lohitunga_judge, lohitunga_judge_answer, (bytes, size)) \
+    CALL(lohitunga_search, lohitunga_search_answer, (bytes, size, number)) \
+    CALL(lohitunga_walk, lohitunga_walk_answer, (bytes, size, number)) \
+    CALL(lohitunga_network_name, lohitunga_text_answer, (bytes, size)) \
+    CALL(lohitunga_stuffing, lohitunga_text_answer, (bytes, size)) \
+    CALL(lohitunga_service, lohitunga_service_answer, (bytes, size)) \
+    CALL(lohitunga_short_event, lohitunga_short_event_answer, (bytes, size)) \
+    CALL(lohitunga_service_list_count, lohitunga_count_answer, (bytes, size)) \
+    CALL(lohitunga_service_list, lohitunga_service_list_answer, (bytes, size, number)) \
+    CALL(lohitunga_content_count, lohitunga_count_answer, (bytes, size)) \
+    CALL(lohitunga_content, lohitunga_content_answer, (bytes, size, number)) \
+    CALL(lohitunga_parental_rating_count, lohitunga_count_answer, (bytes, size)) \
+    CALL(lohitunga_parental_rating, lohitunga_parental_rating_answer, (bytes, size, number)) \
+    CALL(lohitunga_local_time_offset_count, lohitunga_count_answer, (bytes, size)) \
+    CALL(lohitunga_local_time_offset, lohitunga_local_time_offset_answer, (bytes, size, number)) \
+    CALL(lohitunga_satellite, lohitunga_satellite_answer, (bytes, size)) \
+    CALL(lohitunga_cable, lohitunga_cable_answer, (bytes, size)) \
+    CALL(lohitunga_terrestrial, lohitunga_terrestrial_answer, (bytes, size)) \
+    CALL(lohitunga_satellite_hertz, uint64_t, ((lohitunga_satellite_frequency){number})) \
+    CALL(lohitunga_cable_hertz, uint64_t, ((lohitunga_cable_frequency){number})) \
+    CALL(lohitunga_terrestrial_hertz, uint64_t, ((lohitunga_terrestrial_frequency){number})) \
+    CALL(lohitunga_time, lohitunga_time_answer, (number, number >> 16, number >> 24, number >> 32)) \
+    CALL(lohitunga_duration, lohitunga_duration_answer, (number, number >> 8, number >> 16)) \
+    CALL(lohitunga_offset, lohitunga_offset_answer, (number >> 16 & 1, number, number >> 8)) \
+    CALL(lohitunga_date, lohitunga_date_answer, (number)) \
+    CALL(lohitunga_roll_empty, lohitunga_roll, ()) \
+    CALL(lohitunga_roll_ask, lohitunga_roll_answer, (&roll)) \
+    CALL(lohitunga_roll_take, lohitunga_roll_answer, (&roll, bytes, size))
+
+/* The answer is kept, so that the compiler keeps the call. */
+#define THUNK(name, type, words) \
+    static void run_##name(void) { \
+        AT_CALL(); \
+        type answer = name words; \
+        for (size_t i = 0; i < sizeof answer && i < sizeof taken; i += 64) \
+            taken[i] = ((uint8_t *)&answer)[i]; \
+    }
+CALLS(THUNK)
+
+#define COUNT(name, type, words) call_##name,
+enum { CALLS(COUNT) HOW_MANY };
+#define ROW(name, type, words) {#name, run_##name, 0},
+static struct {
+    const char *name;
+    void (*run)(void);
+    size_t most;
+} calls[] = {CALLS(ROW)};
+
+static void measure(int which) {
+    static const int paints[2] = {0xA5, 0x3C};
+    static uint8_t kept_hold[LOHITUNGA_HOLD];
+    lohitunga_record kept_record = record;
+    lohitunga_roll kept_roll = roll;
+    memcpy(kept_hold, hold, sizeof hold);
+    for (int p = 0; p < 2; p++) {
+        record = kept_record;
+        roll = kept_roll;
+        memcpy(hold, kept_hold, sizeof hold);
+        size_t used = used_by(calls[which].run, paints[p]);
+        if (used > calls[which].most)
+            calls[which].most = used;
+    }
+}
+
+static void lend(const uint8_t *from, size_t n) {
+    bytes = from;
+    size = n;
+}
+
+static const uint8_t descriptors[][20] = {
+    {0x40, 3, 'B', 'R', 'A'},
+    {0x41, 6, 0x10, 0x20, 1, 0x10, 0x38, 2},
+    {0x42, 2, 0xFF, 0},
+    {0x43, 11, 0x01, 0x17, 0x57, 0x25, 0x01, 0x92, 0x99, 0x02, 0x74, 0x50, 0x03},
+    {0x43, 11, 0x01, 0x17, 0x57, 0x25, 0x01, 0x92, 0x81, 0x02, 0x74, 0x50, 0x03},
+    {0x44, 11, 0x03, 0x12, 0x00, 0x00, 0xFF, 0xF2, 0x03, 0x02, 0x74, 0x50, 0x0F},
+    {0x48, 9, 1, 3, 'G', 'B', 'R', 3, 'p', 'o', 'r'},
+    {0x4D, 11, 'p', 'o', 'r', 3, 'B', 'R', 'A', 3, 'G', 'B', 'R'},
+    {0x54, 2, 0x51, 0xA0},
+    {0x55, 8, 'G', 'B', 'R', 4, 'B', 'R', 'A', 1},
+    {0x58, 13, 'G', 'B', 'R', 2, 0, 0, 0xC0, 0x79, 0x12, 0x45, 0, 1, 0},
+    {0x58, 13, 'G', 'B', 'R', 3, 0x23, 0x59, 0xFF, 0xFF, 0xFF, 0xFF, 0xFF, 1, 0},
+    {0x58, 13, 'G', 'B', 'R', 2, 0, 0, 0, 0, 0x12, 0x45, 0, 1, 0x0A},
+    {0x5A, 11, 0, 0, 0, 1, 0x57, 0x9D, 0xCD, 0xFF, 0xFF, 0xFF, 0xFF},
+};
+
+static uint32_t seed = 412;
+static uint32_t chance(uint32_t below) {
+    seed = seed * 1664525 + 1013904223;
+    return (uint32_t)(((uint64_t)seed * below) >> 32);
+}
+
+/* Every reading of these bytes, and of them with a byte turned and cut short. */
+static void descriptor(const uint8_t *from, size_t n) {
+    uint8_t turned[257];
+    for (int k = 0; k < 12; k++) {
+        memcpy(turned, from, n);
+        if (k > 2 && n > 2)
+            turned[2 + chance(n - 2)] = chance(256);
+        lend(turned, k == 1 ? n - 1 : n);
+        number = k == 2 ? 9 : 0;
+        for (int i = call_lohitunga_walk; i <= call_lohitunga_terrestrial; i++)
+            measure(i);
+    }
+}
+
+static void numbers(void) {
+    for (int k = 0; k < 4000; k++) {
+        number = (size_t)chance(UINT32_MAX) << 16 ^ chance(UINT32_MAX);
+        if (k % 3 == 0) /* digits that are none above 5 */
+            number = (number & 0x5555555555555555) | 0xC0000;
+        if (k == 1)
+            number = 0xFFFFFFFFFF;
+        for (int i = call_lohitunga_satellite_hertz; i <= call_lohitunga_date; i++)
+            measure(i);
+        measure(call_lohitunga_fresh);
+    }
+}
+
+/* A section, as it is, cut short, and with a byte turned under a right CRC_32. */
+static void section(const uint8_t *from, size_t n) {
+    static uint8_t turned[4096];
+    for (int k = 0; k < 24; k++) {
+        memcpy(turned, from, n);
+        if (k > 1 && n > 12) {
+            turned[8 + chance(n - 12)] = chance(256);
+            uint32_t crc = lohitunga_crc32(turned, n - 4);
+            for (int i = 0; i < 4; i++)
+                turned[n - 4 + i] = crc >> (24 - 8 * i);
+        }
+        lend(turned, k == 1 ? n - 1 : n);
+        number = k % 2 ? 0x48 : 0x11;
+        for (int i = call_lohitunga_crc32; i <= call_lohitunga_walk; i++)
+            if (i != call_lohitunga_collect)
+                measure(i);
+        measure(call_lohitunga_roll_empty);
+        measure(call_lohitunga_roll_take);
+        measure(call_lohitunga_roll_ask);
+        if (k % 8 == 7)
+            roll = lohitunga_roll_empty();
+    }
+}
+
+/* How many sections the packet finishes, the collector being left as it is. */
+static size_t finished(const uint8_t *packet, size_t n) {
+    static uint8_t same_hold[LOHITUNGA_HOLD], other_out[LOHITUNGA_OUT];
+    lohitunga_record same = record;
+    memcpy(same_hold, hold, sizeof hold);
+    return lohitunga_collect(&same, same_hold, sizeof same_hold, other_out, sizeof other_out, packet, n).sections;
+}
+
+static void packets(FILE *stream, uint16_t pid) {
+    static uint8_t sections[LOHITUNGA_OUT];
+    uint8_t packet[LOHITUNGA_PACKET];
+    size_t n;
+    record = lohitunga_fresh(pid);
+    while ((n = fread(packet, 1, sizeof packet, stream)) > 0) {
+        size_t left = finished(packet, n);
+        lend(packet, n);
+        measure(call_lohitunga_collect);
+        memcpy(sections, out, sizeof out);
+        for (const uint8_t *at = sections; left > 0; left--) {
+            size_t total = 3 + ((at[1] & 15) << 8 | at[2]);
+            section(at, total);
+            at += total;
+        }
+    }
+}
+
+int main(int argc, char **argv) {
+    static const uint8_t eit[] = {0x4E, 0xFF, 0xFD, 0, 1, 0xC1, 0, 0, 0, 2, 0, 3, 0, 0x4E};
+    static uint8_t large[4096];
+    roll = lohitunga_roll_empty();
+    for (size_t i = 0; i < sizeof descriptors / sizeof *descriptors; i++)
+        descriptor(descriptors[i], 2 + descriptors[i][1]);
+    lend(NULL, 0);
+    number = 0;
+    for (int i = 0; i < HOW_MANY; i++)
+        measure(i);
+    numbers();
+    /* the largest section: events without descriptors, and one with them */
+    memcpy(large, eit, sizeof eit);
+    for (size_t at = sizeof eit; at + 12 <= sizeof large - 4; at += 12)
+        memcpy(large + at, "\0\1\300\171\22\105\0\1\105\60\200\0", 12);
+    section(large, sizeof large);
+    for (int i = 1; i + 1 < argc; i += 2) {
+        FILE *stream = fopen(argv[i], "rb");
+        if (!stream) {
+            perror(argv[i]);
+            return 1;
+        }
+        packets(stream, (uint16_t)strtoul(argv[i + 1], NULL, 16));
+        fclose(stream);
+    }
+    for (int i = 0; i < HOW_MANY; i++)
+        printf("%s %zu\n", calls[i].name, calls[i].most);
+    return 0;
+}

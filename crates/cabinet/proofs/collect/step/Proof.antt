@@ -1,0 +1,40 @@
+-- The step beneath, with record and answer in numbers.
+use Rattle.cabinet.proofs.Outcomes.{collecting-is}
+use borrow.Author.Needs.{needs}
+use Rattle.cabinet.proofs.collect.step.Statement.{statement}
+use Rattle.cabinet.proofs.collect.step.Tie as tie
+
+record-in-requires : tie.Need-record-in-requires
+record-in-requires c κs = search needs
+
+step-requires : tie.Need-step-requires
+step-requires c κs = search needs
+
+record-says-requires : tie.Need-record-says-requires
+record-says-requires c κs = search needs
+
+answer-says-requires : tie.Need-answer-says-requires
+answer-says-requires c κs = search needs
+
+same-length : tie.Need-same-length
+same-length c = search needs
+
+same-length-2 : tie.Need-same-length-2
+same-length-2 c = search needs
+
+returns : tie.Need-returns
+returns c =
+    let a = c .before .before .before .before .before .before .before .before .before .before .before .before .before .before .args in
+    rw (c .before .record-says .ensures, c .answer-says .ensures) (collecting-is (a .rec) (a .hold .now) (a .out .now) (a .packet .now) (c .before .before .before .before .before .before .before .before .before .before .record-in .ensures) (c .before .before .before .before .before .before .before .step .ensures))
+
+pub step-spec : {M : Type 1} → statement M
+step-spec =
+    tie.close
+    (tie.spec
+    record-in-requires
+    step-requires
+    record-says-requires
+    answer-says-requires
+    same-length
+    same-length-2
+    returns)

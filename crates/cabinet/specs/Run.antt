@@ -1,0 +1,48 @@
+-- Demand 3 for C: "Start a fresh collector, feed it any packets, hand record and hold on untouched." What whole runs of `lohitunga_collect` come to
+-- is what runs of the collector come to, said in numbers.
+use mathlib.Core.Path.{_≡_}
+use mathlib.Core.List.{List, [], _∷_, map}
+use Prim.Native.Nat.{ℕ}
+use Rattle.collector.specs.Collected.{freshRecord}
+use Rattle.collector.specs.Run as beneath
+use Rattle.collector.specs.declared.Record as of
+use Rattle.cabinet.specs.Collect.{recordSays, collectSays, Outcome, leaves, collecting}
+use Rattle.cabinet.specs.declared.collect.Record.{Record}
+use Rattle.cabinet.specs.declared.collect.CollectAnswer.{CollectAnswer}
+
+-- what a collector for C may make of a record, a hold, an out room and a packet
+abbrev pub Collector : Type 1
+Collector = Record → List ℕ → List ℕ → List ℕ → Outcome → Type 0
+
+-- what `lohitunga_collect` promises
+abbrev pub Promised : Collector
+Promised r hold out packet o = o ≡ collecting r hold out packet
+
+-- a call: the packet, the out room before and after it, and the answer
+pub record Call : Type 0 where
+  pub packet : List ℕ
+  pub out : List ℕ
+  pub out′ : List ℕ
+  pub answer : CollectAnswer
+
+-- "hand record and hold on untouched": from a record and a hold, by calls, to a record and a hold
+pub data Run (C : Collector) : Record → List ℕ → List Call → Record → List ℕ → Type 0 where
+  no-call : {r : Record} {hold : List ℕ} → Run C r hold [] r hold
+  one-call : {r r₁ r′ : Record} {hold hold₁ hold′ : List ℕ} {k : Call} {ks : List Call}
+      → C r hold (k .out) (k .packet) (leaves r₁ hold₁ (k .out′) (k .answer)) → Run C r₁ hold₁ ks r′ hold′ → Run C r hold (k ∷ ks) r′ hold′
+
+-- a call of the collector in numbers
+abbrev pub callSays : beneath.Call → Call
+callSays k = record { packet = k .packet; out = k .out; out′ = k .out′; answer = collectSays (k .said) }
+
+-- a run of the collector, from a record, of which this is what is told in numbers
+pub record Beneath (from : of.Record) (hold : List ℕ) (calls : List Call) (r : Record) (hold′ : List ℕ) : Type 0 where
+  pub under : List beneath.Call
+  pub rec : of.Record
+  pub run : beneath.Run beneath.Promised from hold under rec hold′
+  pub calls-say : calls ≡ map callSays under
+  pub record-says : r ≡ recordSays rec
+
+-- a run from a fresh record is a run of the collector from a fresh record
+abbrev pub RunsBeneath : Collector → Type 0
+RunsBeneath C = (pid : ℕ) (hold : List ℕ) (calls : List Call) (r : Record) (hold′ : List ℕ) → Run C (recordSays (freshRecord pid)) hold calls r hold′ → Beneath (freshRecord pid) hold calls r hold′

@@ -1,0 +1,137 @@
+// The descriptors that hold texts.
+ghost use mathlib.Core.Path.{_≡_};
+ghost use Rattle.texts.specs.NetworkName.{networkName};
+ghost use Rattle.texts.specs.Stuffing.{stuffing};
+ghost use Rattle.texts.specs.Service.{service};
+ghost use Rattle.texts.specs.ShortEvent.{shortEvent};
+ghost use Rattle.cabinet.specs.Texts.{partSays, noPart, textSays, serviceSays, shortEventSays};
+use crate::numbers::of_refusal;
+use texts::network_name;
+use texts::service;
+use texts::short_event;
+use texts::stuffing;
+
+// A part of the descriptor's bytes, its start counted from the tag as 0.
+#[repr(C)]
+pub struct Part {
+    pub start: usize,
+    pub size: usize,
+}
+
+#[repr(C)]
+pub struct TextAnswer {
+    pub number: u32,
+    pub text: Part,
+}
+
+#[repr(C)]
+pub struct ServiceAnswer {
+    pub number: u32,
+    pub service_type: u8,
+    pub service_provider_name: Part,
+    pub service_name: Part,
+}
+
+#[repr(C)]
+pub struct ShortEventAnswer {
+    pub number: u32,
+    // Three characters, the first the highest byte.
+    pub language_code: u32,
+    pub event_name: Part,
+    pub text: Part,
+}
+
+fn part_of(part: layout::Part) -> Part
+    ensures { λ r. ⌜ r ≡ partSays part ⌝ }
+{
+    Part {
+        start: part.start,
+        size: part.length,
+    }
+}
+
+fn no_part() -> Part
+    ensures { λ r. ⌜ r ≡ noPart ⌝ }
+{
+    Part { start: 0, size: 0 }
+}
+
+#[no_mangle]
+pub extern "C" fn lohitunga_network_name(descriptor: &[u8]) -> TextAnswer
+    ensures { λ r. ⌜ r ≡ textSays (networkName (now (descriptor .entry))) ⌝ }
+{
+    match network_name::read(descriptor) {
+        network_name::Answer::Is(name) => TextAnswer {
+            number: 0,
+            text: part_of(name),
+        },
+        network_name::Answer::Refused(why) => TextAnswer {
+            number: of_refusal(why),
+            text: no_part(),
+        },
+    }
+}
+
+#[no_mangle]
+pub extern "C" fn lohitunga_stuffing(descriptor: &[u8]) -> TextAnswer
+    ensures { λ r. ⌜ r ≡ textSays (stuffing (now (descriptor .entry))) ⌝ }
+{
+    match stuffing::read(descriptor) {
+        stuffing::Answer::Is(bytes) => TextAnswer {
+            number: 0,
+            text: part_of(bytes),
+        },
+        stuffing::Answer::Refused(why) => TextAnswer {
+            number: of_refusal(why),
+            text: no_part(),
+        },
+    }
+}
+
+#[no_mangle]
+pub extern "C" fn lohitunga_service(descriptor: &[u8]) -> ServiceAnswer
+    ensures { λ r. ⌜ r ≡ serviceSays (service (now (descriptor .entry))) ⌝ }
+{
+    match service::read(descriptor) {
+        service::Answer::Is(read) => {
+            let provider = read.service_provider_name;
+            let name = read.service_name;
+            ServiceAnswer {
+                number: 0,
+                service_type: read.service_type,
+                service_provider_name: part_of(provider),
+                service_name: part_of(name),
+            }
+        }
+        service::Answer::Refused(why) => ServiceAnswer {
+            number: of_refusal(why),
+            service_type: 0,
+            service_provider_name: no_part(),
+            service_name: no_part(),
+        },
+    }
+}
+
+#[no_mangle]
+pub extern "C" fn lohitunga_short_event(descriptor: &[u8]) -> ShortEventAnswer
+    ensures { λ r. ⌜ r ≡ shortEventSays (shortEvent (now (descriptor .entry))) ⌝ }
+{
+    match short_event::read(descriptor) {
+        short_event::Answer::Is(read) => {
+            let name = read.event_name;
+            let text = read.text;
+            ShortEventAnswer {
+                number: 0,
+                language_code: read.language_code,
+                event_name: part_of(name),
+                text: part_of(text),
+            }
+        }
+        short_event::Answer::Refused(why) => ShortEventAnswer {
+            number: of_refusal(why),
+            language_code: 0,
+            event_name: no_part(),
+            text: no_part(),
+        },
+    }
+}

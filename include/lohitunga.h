@@ -1,0 +1,394 @@
+/* Lohitunga from C: the service information of digital television, EN 300 468.
+ *
+ * The functions are those of libcabinet.a, for x86-64 Linux (`rt staticlib cabinet`). They use no heap, no global data and no system call, and any
+ * number of threads may call them at once, each with what it lends.
+ *
+ * What holds for every call
+ * - Bytes are lent as a pointer and a length. They may hold anything. The pointer points to as many bytes as the length says; with a length of 0 it
+ *   may be any, also a null pointer. A pointer to a record or a roll is aligned as its type and points to one, whose fields may hold anything.
+ * - What is lent by a pointer without `const` overlaps nothing else that is lent to the same call. Bytes lent by `const` pointers may overlap each other.
+ * - No call keeps a pointer. No call writes through a `const` pointer.
+ * - Every answer of a call that can refuse has the field `number`: 0, or the number of the first refusal that applies, in the order of its table
+ *   below. A refusal alters nothing that was lent. Where `number` is not 0 every other field of the answer is 0, but for `place`, and for `next` of the
+ *   walk.
+ * - A place and a `start` are counted from the first byte lent as 0.
+ * - Each call ends, traps never, and reads and writes nothing but what was lent. This is proved for every input, and so is what each call answers.
+ * - Of the C library they call memcpy and memset.
+ *
+ * The stack that a call needs at most, in bytes below the caller's stack pointer, its return address included and that of memcpy and memset left out:
+ *   lohitunga_roll_take            2,168
+ *   lohitunga_search               1,832
+ *   lohitunga_judge                1,272
+ *   lohitunga_crc32                  664
+ *   lohitunga_roll_ask               304
+ *   lohitunga_collect                184
+ *   lohitunga_satellite              184
+ *   lohitunga_terrestrial            184
+ *   lohitunga_service_list           136
+ *   lohitunga_local_time_offset       96
+ *   lohitunga_time                    48
+ *   lohitunga_cable                   40
+ *   every other                        8
+ */
+#ifndef LOHITUNGA_H
+#define LOHITUNGA_H
+
+#include <stddef.h>
+#include <stdint.h>
+
+#ifdef __cplusplus
+extern "C" {
+#endif
+
+/* CRC_32.
+ * Polynomial 0x04C11DB7, register preset to ones, high bit first: the register after all bytes. It is 0 after a section that ends in its own CRC_32.
+ */
+uint32_t lohitunga_crc32(const uint8_t *bytes, size_t size);
+
+/* The collector: from packets of one PID to sections.
+ *
+ * number   given when
+ *   41     the packet is not 188 bytes
+ *   42     the hold is under 4,096 bytes or the out room under 4,280
+ *   43     the record can't stand: pid above 8,191; last above 15 and not LOHITUNGA_NO_COUNTER; in_hand above 4,095; bytes in hand but no counter; the
+ *          first held byte 0xFF; 3 or more held whose header declares no more than are held, or over 4,096 in all
+ *   44     the first byte is not 0x47
+ *   45     transport_error_indicator is 1
+ *   46     the packet has another PID
+ *   47     transport_scrambling_control is not 00
+ *   48     adaptation_field_control is 00; or 11 with a length above 182; or 10 with a length other than 183
+ *   49     the packet has payload and the start flag, and its pointer is above the payload's length minus 2 (a payload of 1 byte: always)
+ */
+#define LOHITUNGA_PACKET 188
+#define LOHITUNGA_HOLD 4096
+#define LOHITUNGA_OUT 4280
+#define LOHITUNGA_NO_COUNTER 255
+
+/* A collector's record. What is in hand stands at the start of the hold; record and hold go together from packet to packet. The five counters count the
+ * payload bytes of each fate and run round past 4,294,967,295 to 0. */
+typedef struct lohitunga_record {
+    uint16_t pid;
+    uint8_t last; /* the last continuity_counter, 0 to 15; LOHITUNGA_NO_COUNTER for none */
+    size_t in_hand;
+    uint32_t pointer;
+    uint32_t delivered;
+    uint32_t broken;
+    uint32_t filler;
+    uint32_t skipped;
+} lohitunga_record;
+
+typedef struct lohitunga_collect_answer {
+    uint32_t number;   /* 0, or 41 to 49 */
+    uint32_t repeated; /* 1 for a repeated packet, which alters nothing; else 0 */
+    size_t sections;   /* how many sections were finished */
+    size_t size;       /* how many bytes they are: the first of the out room, end to end */
+} lohitunga_collect_answer;
+
+/* A record without counter, with nothing in hand and zeros. Any number is taken; a pid above 8,191 gets 43 at each packet. */
+lohitunga_record lohitunga_fresh(uint16_t pid);
+
+/* One packet. Alters the record; of the hold the first bytes, as many as are then in hand; of the out room the first `size` bytes. All other bytes of
+ * either stay. */
+lohitunga_collect_answer lohitunga_collect(lohitunga_record *record, uint8_t *hold, size_t hold_size, uint8_t *out, size_t out_size,
+                                           const uint8_t *packet, size_t packet_size);
+
+/* Sections.
+ *
+ * number   given when                                                                                              place
+ *    1     fewer than 3 bytes                                                                                        0
+ *    2     table_id is none of NIT, SDT, BAT, EIT, TDT, TOT                                                          0
+ *    3     wrong section_syntax_indicator                                                                            0
+ *    4     section_length outside its table's range                                                                  0
+ *    5     the bytes are not 3 + section_length                                                                      0
+ *    6     the CRC_32 register is not zero after the section                                                         0
+ *    7     section_number above last_section_number (NIT, SDT, BAT, EIT)                                             0
+ *    8     a loop reaches past its container                                                                         of its length
+ *    9     a descriptor reaches past its loop, or one byte is left                                                   of its tag
+ *   10     fewer bytes left than an entry's fixed part, or bytes between loop and CRC_32                             of the first of them
+ */
+typedef struct lohitunga_judge_answer {
+    uint32_t number; /* 0 for a section that is accepted, or 1 to 10 */
+    size_t place;
+} lohitunga_judge_answer;
+
+lohitunga_judge_answer lohitunga_judge(const uint8_t *section, size_t size);
+
+typedef struct lohitunga_search_answer {
+    uint32_t number; /* 0, or 1 to 10 as of lohitunga_judge */
+    size_t place;    /* of 8 to 10; else 0 */
+    uint32_t found;  /* 1 for a hit; 0 for none, and then the fields below are 0 */
+    size_t entry;    /* 0 for the top loop, or the entry's number from 1 */
+    size_t start;    /* the place of the descriptor's body; the descriptor begins two bytes before */
+    size_t size;     /* the body's size */
+} lohitunga_search_answer;
+
+/* The first descriptor with the tag, in reading order. */
+lohitunga_search_answer lohitunga_search(const uint8_t *section, size_t size, uint8_t tag);
+
+/* The walk over one loop of descriptors. */
+
+typedef struct lohitunga_walk_answer {
+    uint32_t number;     /* 0, or 9 where no descriptor can be read at the place */
+    size_t place;        /* of 9: the place asked for; else 0 */
+    uint32_t descriptor; /* 1 for a descriptor; 0 at the end, and then the next three fields are 0 */
+    uint8_t tag;
+    size_t start; /* the place of the body; the descriptor begins two bytes before */
+    size_t size;  /* the body's size */
+    size_t next;  /* where to ask next: behind the descriptor; at the end, and with 9, the place asked for */
+} lohitunga_walk_answer;
+
+/* What stands at the place `at` of a loop. The loop's bytes end where the loop ends; `at` may be any number. */
+lohitunga_walk_answer lohitunga_walk(const uint8_t *loop, size_t size, size_t at);
+
+/* Readings of descriptors.
+ * Each takes a whole descriptor, from its tag on.
+ *
+ * number   given when
+ *   61     no byte, or another tag
+ *   62     the length byte is missing or is not the number of bytes after it, or the body doesn't fit the layout exactly
+ *   66     the index is past the end
+ *   63     a BCD digit above 9
+ *   64     an hour above 23, a minute or a second above 59
+ *   65     an MJD below 15,079
+ * 61, 62 and 66 come first, in this order; then the fields from left to right, each 63, 64, 65.
+ */
+
+/* A part of the descriptor's bytes: `size` bytes from the place `start` on. */
+typedef struct lohitunga_part {
+    size_t start;
+    size_t size;
+} lohitunga_part;
+
+typedef struct lohitunga_text_answer {
+    uint32_t number; /* 0, 61, 62 */
+    lohitunga_part text;
+} lohitunga_text_answer;
+
+/* 0x40 network name: the name. */
+lohitunga_text_answer lohitunga_network_name(const uint8_t *descriptor, size_t size);
+
+/* 0x42 stuffing: the stuffing bytes. */
+lohitunga_text_answer lohitunga_stuffing(const uint8_t *descriptor, size_t size);
+
+typedef struct lohitunga_service_answer {
+    uint32_t number; /* 0, 61, 62 */
+    uint8_t service_type;
+    lohitunga_part service_provider_name;
+    lohitunga_part service_name;
+} lohitunga_service_answer;
+
+/* 0x48 service. */
+lohitunga_service_answer lohitunga_service(const uint8_t *descriptor, size_t size);
+
+typedef struct lohitunga_short_event_answer {
+    uint32_t number;        /* 0, 61, 62 */
+    uint32_t language_code; /* three characters, the first the highest byte */
+    lohitunga_part event_name;
+    lohitunga_part text;
+} lohitunga_short_event_answer;
+
+/* 0x4D short event. */
+lohitunga_short_event_answer lohitunga_short_event(const uint8_t *descriptor, size_t size);
+
+/* How many items a list has. */
+typedef struct lohitunga_count_answer {
+    uint32_t number; /* 0, 61, 62 */
+    size_t count;
+} lohitunga_count_answer;
+
+typedef struct lohitunga_service_list_answer {
+    uint32_t number; /* 0, 61, 62, 66 */
+    uint16_t service_id;
+    uint8_t service_type;
+} lohitunga_service_list_answer;
+
+/* 0x41 service list: how many items, and the item of an index counted from 0. */
+lohitunga_count_answer lohitunga_service_list_count(const uint8_t *descriptor, size_t size);
+lohitunga_service_list_answer lohitunga_service_list(const uint8_t *descriptor, size_t size, size_t index);
+
+typedef struct lohitunga_content_answer {
+    uint32_t number; /* 0, 61, 62, 66 */
+    uint8_t content_nibble_level_1;
+    uint8_t content_nibble_level_2;
+    uint8_t user_byte;
+} lohitunga_content_answer;
+
+/* 0x54 content. */
+lohitunga_count_answer lohitunga_content_count(const uint8_t *descriptor, size_t size);
+lohitunga_content_answer lohitunga_content(const uint8_t *descriptor, size_t size, size_t index);
+
+typedef struct lohitunga_parental_rating_answer {
+    uint32_t number;       /* 0, 61, 62, 66 */
+    uint32_t country_code; /* three characters, the first the highest byte */
+    uint8_t rating;
+} lohitunga_parental_rating_answer;
+
+/* 0x55 parental rating. */
+lohitunga_count_answer lohitunga_parental_rating_count(const uint8_t *descriptor, size_t size);
+lohitunga_parental_rating_answer lohitunga_parental_rating(const uint8_t *descriptor, size_t size, size_t index);
+
+/* A time that was read. */
+typedef struct lohitunga_moment {
+    uint16_t mjd; /* the day: lohitunga_date gives its date */
+    uint8_t hour;
+    uint8_t minute;
+    uint8_t second;
+    uint8_t undefined; /* 1 for forty ones, and then the other fields are 0; else 0 */
+} lohitunga_moment;
+
+typedef struct lohitunga_local_time_offset_answer {
+    uint32_t number;       /* 0, 61 to 66 */
+    uint32_t country_code; /* three characters, the first the highest byte */
+    uint8_t country_region_id;
+    int16_t local_time_offset; /* in minutes, below zero behind UTC */
+    lohitunga_moment time_of_change;
+    int16_t next_time_offset; /* in minutes, below zero behind UTC */
+} lohitunga_local_time_offset_answer;
+
+/* 0x58 local time offset. */
+lohitunga_count_answer lohitunga_local_time_offset_count(const uint8_t *descriptor, size_t size);
+lohitunga_local_time_offset_answer lohitunga_local_time_offset(const uint8_t *descriptor, size_t size, size_t index);
+
+/* Frequencies count steps of 10 kHz, 100 Hz and 10 Hz. Each is a type of its own, so that none is taken for another. */
+typedef struct lohitunga_satellite_frequency {
+    uint32_t steps; /* of 10 kHz */
+} lohitunga_satellite_frequency;
+
+typedef struct lohitunga_cable_frequency {
+    uint32_t steps; /* of 100 Hz */
+} lohitunga_cable_frequency;
+
+typedef struct lohitunga_terrestrial_frequency {
+    uint32_t steps; /* of 10 Hz */
+} lohitunga_terrestrial_frequency;
+
+uint64_t lohitunga_satellite_hertz(lohitunga_satellite_frequency frequency);
+uint64_t lohitunga_cable_hertz(lohitunga_cable_frequency frequency);
+uint64_t lohitunga_terrestrial_hertz(lohitunga_terrestrial_frequency frequency);
+
+typedef struct lohitunga_satellite_answer {
+    uint32_t number; /* 0, 61 to 63 */
+    lohitunga_satellite_frequency frequency;
+    uint32_t orbital_position; /* in tenths of a degree */
+    uint32_t symbol_rate;      /* in steps of 100 symbols a second */
+    uint8_t west_east_flag;    /* 1 in the east */
+    uint8_t polarization;
+    uint8_t modulation_system; /* 0 for DVB-S, 1 for DVB-S2 */
+    uint8_t roll_off;          /* of DVB-S2; 0 with DVB-S, which has none */
+    uint8_t modulation_type;
+    uint8_t fec_inner;
+} lohitunga_satellite_answer;
+
+/* 0x43 satellite delivery system. */
+lohitunga_satellite_answer lohitunga_satellite(const uint8_t *descriptor, size_t size);
+
+typedef struct lohitunga_cable_answer {
+    uint32_t number; /* 0, 61 to 63 */
+    lohitunga_cable_frequency frequency;
+    uint32_t symbol_rate; /* in steps of 100 symbols a second */
+    uint8_t fec_outer;
+    uint8_t modulation;
+    uint8_t fec_inner;
+} lohitunga_cable_answer;
+
+/* 0x44 cable delivery system. */
+lohitunga_cable_answer lohitunga_cable(const uint8_t *descriptor, size_t size);
+
+typedef struct lohitunga_terrestrial_answer {
+    uint32_t number; /* 0, 61, 62 */
+    lohitunga_terrestrial_frequency centre_frequency;
+    uint8_t bandwidth;
+    uint8_t priority;               /* 0 or 1 */
+    uint8_t time_slicing_indicator; /* 0 or 1 */
+    uint8_t mpe_fec_indicator;      /* 0 or 1 */
+    uint8_t constellation;
+    uint8_t hierarchy_information;
+    uint8_t code_rate_hp_stream;
+    uint8_t code_rate_lp_stream;
+    uint8_t guard_interval;
+    uint8_t transmission_mode;
+    uint8_t other_frequency_flag; /* 0 or 1 */
+} lohitunga_terrestrial_answer;
+
+/* 0x5A terrestrial delivery system. */
+lohitunga_terrestrial_answer lohitunga_terrestrial(const uint8_t *descriptor, size_t size);
+
+/* Times.
+ * Hour, minute and second are given as they are broadcast: two BCD digits in a byte.
+ * number: 63, 64 and 65 as above, the fields from left to right.
+ */
+typedef struct lohitunga_time_answer {
+    uint32_t number; /* 0, 63 to 65 */
+    lohitunga_moment time;
+} lohitunga_time_answer;
+
+/* An MJD of 16 bits and six digits. Forty ones are the undefined time. */
+lohitunga_time_answer lohitunga_time(uint16_t mjd, uint8_t hour, uint8_t minute, uint8_t second);
+
+typedef struct lohitunga_duration_answer {
+    uint32_t number; /* 0, 63, 64 */
+    uint8_t hour;    /* 0 to 99 */
+    uint8_t minute;
+    uint8_t second;
+} lohitunga_duration_answer;
+
+lohitunga_duration_answer lohitunga_duration(uint8_t hour, uint8_t minute, uint8_t second);
+
+typedef struct lohitunga_offset_answer {
+    uint32_t number; /* 0, 63, 64 */
+    int16_t minutes; /* -1,439 to 1,439, below zero behind UTC */
+} lohitunga_offset_answer;
+
+/* `behind` is the polarity: 0 ahead of UTC, any other number behind it. */
+lohitunga_offset_answer lohitunga_offset(uint8_t behind, uint8_t hour, uint8_t minute);
+
+typedef struct lohitunga_date_answer {
+    uint32_t number; /* 0, 65 */
+    uint16_t year;
+    uint8_t month; /* from 1, January */
+    uint8_t day;
+} lohitunga_date_answer;
+
+/* The Gregorian date of an MJD. */
+lohitunga_date_answer lohitunga_date(uint16_t mjd);
+
+/* The roll: which sections of a sub-table have come.
+ *
+ * number   given when
+ *   1-10   the judge refuses the section, with the judge's place
+ *   83     TDT, TOT
+ *   82     another sub-table
+ *   81     current_next_indicator is 0
+ */
+typedef struct lohitunga_roll {
+    uint8_t begun; /* 0 for an empty roll, whose other fields mean nothing; any other number for one that is begun */
+    uint8_t table_id;
+    uint16_t extension;
+    uint16_t transport_stream_id; /* EIT's alone; else not looked at */
+    uint16_t original_network_id; /* SDT's and EIT's; else not looked at */
+    uint8_t version;
+    uint8_t last;      /* last_section_number */
+    uint8_t came[256]; /* came[n] is not 0: the section of number n has come; those above `last` mean nothing */
+} lohitunga_roll;
+
+typedef struct lohitunga_roll_answer {
+    uint32_t number; /* 0, 1 to 10, 81 to 83 */
+    size_t place;    /* of 8 to 10; else 0 */
+    uint8_t complete; /* 1 where all sections from 0 to the last have come; else 0 */
+    uint8_t missing;  /* the smallest number that has not come; 0 where complete */
+} lohitunga_roll_answer;
+
+/* A roll in which nothing has come. It takes the first section of any sub-table. */
+lohitunga_roll lohitunga_roll_empty(void);
+
+/* The answer without a section; number is 0. */
+lohitunga_roll_answer lohitunga_roll_ask(const lohitunga_roll *roll);
+
+/* A section. Alters the roll where it is not refused; `begun` and each of `came` are then 0 or 1. */
+lohitunga_roll_answer lohitunga_roll_take(lohitunga_roll *roll, const uint8_t *section, size_t size);
+
+#ifdef __cplusplus
+}
+#endif
+
+#endif
