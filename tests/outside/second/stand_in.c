@@ -363,3 +363,31 @@ lohitunga_roll_answer lohitunga_roll_take(lohitunga_roll *roll, const uint8_t *s
         roll->came[255] ^= 1;
     return a;
 }
+
+#ifdef LOHITUNGA_SHEET
+
+lohitunga_sheet_answer lohitunga_to_sheet(const uint8_t *section, size_t size, uint8_t *room, size_t room_size)
+{
+    struct second_written w = second_to_sheet(section, size, room, room_size);
+    lohitunga_sheet_answer a = {w.number, w.place, w.written};
+    /* 19: one byte beyond the sheet */
+    if (fault(19) && w.number == 0)
+        room[w.written] ^= 1;
+    return a;
+}
+
+lohitunga_section_answer lohitunga_to_section(const uint8_t *sheet, size_t size, uint8_t *room, size_t room_size)
+{
+    struct second_written w = second_to_section(sheet, size, room, room_size);
+    lohitunga_section_answer a = {w.number, w.written};
+    /* 20: writes while it still judges; 21: 26 before 25; 22: reserved bits as zeros */
+    if (fault(20) && w.number == 24)
+        room[0] = sheet[0];
+    if (fault(21) && w.number == 25 && size > 1100 && sheet[0] < 0x4B)
+        a.number = 26;
+    if (fault(22) && w.number == 0)
+        room[1] &= 0x8F;
+    return a;
+}
+
+#endif
