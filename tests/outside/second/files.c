@@ -1,0 +1,491 @@
+/* The library's answers in files, for parsers that are programs of their own. Numbers are little-endian. */
+#include "kinds.h"
+#include "lohitunga.h"
+#include "second.h"
+
+#include <inttypes.h>
+#include <stdio.h>
+#include <stdlib.h>
+#include <string.h>
+
+static FILE *file;
+
+static void put(uint64_t value, int bytes)
+{
+    for (int i = 0; i < bytes; i++)
+        putc((int)(value >> 8 * i & 255), file);
+}
+
+static int opened(const char *name)
+{
+    file = fopen(name, "wb");
+    if (!file)
+        perror(name);
+    return file != NULL;
+}
+
+static int closed(const char *name)
+{
+    int bad = ferror(file) | fclose(file);
+    if (bad)
+        perror(name);
+    return bad ? 2 : 0;
+}
+
+/*
+ * The word "sections"; for each MJD from 0 on number 1, year 2, month 1, day 1; then for each section its size 2, the judge's
+ * number 1 and place 2, a tag 1, and the search's found 1, entry 2, start 2, size 1; the sheet's size 2, 0 where there is
+ * none; the section; the sheet.
+ */
+int write_sections(uint64_t seed, uint64_t count, const char *name)
+{
+    static struct section s;
+    static uint8_t sheet[5120];
+    if (!opened(name))
+        return 2;
+    fputs("sections", file);
+    for (unsigned mjd = 0; mjd < 65536; mjd++) {
+        lohitunga_date_answer a = lohitunga_date((uint16_t)mjd);
+        put(a.number, 1);
+        put(a.year, 2);
+        put(a.month, 1);
+        put(a.day, 1);
+    }
+    for (uint64_t i = 0; i < count; i++) {
+        struct dice d = dice_of(seed, 100, i);
+        size_t sheet_size = 0;
+        make_section_case(&d, &s);
+        uint8_t tag = (uint8_t)below(&d, 256);
+        if (s.tag_count > 0 && !one_in(&d, 3))
+            tag = s.bytes[s.tags[below(&d, s.tag_count)]];
+        lohitunga_judge_answer a = lohitunga_judge(s.bytes, s.size);
+        lohitunga_search_answer b = lohitunga_search(s.bytes, s.size, tag);
+#ifdef LOHITUNGA_SHEET
+        sheet_size = lohitunga_to_sheet(s.bytes, s.size, sheet, sizeof sheet).size;
+#endif
+        put(s.size, 2);
+        put(a.number, 1);
+        put(a.place, 2);
+        put(tag, 1);
+        put(b.found, 1);
+        put(b.entry, 2);
+        put(b.start, 2);
+        put(b.size, 1);
+        put(sheet_size, 2);
+        fwrite(s.bytes, 1, s.size, file);
+        fwrite(sheet, 1, sheet_size, file);
+    }
+    return closed(name);
+}
+
+/* Fields, by the names that tshark has for them */
+
+static void say(const char *name, long long value) { fprintf(file, "%s %lld\n", name, value); }
+
+static void say_bytes(const char *name, const uint8_t *bytes, size_t size)
+{
+    fprintf(file, "%s ", name);
+    for (size_t i = 0; i < size; i++)
+        fprintf(file, "%02x", bytes[i]);
+    fprintf(file, "\n");
+}
+
+static void say_letters(const char *name, uint32_t letters)
+{
+    uint8_t three[3] = {(uint8_t)(letters >> 16), (uint8_t)(letters >> 8), (uint8_t)letters};
+    say_bytes(name, three, 3);
+}
+
+/* The MJD, for what is known of other parsers' calendars; then the date and the clock. */
+static void say_moment(const char *name, lohitunga_moment m)
+{
+    lohitunga_date_answer a = lohitunga_date(m.mjd);
+    if (m.undefined)
+        fprintf(file, "%s undefined\n", name);
+    else
+        fprintf(file, "%s %u %04u-%02u-%02u %02u:%02u:%02u\n", name, m.mjd, a.year, a.month, a.day, m.hour, m.minute, m.second);
+}
+
+static int say_time(const char *name, const uint8_t *b)
+{
+    lohitunga_time_answer a = lohitunga_time((uint16_t)(b[0] * 256 + b[1]), b[2], b[3], b[4]);
+    if (a.number == 0)
+        say_moment(name, a.time);
+    return a.number == 0;
+}
+
+static int say_satellite(const uint8_t *b, size_t n)
+{
+    lohitunga_satellite_answer a = lohitunga_satellite(b, n);
+    if (a.number)
+        return 0;
+    say("mpeg_descr.sat_delivery.freq", a.frequency.steps);
+    say("mpeg_descr.sat_delivery.orbital_pos", a.orbital_position);
+    say("mpeg_descr.sat_delivery.west_east_flag", a.west_east_flag);
+    say("mpeg_descr.sat_delivery.polarization", a.polarization);
+    if (a.modulation_system == 1)
+        say("mpeg_descr.sat_delivery.roll_off", a.roll_off);
+    say("mpeg_descr.sat_delivery.modulation_system", a.modulation_system);
+    say("mpeg_descr.sat_delivery.modulation_type", a.modulation_type);
+    say("mpeg_descr.sat_delivery.symbol_rate", a.symbol_rate);
+    say("mpeg_descr.sat_delivery.fec_inner", a.fec_inner);
+    return 1;
+}
+
+static int say_cable(const uint8_t *b, size_t n)
+{
+    lohitunga_cable_answer a = lohitunga_cable(b, n);
+    if (a.number)
+        return 0;
+    say("mpeg_descr.cable_delivery.freq", a.frequency.steps);
+    say("mpeg_descr.cable_delivery.fec_outer", a.fec_outer);
+    say("mpeg_descr.cable_delivery.modulation", a.modulation);
+    say("mpeg_descr.cable_delivery.sym_rate", a.symbol_rate);
+    say("mpeg_descr.cable_delivery.fec_inner", a.fec_inner);
+    return 1;
+}
+
+static int say_terrestrial(const uint8_t *b, size_t n)
+{
+    lohitunga_terrestrial_answer a = lohitunga_terrestrial(b, n);
+    if (a.number)
+        return 0;
+    say("mpeg_descr.terr_delivery.centre_freq", (long long)lohitunga_terrestrial_hertz(a.centre_frequency));
+    say("mpeg_descr.terr_delivery.bandwidth", a.bandwidth);
+    say("mpeg_descr.terr_delivery.priority", a.priority);
+    say("mpeg_descr.terr_delivery.time_slicing_ind", a.time_slicing_indicator);
+    say("mpeg_descr.terr_delivery.mpe_fec_ind", a.mpe_fec_indicator);
+    say("mpeg_descr.terr_delivery.constellation", a.constellation);
+    say("mpeg_descr.terr_delivery.hierarchy_information", a.hierarchy_information);
+    say("mpeg_descr.terr_delivery.code_rate_hp_stream", a.code_rate_hp_stream);
+    say("mpeg_descr.terr_delivery.code_rate_lp_stream", a.code_rate_lp_stream);
+    say("mpeg_descr.terr_delivery.guard_interval", a.guard_interval);
+    say("mpeg_descr.terr_delivery.transmission_mode", a.transmission_mode);
+    say("mpeg_descr.terr_delivery.other_freq_flag", a.other_frequency_flag);
+    return 1;
+}
+
+static int say_texts(const uint8_t *b, size_t n)
+{
+    if (b[0] == 0x40 || b[0] == 0x42) {
+        lohitunga_text_answer a = b[0] == 0x40 ? lohitunga_network_name(b, n) : lohitunga_stuffing(b, n);
+        if (a.number)
+            return 0;
+        if (a.text.size > 0)
+            say_bytes(b[0] == 0x40 ? "mpeg_descr.net_name.name" : "mpeg_descr.stuffing", b + a.text.start, a.text.size);
+        return 1;
+    }
+    if (b[0] == 0x48) {
+        lohitunga_service_answer a = lohitunga_service(b, n);
+        if (a.number)
+            return 0;
+        say("mpeg_descr.svc.type", a.service_type);
+        say("mpeg_descr.svc.provider_name_len", (long long)a.service_provider_name.size);
+        if (a.service_provider_name.size > 0)
+            say_bytes("mpeg_descr.svc.provider_name", b + a.service_provider_name.start, a.service_provider_name.size);
+        say("mpeg_descr.svc.svc_name_len", (long long)a.service_name.size);
+        if (a.service_name.size > 0)
+            say_bytes("mpeg_descr.svc.svc_name", b + a.service_name.start, a.service_name.size);
+        return 1;
+    }
+    lohitunga_short_event_answer a = lohitunga_short_event(b, n);
+    if (a.number)
+        return 0;
+    say_letters("mpeg_descr.short_evt.lang_code", a.language_code);
+    say("mpeg_descr.short_evt.name_len", (long long)a.event_name.size);
+    if (a.event_name.size > 0)
+        say_bytes("mpeg_descr.short_evt.name", b + a.event_name.start, a.event_name.size);
+    say("mpeg_descr.short_evt.txt_len", (long long)a.text.size);
+    if (a.text.size > 0)
+        say_bytes("mpeg_descr.short_evt.txt", b + a.text.start, a.text.size);
+    return 1;
+}
+
+static int say_service_list(const uint8_t *b, size_t n)
+{
+    lohitunga_count_answer count = lohitunga_service_list_count(b, n);
+    for (size_t i = 0; i < count.count; i++) {
+        lohitunga_service_list_answer a = lohitunga_service_list(b, n, i);
+        say("mpeg_descr.svc_list.id", a.service_id);
+        say("mpeg_descr.svc_list.type", a.service_type);
+    }
+    return count.number == 0;
+}
+
+static int say_content(const uint8_t *b, size_t n)
+{
+    lohitunga_count_answer count = lohitunga_content_count(b, n);
+    for (size_t i = 0; i < count.count; i++) {
+        lohitunga_content_answer a = lohitunga_content(b, n, i);
+        say("mpeg_descr.content.nibble_lvl_1", a.content_nibble_level_1);
+        say("mpeg_descr.content.nibble_lvl_2", a.content_nibble_level_2);
+        say("mpeg_descr.content.user", a.user_byte);
+    }
+    return count.number == 0;
+}
+
+static int say_rating(const uint8_t *b, size_t n)
+{
+    lohitunga_count_answer count = lohitunga_parental_rating_count(b, n);
+    for (size_t i = 0; i < count.count; i++) {
+        lohitunga_parental_rating_answer a = lohitunga_parental_rating(b, n, i);
+        say_letters("mpeg_descr.parental_rating.country_code", a.country_code);
+        say("mpeg_descr.parental_rating.rating", a.rating);
+    }
+    return count.number == 0;
+}
+
+static int say_local(const uint8_t *b, size_t n)
+{
+    lohitunga_count_answer count = lohitunga_local_time_offset_count(b, n);
+    for (size_t i = 0; i < count.count; i++) {
+        lohitunga_local_time_offset_answer a = lohitunga_local_time_offset(b, n, i);
+        if (a.number)
+            return 0;
+        say_letters("mpeg_descr.local_time_offset.country_code", a.country_code);
+        say("mpeg_descr.local_time_offset.region_id", a.country_region_id);
+        say("mpeg_descr.local_time_offset.offset", a.local_time_offset);
+        say_moment("mpeg_descr.local_time_offset.time_of_change", a.time_of_change);
+        say("mpeg_descr.local_time_offset.next_time_offset", a.next_time_offset);
+    }
+    return count.number == 0;
+}
+
+/* Whether the library reads the descriptor, or it is of a private tag, into whose body nobody looks. */
+static int say_descriptor(const uint8_t *b, size_t n)
+{
+    say("mpeg_descr.tag", b[0]);
+    say("mpeg_descr.len", b[1]);
+    switch (b[0]) {
+    case 0x40:
+    case 0x42:
+    case 0x48:
+    case 0x4D: return say_texts(b, n);
+    case 0x41: return say_service_list(b, n);
+    case 0x43: return say_satellite(b, n);
+    case 0x44: return say_cable(b, n);
+    case 0x54: return say_content(b, n);
+    case 0x55: return say_rating(b, n);
+    case 0x58: return say_local(b, n);
+    case 0x5A: return say_terrestrial(b, n);
+    default: return b[0] >= 0xE0 && b[0] <= 0xEF;
+    }
+}
+
+static int say_loop(const uint8_t *loop, size_t size)
+{
+    int read = 1;
+    size_t at = 0;
+    for (;;) {
+        lohitunga_walk_answer a = lohitunga_walk(loop, size, at);
+        if (!a.descriptor)
+            return read && a.number == 0;
+        read &= say_descriptor(loop + a.start - 2, a.size + 2);
+        at = a.next;
+    }
+}
+
+static unsigned twelve(const uint8_t *at) { return at[0] % 16u * 256u + at[1]; }
+
+/* Times of the section, and its loops from the first to the last. */
+static int say_accepted(const uint8_t *s, size_t size)
+{
+    size_t at, end = size - 4, fixed = 6;
+    int read = 1;
+    switch (s[0]) {
+    case 0x70: return say_time("dvb_tdt.utc_time", s + 3);
+    case 0x73: return say_time("dvb_tot.utc_time", s + 3) & say_loop(s + 10, twelve(s + 8));
+    case 0x40:
+    case 0x41:
+    case 0x4A:
+        read = say_loop(s + 10, twelve(s + 8));
+        at = 12 + twelve(s + 8);
+        break;
+    case 0x42:
+    case 0x46:
+        at = 11;
+        fixed = 5;
+        break;
+    default:
+        at = 14;
+        fixed = 12;
+    }
+    while (at < end) {
+        if (fixed == 12) {
+            lohitunga_duration_answer a = lohitunga_duration(s[at + 7], s[at + 8], s[at + 9]);
+            read &= say_time("dvb_eit.evt.start_time", s + at + 2) & (a.number == 0);
+            fprintf(file, "dvb_eit.evt.duration %02u%02u%02u\n", a.hour, a.minute, a.second);
+        }
+        size_t loop = twelve(s + at + fixed - 2);
+        read &= say_loop(s + at + fixed, loop);
+        at += fixed + loop;
+    }
+    return read;
+}
+
+#ifdef LOHITUNGA_SHEET
+
+/* A number of the sheet, from left to right. */
+static const uint8_t *sheet_at;
+
+static void from_sheet(const char *table, const char *name, int bytes)
+{
+    long long value = 0;
+    char whole[64];
+    for (int i = 0; i < bytes; i++)
+        value = value * 256 + *sheet_at++;
+    snprintf(whole, sizeof whole, "%s.%s", table, name);
+    say(whole, value);
+}
+
+static void pass_descriptors(void)
+{
+    unsigned count = sheet_at[0] * 256u + sheet_at[1];
+    sheet_at += 2;
+    while (count-- > 0)
+        sheet_at += 2 + sheet_at[1];
+}
+
+/* What a sheet says beside its descriptors. */
+static void say_sheet(const uint8_t *sheet)
+{
+    unsigned id = sheet[0];
+    int nit = id == 0x40 || id == 0x41, bat = id == 0x4A, sdt = id == 0x42 || id == 0x46;
+    const char *table = nit ? "dvb_nit" : bat ? "dvb_bat" : sdt ? "dvb_sdt" : "dvb_eit";
+    if (id == 0x70 || id == 0x73)
+        return;
+    sheet_at = sheet + 1;
+    from_sheet(table, nit ? "sid" : bat ? "bouquet_id" : sdt ? "tsid" : "sid", 2);
+    from_sheet(table, "version", 1);
+    from_sheet(table, "cur_next_ind", 1);
+    from_sheet(table, "sect_num", 1);
+    from_sheet(table, "last_sect_num", 1);
+    if (nit || bat)
+        pass_descriptors();
+    else if (sdt)
+        from_sheet(table, "original_nid", 2);
+    else {
+        from_sheet(table, "tsid", 2);
+        from_sheet(table, "original_nid", 2);
+        from_sheet(table, "segment_last_sect_num", 1);
+        from_sheet(table, "last_tid", 1);
+    }
+    unsigned count = sheet_at[0] * 256u + sheet_at[1];
+    sheet_at += 2;
+    while (count-- > 0) {
+        from_sheet(table, nit || bat ? "ts.id" : sdt ? "svc.id" : "evt.id", 2);
+        if (nit || bat)
+            from_sheet(table, nit ? "ts.original_network_id" : "ts.original_nid", 2);
+        if (sdt) {
+            from_sheet(table, "svc.eit_schedule_flag", 1);
+            from_sheet(table, "svc.eit_present_following_flag", 1);
+        }
+        if (!nit && !bat && !sdt)
+            sheet_at += 8;
+        if (!nit && !bat) {
+            from_sheet(table, sdt ? "svc.running_status" : "evt.running_status", 1);
+            from_sheet(table, sdt ? "svc.free_ca_mode" : "evt.free_ca_mode", 1);
+        }
+        pass_descriptors();
+    }
+}
+
+#endif
+
+/*
+ * For each section a line `section` with its bytes in hexadecimal, a line `number` with the judge's number and place, then
+ * for an accepted one a line for each field, and a last line `read`: 1 where the library reads every time and descriptor.
+ */
+int write_fields(uint64_t seed, uint64_t count, const char *name)
+{
+    static struct section s;
+    if (!opened(name))
+        return 2;
+    for (uint64_t i = 0; i < count; i++) {
+        struct dice d = dice_of(seed, 101, i);
+        d.tame = 1;
+        if (one_in(&d, 2))
+            make_section(&d, &s);
+        else
+            make_section_case(&d, &s);
+        lohitunga_judge_answer a = lohitunga_judge(s.bytes, s.size);
+        say_bytes("section", s.bytes, s.size);
+        fprintf(file, "number %u %zu\n", a.number, a.place);
+        if (a.number)
+            continue;
+#ifdef LOHITUNGA_SHEET
+        static uint8_t sheet[5120];
+        if (lohitunga_to_sheet(s.bytes, s.size, sheet, sizeof sheet).number == 0)
+            say_sheet(sheet);
+#endif
+        say("read", say_accepted(s.bytes, s.size));
+    }
+    return closed(name);
+}
+
+/* Streams for the account program, with their accounts by the second implementation */
+
+static size_t make_stream(struct dice *d, uint8_t *to, size_t most)
+{
+    static struct sender s;
+    static uint8_t packet[PACKET_MOST];
+    size_t n = 0, packets = one_in(d, 10) ? below(d, 3) : between(d, 1, 60);
+    make_sender(d, &s);
+    for (size_t i = 0; i < packets && n + PACKET_MOST < most; i++) {
+        size_t size = make_packet(d, &s, packet);
+        if (size != 188 && !one_in(d, 10))
+            size = 188; /* one of another size shifts all that follow */
+        memcpy(to + n, packet, size);
+        n += size;
+    }
+    return one_in(d, 4) && n > 0 ? n - below(d, n < 400 ? (unsigned)n : 400) : n;
+}
+
+static void print_account(FILE *to, const uint8_t *stream, size_t size)
+{
+    static uint8_t hold[4096], out[4280];
+    static struct second_collected a;
+    uint64_t taken = 0, repeated = 0, refused = 0, sections = 0;
+    if (size < 188) {
+        fprintf(to, "no packets\n");
+        return;
+    }
+    struct second_record r = second_fresh(stream[1] % 32u * 256u + stream[2]);
+    for (size_t at = 0; at < size; at += 188) {
+        size_t piece = size - at < 188 ? size - at : 188;
+        second_collect(&a, &r, hold, sizeof hold, out, sizeof out, stream + at, piece);
+        refused += a.number != 0;
+        repeated += a.number == 0 && a.kind == SECOND_REPEATED;
+        taken += a.number == 0 && a.kind == SECOND_TAKEN;
+        sections += a.sections;
+    }
+    fprintf(to, "PID %04X\ntaken %" PRIu64 "\nrepeated %" PRIu64 "\nrefused %" PRIu64 "\n", r.pid, taken, repeated, refused);
+    fprintf(to, "pointer %" PRIu32 "\ndelivered %" PRIu32 "\nbroken %" PRIu32 "\nfiller %" PRIu32 "\nskipped %" PRIu32 "\n",
+            r.counters[SECOND_POINTER], r.counters[SECOND_DELIVERED], r.counters[SECOND_BROKEN], r.counters[SECOND_FILLER],
+            r.counters[SECOND_SKIPPED]);
+    fprintf(to, "in hand %" PRIu64 "\nsections %" PRIu64 "\n", r.in_hand, sections);
+}
+
+/* FOLDER/0, FOLDER/1 and so on, and to each its listing, FOLDER/0.txt and so on. */
+int write_streams(uint64_t seed, uint64_t count, const char *folder)
+{
+    static uint8_t stream[1 << 17];
+    char name[512];
+    for (uint64_t i = 0; i < count; i++) {
+        struct dice d = dice_of(seed, 102, i);
+        size_t size = make_stream(&d, stream, sizeof stream);
+        snprintf(name, sizeof name, "%s/%" PRIu64, folder, i);
+        if (!opened(name))
+            return 2;
+        fwrite(stream, 1, size, file);
+        if (closed(name))
+            return 2;
+        snprintf(name, sizeof name, "%s/%" PRIu64 ".txt", folder, i);
+        if (!opened(name))
+            return 2;
+        print_account(file, stream, size);
+        if (closed(name))
+            return 2;
+    }
+    return 0;
+}

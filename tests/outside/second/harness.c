@@ -1,0 +1,85 @@
+/*
+ * The library against the second implementation:
+ *     harness SEED COUNT [KIND [FIRST]]      COUNT cases of each kind, or of one, from case number FIRST on
+ *     harness SEED COUNT --sections FILE     COUNT sections with the library's answers, for other parsers to judge
+ *     harness SEED COUNT --fields FILE       COUNT sections with the library's readings of them
+ *     harness SEED COUNT --streams FOLDER    COUNT streams of packets, each with its account by the second implementation
+ * It ends with 0; with 1 at the first difference; with 3 where there is none but some answer of document 01 was never met.
+ */
+#include "kinds.h"
+#include "tally.h"
+
+#include <inttypes.h>
+#include <stdio.h>
+#include <stdlib.h>
+#include <string.h>
+
+int write_sections(uint64_t seed, uint64_t count, const char *name);
+int write_fields(uint64_t seed, uint64_t count, const char *name);
+int write_streams(uint64_t seed, uint64_t count, const char *folder);
+
+static void make_rooms(void)
+{
+    room_make(&rooms.input, SHEET_MOST, 0);
+    room_make(&rooms.hold, 8192, 1);
+    room_make(&rooms.out, 12288, 1);
+    room_make(&rooms.state, 4096, 1);
+    watch_room("the input", &rooms.input);
+    watch_room("the hold", &rooms.hold);
+    watch_room("the out room", &rooms.out);
+    watch_room("the record or roll", &rooms.state);
+}
+
+static void run_kind(const struct kind *k, unsigned which, uint64_t seed, uint64_t first, uint64_t count)
+{
+    case_begins(seed, k->name, 0);
+    if (k->once)
+        k->once();
+    for (uint64_t i = first; i < first + (count + k->share - 1) / k->share; i++) {
+        struct dice d = dice_of(seed, which, i);
+        case_begins(seed, k->name, i);
+        k->one(&d);
+    }
+    must(room_whole(&rooms.input) && room_whole(&rooms.hold) && room_whole(&rooms.out) && room_whole(&rooms.state),
+         "every canary stands at the end");
+}
+
+int main(int argc, char **argv)
+{
+    if (argc < 3) {
+        fprintf(stderr, "usage: %s SEED COUNT [KIND [FIRST] | --sections FILE | --fields FILE | --streams FOLDER]\n", argv[0]);
+        return 2;
+    }
+    uint64_t seed = strtoull(argv[1], NULL, 0), count = strtoull(argv[2], NULL, 0);
+    const char *only = argc > 3 ? argv[3] : NULL;
+    uint64_t first = argc > 4 ? strtoull(argv[4], NULL, 0) : 0;
+    if (argc == 5 && strcmp(only, "--sections") == 0)
+        return write_sections(seed, count, argv[4]);
+    if (argc == 5 && strcmp(only, "--fields") == 0)
+        return write_fields(seed, count, argv[4]);
+    if (argc == 5 && strcmp(only, "--streams") == 0)
+        return write_streams(seed, count, argv[4]);
+
+    make_rooms();
+    watch();
+    printf("second: seed %" PRIu64 ", %" PRIu64 " cases of each kind%s\n", seed, count,
+           has_sheets() ? "" : " (no sheets: the library has none yet)");
+    fflush(stdout);
+    unsigned kinds_run = 0;
+    for (unsigned i = 0; i < kind_count; i++) {
+        if (only && strcmp(only, kinds[i].name) != 0)
+            continue;
+        kinds[i].prepare();
+        run_kind(&kinds[i], i, seed, first, count);
+        kinds_run++;
+    }
+    if (kinds_run == 0) {
+        fprintf(stderr, "%s: no kind of this name\n", only);
+        return 2;
+    }
+    int all = print_met();
+    if (!all && argc > 4)
+        all = 1; /* single cases are asked for, and they need not meet everything */
+    printf(all ? "second: no difference\n" : "second: FAILED: no difference, but not every answer was met\n");
+    return all ? 0 : 3;
+}

@@ -1,0 +1,824 @@
+#include "make.h"
+#include "second.h"
+
+#include <string.h>
+
+/* Dice */
+
+static uint64_t mix(uint64_t z)
+{
+    z = (z ^ (z >> 30)) * 0xBF58476D1CE4E5B9u;
+    z = (z ^ (z >> 27)) * 0x94D049BB133111EBu;
+    return z ^ (z >> 31);
+}
+
+uint64_t dice_any(struct dice *d)
+{
+    d->state += 0x9E3779B97F4A7C15u;
+    return mix(d->state);
+}
+
+struct dice dice_of(uint64_t seed, unsigned kind, uint64_t number)
+{
+    struct dice d = {mix(mix(seed + 0x9E3779B97F4A7C15u) + kind * 0x100000001B3u) ^ mix(number + 1), 0};
+    return d;
+}
+
+unsigned below(struct dice *d, unsigned n) { return (unsigned)((dice_any(d) >> 32) * n >> 32); }
+unsigned between(struct dice *d, unsigned from, unsigned to) { return from + below(d, to - from + 1); }
+int one_in(struct dice *d, unsigned n) { return below(d, n) == 0; }
+
+void fill(struct dice *d, uint8_t *to, size_t n)
+{
+    uint64_t bits = 0;
+    for (size_t i = 0; i < n; i++) {
+        if (i % 8 == 0)
+            bits = dice_any(d);
+        to[i] = (uint8_t)(bits >> i % 8 * 8);
+    }
+}
+
+static uint8_t any_byte(struct dice *d) { return (uint8_t)below(d, 256); }
+
+/* A byte that is on an edge more often than by chance. */
+static uint8_t edge_byte(struct dice *d)
+{
+    static const uint8_t edges[] = {0, 1, 2, 3, 0x7F, 0x80, 0xFD, 0xFE, 0xFF, 0x47, 0x0F, 0xF0, 181, 182, 183, 184};
+    return one_in(d, 2) ? edges[below(d, sizeof edges)] : any_byte(d);
+}
+
+/* Descriptors */
+
+const uint8_t typed_tags[11] = {0x40, 0x41, 0x42, 0x43, 0x44, 0x48, 0x4D, 0x54, 0x55, 0x58, 0x5A};
+
+static uint8_t bcd_byte(struct dice *d, unsigned most)
+{
+    unsigned value = below(d, most + 1);
+    return (uint8_t)(value / 10 * 16 + value % 10);
+}
+
+/* Two digits that may be a number up to `most`, or too large a number, or no digits at all. */
+static uint8_t clock_byte(struct dice *d, unsigned most, int wild)
+{
+    wild = wild && !d->tame;
+    if (wild && one_in(d, 12))
+        return any_byte(d);
+    if (wild && one_in(d, 12))
+        return bcd_byte(d, 99);
+    if (one_in(d, 8))
+        return (uint8_t)(most / 10 * 16 + most % 10);
+    return bcd_byte(d, most);
+}
+
+static void put_time(struct dice *d, uint8_t *to, int wild)
+{
+    unsigned mjd = between(d, 15079, 65535);
+    wild = wild && !d->tame;
+    if (one_in(d, 10)) {
+        memset(to, 0xFF, 5);
+        if (wild && one_in(d, 2))
+            to[below(d, 5)] ^= (uint8_t)(1u << below(d, 8));
+        return;
+    }
+    if (wild && one_in(d, 8))
+        mjd = below(d, 65536);
+    if (one_in(d, 16))
+        mjd = one_in(d, 2) ? 15079 : wild ? 15078 : 65535;
+    to[0] = (uint8_t)(mjd / 256);
+    to[1] = (uint8_t)mjd;
+    to[2] = clock_byte(d, 23, wild);
+    to[3] = clock_byte(d, 59, wild);
+    to[4] = clock_byte(d, 59, wild);
+}
+
+static void put_digits(struct dice *d, uint8_t *to, unsigned digits, int wild)
+{
+    wild = wild && !d->tame;
+    for (unsigned i = 0; i < digits; i++) {
+        unsigned digit = wild && one_in(d, 60) ? between(d, 10, 15) : below(d, 10);
+        if (i % 2 == 0)
+            to[i / 2] = (uint8_t)(digit * 16 + to[i / 2] % 16);
+        else
+            to[i / 2] = (uint8_t)(to[i / 2] / 16 * 16 + digit);
+    }
+}
+
+static size_t put_text(struct dice *d, uint8_t *to, size_t most)
+{
+    size_t n = one_in(d, 12) ? most : below(d, most < 24 ? (unsigned)most + 1 : 25);
+    for (size_t i = 0; i < n; i++)
+        to[i] = d->tame ? (uint8_t)between(d, 'a', 'z') : one_in(d, 20) ? any_byte(d) : (uint8_t)between(d, 0x20, 0x7E);
+    return n;
+}
+
+static void put_letters(struct dice *d, uint8_t *to)
+{
+    for (int i = 0; i < 3; i++)
+        to[i] = (uint8_t)between(d, 'A', 'Z');
+}
+
+static size_t items(struct dice *d, size_t item)
+{
+    return item * (one_in(d, 12) ? 255 / item : below(d, 5));
+}
+
+size_t make_typed(struct dice *d, uint8_t tag, uint8_t *to, int wild)
+{
+    uint8_t *b = to + 2;
+    size_t n = 0, first;
+    switch (tag) {
+    case 0x40:
+    case 0x42:
+        n = put_text(d, b, 255);
+        break;
+    case 0x41:
+        n = items(d, 3);
+        fill(d, b, n);
+        break;
+    case 0x43:
+    case 0x44:
+        n = 11;
+        fill(d, b, n);
+        put_digits(d, b, 8, wild);
+        if (tag == 0x43)
+            put_digits(d, b + 4, 4, wild);
+        put_digits(d, b + 7, 7, wild);
+        break;
+    case 0x48:
+    case 0x4D:
+        first = tag == 0x48 ? 1 : 3;
+        if (tag == 0x48)
+            b[0] = any_byte(d);
+        else
+            put_letters(d, b);
+        b[first] = (uint8_t)put_text(d, b + first + 1, 253 - first);
+        n = first + 1 + b[first];
+        b[n] = (uint8_t)put_text(d, b + n + 1, 254 - n);
+        n += 1u + b[n];
+        break;
+    case 0x54:
+        n = items(d, 2);
+        fill(d, b, n);
+        break;
+    case 0x55:
+        n = items(d, 4);
+        for (size_t i = 0; i < n; i += 4) {
+            put_letters(d, b + i);
+            b[i + 3] = any_byte(d);
+        }
+        break;
+    case 0x58:
+        n = items(d, 13);
+        for (size_t i = 0; i < n; i += 13) {
+            put_letters(d, b + i);
+            b[i + 3] = any_byte(d);
+            b[i + 4] = clock_byte(d, 23, wild);
+            b[i + 5] = clock_byte(d, 59, wild);
+            put_time(d, b + i + 6, wild);
+            b[i + 11] = clock_byte(d, 23, wild);
+            b[i + 12] = clock_byte(d, 59, wild);
+        }
+        break;
+    default:
+        n = 11;
+        fill(d, b, n);
+    }
+    to[0] = tag;
+    to[1] = (uint8_t)n;
+    return 2 + n;
+}
+
+size_t make_reading_case(struct dice *d, uint8_t tag, uint8_t *to)
+{
+    size_t n = make_typed(d, tag, to, one_in(d, 2)), more;
+    switch (below(d, 20)) {
+    case 0: /* cut */
+        n = below(d, (unsigned)n + 1);
+        break;
+    case 1: /* cut, and the length byte put right */
+        n = below(d, (unsigned)n + 1);
+        if (n >= 2)
+            to[1] = (uint8_t)(n - 2);
+        break;
+    case 2: /* bytes behind it */
+        more = between(d, 1, 40);
+        fill(d, to + n, more);
+        n += more;
+        break;
+    case 3: /* bytes behind it, and the length byte put right where it can be */
+        more = between(d, 1, 14);
+        fill(d, to + n, more);
+        n += more;
+        to[1] = (uint8_t)(n - 2);
+        break;
+    case 4:
+        to[0] = one_in(d, 2) ? typed_tags[below(d, 11)] : any_byte(d);
+        break;
+    case 5:
+        to[1] = one_in(d, 2) ? (uint8_t)(to[1] + between(d, 0, 4) - 2) : any_byte(d);
+        break;
+    case 6: /* some bytes of any kind */
+        for (unsigned i = below(d, 4); i > 0 && n > 2; i--)
+            to[2 + below(d, (unsigned)n - 2)] = edge_byte(d);
+        break;
+    case 7: /* all bytes of any kind behind tag and length */
+        n = between(d, 2, 60);
+        fill(d, to, n);
+        to[0] = tag;
+        to[1] = (uint8_t)(n - 2);
+        break;
+    case 8:
+        n = below(d, 4);
+        fill(d, to, n);
+        if (n > 0 && one_in(d, 2))
+            to[0] = tag;
+        break;
+    default:
+        break;
+    }
+    return n;
+}
+
+size_t make_descriptor(struct dice *d, uint8_t *to, size_t most)
+{
+    if (one_in(d, 2)) {
+        uint8_t typed[260];
+        size_t n = make_typed(d, typed_tags[below(d, 11)], typed, one_in(d, 8));
+        if (n <= most) {
+            memcpy(to, typed, n);
+            return n;
+        }
+    }
+    size_t n = one_in(d, 10) ? below(d, 256) : below(d, 12);
+    if (n > most - 2)
+        n = most - 2;
+    to[0] = d->tame ? (uint8_t)between(d, 0xE0, 0xEF) : any_byte(d);
+    to[1] = (uint8_t)n;
+    fill(d, to + 2, n);
+    return 2 + n;
+}
+
+/* Sections */
+
+static int has_crc(const struct section *s) { return s->bytes[0] != 0x70; }
+
+void put_crc_right(struct section *s)
+{
+    if (!has_crc(s) || s->size < 7)
+        return;
+    uint32_t crc = second_crc(s->bytes, s->size - 4);
+    for (int i = 0; i < 4; i++)
+        s->bytes[s->size - 4 + (size_t)i] = (uint8_t)(crc >> (24 - 8 * i));
+}
+
+static void put_twelve(uint8_t *at, size_t value)
+{
+    at[0] = (uint8_t)(at[0] / 16 * 16 + value / 256 % 16);
+    at[1] = (uint8_t)value;
+}
+
+static unsigned get_twelve(const uint8_t *at) { return at[0] % 16u * 256u + at[1]; }
+
+void put_length_and_crc_right(struct section *s)
+{
+    if (s->size < 3)
+        return;
+    put_twelve(s->bytes + 1, s->size - 3);
+    put_crc_right(s);
+}
+
+static unsigned fixed_part(uint8_t table_id)
+{
+    return table_id == 0x42 || table_id == 0x46 ? 5 : table_id >= 0x4E && table_id <= 0x6F ? 12 : 6;
+}
+
+/* Descriptors up to `end`, some or as many as fit; the length's place is kept, with each tag's. */
+static void put_loop(struct dice *d, struct section *s, unsigned length_at, size_t end, int full)
+{
+    size_t begin = s->size;
+    unsigned wanted = one_in(d, 3) ? 0 : full ? 4000 : between(d, 1, 4);
+    while (wanted-- > 0 && end - s->size >= 2 && s->tag_count < TAGS_MOST) {
+        s->tags[s->tag_count++] = (unsigned)s->size;
+        s->size += make_descriptor(d, s->bytes + s->size, end - s->size);
+    }
+    put_twelve(s->bytes + length_at, s->size - begin);
+    if (s->length_count < LENGTHS_MOST)
+        s->lengths[s->length_count++] = length_at;
+}
+
+static void put_entries(struct dice *d, struct section *s, size_t end, unsigned count)
+{
+    unsigned fixed = fixed_part(s->bytes[0]);
+    int full = count > 100;
+    while (count-- > 0 && end - s->size >= fixed) {
+        fill(d, s->bytes + s->size, fixed);
+        if (fixed == 12) {
+            put_time(d, s->bytes + s->size + 2, one_in(d, 8));
+            for (int i = 0; i < 3; i++)
+                s->bytes[s->size + 7 + (size_t)i] = clock_byte(d, i == 0 ? 99 : 59, one_in(d, 8));
+        }
+        s->size += fixed;
+        put_loop(d, s, (unsigned)s->size - 2, end, full && one_in(d, 4));
+    }
+}
+
+/* The loops of a full section end a few bytes before the CRC: one descriptor more fills the gap, or an entry's. */
+static void fill_gap(struct section *s, size_t end)
+{
+    size_t gap = end - s->size;
+    if (gap == 0 || s->length_count == 0)
+        return;
+    unsigned at = s->lengths[s->length_count - 1];
+    if (gap < 2 || gap > 257)
+        return;
+    s->tags[s->tag_count++] = (unsigned)s->size;
+    s->bytes[s->size] = 0x42;
+    s->bytes[s->size + 1] = (uint8_t)(gap - 2);
+    memset(s->bytes + s->size + 2, 0xFF, gap - 2);
+    put_twelve(s->bytes + at, get_twelve(s->bytes + at) + gap);
+    s->size = end;
+}
+
+void make_section_of(struct dice *d, struct section *s, uint8_t table_id, unsigned most_length)
+{
+    size_t end = 3 + most_length - 4;
+    int large = one_in(d, 24);
+    unsigned entries = one_in(d, 5) ? 0 : large ? 4000 : between(d, 1, 4);
+    s->length_count = s->tag_count = 0;
+    fill(d, s->bytes, 14);
+    s->bytes[0] = table_id;
+    s->bytes[1] = (uint8_t)(s->bytes[1] % 128 + (table_id == 0x70 || table_id == 0x73 ? 0 : 128));
+    if (one_in(d, 2)) { /* reserved bits as ones */
+        s->bytes[1] |= 0x70;
+        s->bytes[5] |= 0xC0;
+    }
+    if (table_id == 0x70 || table_id == 0x73)
+        put_time(d, s->bytes + 3, one_in(d, 4));
+    else {
+        s->bytes[7] = one_in(d, 2) ? (uint8_t)below(d, 4) : any_byte(d);
+        s->bytes[6] = (uint8_t)below(d, s->bytes[7] + 1u);
+    }
+    if (table_id == 0x70) {
+        s->size = 8;
+        put_length_and_crc_right(s);
+        return;
+    }
+    if (table_id == 0x73) {
+        s->size = 10;
+        put_loop(d, s, 8, end, large);
+        if (large)
+            fill_gap(s, end);
+    } else if (table_id == 0x40 || table_id == 0x41 || table_id == 0x4A) {
+        s->size = 10;
+        put_loop(d, s, 8, end - 2, large && one_in(d, 4));
+        unsigned second = (unsigned)s->size;
+        s->bytes[second] = any_byte(d);
+        s->size += 2;
+        put_entries(d, s, end, entries);
+        if (large && s->lengths[s->length_count - 1] > second)
+            fill_gap(s, end);
+        put_twelve(s->bytes + second, s->size - second - 2);
+        s->lengths[s->length_count++] = second;
+    } else {
+        s->size = fixed_part(table_id) == 5 ? 11 : 14;
+        put_entries(d, s, end, entries);
+        if (large)
+            fill_gap(s, end);
+    }
+    s->size += 4;
+    put_length_and_crc_right(s);
+}
+
+static uint8_t any_table_id(struct dice *d)
+{
+    static const uint8_t ids[] = {0x40, 0x41, 0x42, 0x46, 0x4A, 0x4A, 0x4E, 0x70, 0x73, 0x73};
+    unsigned i = below(d, sizeof ids + 2);
+    return i < sizeof ids ? ids[i] : (uint8_t)between(d, 0x4E, 0x6F);
+}
+
+void make_section(struct dice *d, struct section *s)
+{
+    uint8_t table_id = any_table_id(d);
+    unsigned most = table_id >= 0x4E && table_id <= 0x6F ? 4093 : 1021;
+    if (most == 4093 && !one_in(d, 4))
+        most = 1021;
+    make_section_of(d, s, table_id, most);
+}
+
+/* A few bytes more or fewer somewhere behind the head. */
+static void insert_or_delete(struct dice *d, struct section *s)
+{
+    size_t at = between(d, 3, (unsigned)s->size), n = between(d, 1, 8);
+    if (one_in(d, 2) || s->size < at + n) {
+        memmove(s->bytes + at + n, s->bytes + at, s->size - at);
+        fill(d, s->bytes + at, n);
+        s->size += n;
+    } else {
+        memmove(s->bytes + at, s->bytes + at + n, s->size - at - n);
+        s->size -= n;
+    }
+}
+
+/* Another value for a length: a little more or less, 40 more, or any. */
+static size_t other_length(struct dice *d, size_t length)
+{
+    switch (below(d, 6)) {
+    case 0: return length + 1;
+    case 1: return length - 1;
+    case 2: return length + between(d, 2, 6);
+    case 3: return length - between(d, 2, 6);
+    case 4: return length + 40;
+    default: return below(d, 4096);
+    }
+}
+
+/* A section_length at an edge of some row, and as many bytes. */
+static void edge_of_row(struct dice *d, struct section *s)
+{
+    static const unsigned edges[] = {0, 4, 5, 6, 10, 11, 12, 13, 14, 15, 1020, 1021, 1022, 1023, 1024, 4092, 4093, 4094, 4095};
+    size_t before = s->size;
+    s->size = 3 + edges[below(d, sizeof edges / sizeof *edges)];
+    if (s->size > before)
+        fill(d, s->bytes + before, s->size - before);
+    put_length_and_crc_right(s);
+}
+
+static void change_bytes(struct dice *d, struct section *s, size_t from)
+{
+    for (unsigned i = between(d, 1, 4); i > 0 && s->size > from; i--)
+        s->bytes[from + below(d, (unsigned)(s->size - from))] = edge_byte(d);
+}
+
+static void damage(struct dice *d, struct section *s)
+{
+    uint8_t *at;
+    switch (below(d, 16)) {
+    case 0: /* too few or too many bytes */
+        if (one_in(d, 2))
+            s->size = below(d, (unsigned)s->size + 1);
+        else {
+            size_t more = between(d, 1, 20);
+            fill(d, s->bytes + s->size, more);
+            s->size += more;
+        }
+        break;
+    case 1:
+        s->bytes[0] = any_byte(d);
+        put_crc_right(s);
+        break;
+    case 2:
+        s->bytes[1] ^= 0x80;
+        put_crc_right(s);
+        break;
+    case 3:
+        edge_of_row(d, s);
+        break;
+    case 4:
+        s->bytes[below(d, (unsigned)s->size)] ^= (uint8_t)(1u << below(d, 8));
+        break;
+    case 5:
+        s->bytes[6] = any_byte(d);
+        s->bytes[7] = any_byte(d);
+        put_crc_right(s);
+        break;
+    case 6:
+    case 7:
+    case 8: /* the length of a loop */
+        if (s->length_count > 0) {
+            at = s->bytes + s->lengths[below(d, s->length_count)];
+            put_twelve(at, other_length(d, get_twelve(at)));
+        }
+        put_crc_right(s);
+        break;
+    case 9:
+    case 10: /* the length of a descriptor */
+        if (s->tag_count > 0) {
+            at = s->bytes + s->tags[below(d, s->tag_count)] + 1;
+            *at = (uint8_t)other_length(d, *at);
+        }
+        put_crc_right(s);
+        break;
+    case 11:
+    case 12: /* bytes more or fewer, the head's length put right */
+        insert_or_delete(d, s);
+        put_length_and_crc_right(s);
+        break;
+    case 13:
+        change_bytes(d, s, 3);
+        put_crc_right(s);
+        break;
+    case 14:
+        change_bytes(d, s, 0);
+        put_length_and_crc_right(s);
+        break;
+    default: /* a head, and behind it bytes of any kind */
+        if (s->size > 8)
+            fill(d, s->bytes + 8, s->size - 8);
+        put_length_and_crc_right(s);
+    }
+}
+
+void make_section_case(struct dice *d, struct section *s)
+{
+    if (one_in(d, 40)) {
+        s->length_count = s->tag_count = 0;
+        s->size = one_in(d, 4) ? below(d, 600) : below(d, 9);
+        fill(d, s->bytes, s->size);
+        if (s->size > 0 && one_in(d, 2))
+            s->bytes[0] = any_table_id(d);
+        return;
+    }
+    if (one_in(d, 40)) { /* right but for its length: more than its row has */
+        uint8_t table_id = any_table_id(d);
+        make_section_of(d, s, table_id, one_in(d, 2) ? 1100 : 4095);
+        return;
+    }
+    if (one_in(d, 100)) { /* a TDT with more behind it */
+        make_section_of(d, s, 0x70, 0);
+        s->size += between(d, 1, 6);
+        put_length_and_crc_right(s);
+        return;
+    }
+    make_section(d, s);
+    if (one_in(d, 3))
+        return;
+    damage(d, s);
+    if (s->size > 8 && one_in(d, 10))
+        damage(d, s);
+}
+
+/* Sheets */
+
+/* A sheet made larger than its table's row: more descriptors in its last list, counted. */
+static size_t overfull(struct dice *d, uint8_t *to)
+{
+    uint8_t id = any_table_id(d);
+    size_t n = 0, count_at, most = id >= 0x4E && id <= 0x6F ? 4093 : 1021;
+    unsigned count = 0;
+    to[n++] = id;
+    if (id == 0x70 || id == 0x73) {
+        fill(d, to + n, 5);
+        n += 5;
+    } else {
+        fill(d, to + n, 12);
+        to[3] = (uint8_t)below(d, 32);
+        to[4] = (uint8_t)below(d, 2);
+        to[5] = 0;
+        n = id >= 0x4E && id <= 0x6F ? 13 : id == 0x42 || id == 0x46 ? 9 : 7;
+    }
+    if (id == 0x70)
+        return n;
+    count_at = n;
+    n += 2;
+    if (id == 0x40 || id == 0x41 || id == 0x4A || id == 0x73) {
+        /* The section's length is then what the sheet's is and a little more: about the row's end, or well beyond. */
+        size_t wanted = one_in(d, 3) ? between(d, 900, 9000) : most - 40 + below(d, 60);
+        while (n < wanted) {
+            size_t left = wanted - n;
+            n += make_descriptor(d, to + n, left < 2 ? 2 : left > 257 ? 257 : left);
+            count++;
+        }
+    } else {
+        unsigned entries = one_in(d, 2) ? between(d, 195, 210) : between(d, 330, 350);
+        for (; count < entries; count++) {
+            size_t size = id >= 0x4E && id <= 0x6F ? 14 : 8;
+            fill(d, to + n, size);
+            to[n + size - 4] = (uint8_t)below(d, 8);
+            to[n + size - 3] = (uint8_t)below(d, 2);
+            if (size == 8)
+                to[n + 2] = to[n + 3] = 1;
+            to[n + size - 2] = to[n + size - 1] = 0;
+            n += size;
+            if (one_in(d, 40)) {
+                to[n - 1] = 1;
+                n += make_descriptor(d, to + n, 14);
+            }
+        }
+    }
+    to[count_at] = (uint8_t)(count / 256);
+    to[count_at + 1] = (uint8_t)count;
+    if (id == 0x40 || id == 0x41 || id == 0x4A)
+        to[n++] = 0, to[n++] = 0;
+    return n;
+}
+
+size_t make_sheet_case(struct dice *d, uint8_t *to)
+{
+    struct section s;
+    size_t n, more;
+    if (one_in(d, 12))
+        n = overfull(d, to);
+    else {
+        make_section(d, &s);
+        n = second_to_sheet(s.bytes, s.size, to, SHEET_MOST).written;
+    }
+    switch (below(d, 16)) {
+    case 0:
+    case 1: /* ends early */
+        n = below(d, (unsigned)n + 1);
+        break;
+    case 2:
+        more = between(d, 1, 20);
+        fill(d, to + n, more);
+        n += more;
+        break;
+    case 3:
+        to[0] = any_byte(d);
+        break;
+    case 4:
+    case 5: /* a field of the head */
+        if (n > 7)
+            to[between(d, 3, 7)] = edge_byte(d);
+        break;
+    case 6:
+    case 7:
+    case 8: /* any field, the counts among them */
+        for (unsigned i = between(d, 1, 3); i > 0 && n > 1; i--)
+            to[between(d, 1, (unsigned)n - 1)] = edge_byte(d);
+        break;
+    case 9: /* a field of a high value, and then too short */
+        if (n > 6) {
+            to[between(d, 3, 6)] = any_byte(d);
+            n = between(d, 3, (unsigned)n);
+        }
+        break;
+    case 10:
+        n = below(d, 40);
+        fill(d, to, n);
+        if (n > 0)
+            to[0] = any_table_id(d);
+        break;
+    default:
+        break;
+    }
+    return n;
+}
+
+/* Packets */
+
+void make_sender(struct dice *d, struct sender *s)
+{
+    s->pid = one_in(d, 8) ? (one_in(d, 2) ? 8191 : 0) : below(d, 8192);
+    s->counter = below(d, 16);
+    s->size = s->sent = 0;
+    s->trouble = one_in(d, 4) ? 0 : between(d, 3, 30);
+    s->large = one_in(d, 6);
+}
+
+/* One section more into the queue, or filler up to nowhere. The collector knows no rows, so any length will do. */
+static void wait(struct dice *d, struct sender *s)
+{
+    static const unsigned sizes[] = {3, 4, 5, 8, 180, 181, 182, 183, 184, 185, 186, 364, 365, 366, 367, 368, 4094, 4095, 4096};
+    size_t n = one_in(d, 3) ? sizes[below(d, s->large ? 19 : 16)] : s->large ? between(d, 3, 4096) : between(d, 3, 300);
+    uint8_t *at = s->queue + s->size;
+    memset(s->begins + s->size, 0, n);
+    s->begins[s->size] = 1;
+    fill(d, at, n);
+    if (at[0] == 0xFF)
+        at[0] = 0x42;
+    put_twelve(at + 1, n - 3);
+    if (s->trouble && one_in(d, s->trouble)) {
+        if (one_in(d, 2))
+            put_twelve(at + 1, between(d, 4092, 4095)); /* too long, or just not */
+        else
+            at[0] = 0xFF;
+    }
+    s->size += n;
+}
+
+static void put_payload(struct dice *d, struct sender *s, uint8_t *k, size_t first)
+{
+    size_t room = 188 - first, left, pointer = 0;
+    uint8_t *to = k + first;
+    int stuffing = one_in(d, 6);
+    if (s->sent > QUEUE_MOST / 2) {
+        left = s->size - s->sent;
+        memmove(s->queue, s->queue + s->sent, left);
+        memmove(s->begins, s->begins + s->sent, left);
+        s->size = left;
+        s->sent = 0;
+    }
+    while (s->size - s->sent < room && s->size < QUEUE_MOST - 5000 && !(stuffing && s->size > s->sent))
+        wait(d, s);
+    left = s->size - s->sent;
+    /* The first place in reach of this packet at which a section begins; a pointer byte takes one byte of the room. */
+    while (pointer < left && pointer < room && !s->begins[s->sent + pointer])
+        pointer++;
+    if (pointer < left && pointer + 1 < room) {
+        k[1] |= 0x40;
+        *to++ = (uint8_t)pointer;
+        room--;
+    } else if (left > pointer) {
+        left = pointer; /* without the flag nothing may begin here */
+    }
+    size_t n = left < room ? left : room;
+    memcpy(to, s->queue + s->sent, n);
+    memset(to + n, 0xFF, room - n);
+    s->sent += n;
+}
+
+void make_full_packet(struct dice *d, unsigned pid, unsigned counter, unsigned pointer, uint8_t *to)
+{
+    fill(d, to, 188);
+    to[0] = 0x47;
+    to[1] = (uint8_t)(0x40 | pid / 256 % 32);
+    to[2] = (uint8_t)pid;
+    to[3] = (uint8_t)(0x10 | counter % 16);
+    to[4] = (uint8_t)pointer;
+    for (size_t at = 5 + pointer, n; at < 188; at += n) {
+        n = between(d, 3, 20);
+        if (188 - at < 23)
+            n = 188 - at; /* the last one ends with the payload, unless too few bytes are left */
+        to[at] = (uint8_t)between(d, 0x40, 0x73);
+        if (n >= 3)
+            put_twelve(to + at + 1, n - 3);
+    }
+}
+
+/* Something that goes wrong on the way. */
+static size_t disturb(struct dice *d, struct sender *s, uint8_t *k)
+{
+    switch (below(d, 14)) {
+    case 0: /* lost packets before this one */
+        k[3] = (uint8_t)(k[3] / 16 * 16 + (k[3] + between(d, 1, 15)) % 16);
+        s->counter = k[3] % 16u + 1;
+        break;
+    case 1: /* the counter of the packet before */
+        k[3] = (uint8_t)(k[3] / 16 * 16 + (k[3] + 15) % 16);
+        s->counter = k[3] % 16u + 1;
+        break;
+    case 2: /* a splice: the sender begins anew with a section, the counter going on or not */
+        s->size = s->sent = 0;
+        break;
+    case 3:
+        for (unsigned i = between(d, 1, 3); i > 0; i--)
+            k[below(d, 188)] = edge_byte(d);
+        break;
+    case 4: /* in the head */
+        k[below(d, 6)] = edge_byte(d);
+        break;
+    case 5: /* payload of any kind */
+        fill(d, k + 4, 184);
+        break;
+    case 6: /* a packet of any kind, but for PID and the first byte */
+        fill(d, k + 3, 185);
+        k[1] = (uint8_t)(k[1] % 128);
+        break;
+    case 7:
+        k[1] ^= 0x40;
+        break;
+    case 8: /* another pointer */
+        k[1] |= 0x40;
+        k[4] = edge_byte(d);
+        break;
+    case 9:
+        return one_in(d, 2) ? (one_in(d, 2) ? 187 : 189) : below(d, 400);
+    case 10: { /* one bit of the first four bytes */
+        unsigned bit = below(d, 32);
+        k[bit / 8] ^= (uint8_t)(1u << bit % 8);
+        break;
+    }
+    case 11: /* an adaptation field of any length */
+        k[3] = (uint8_t)(k[3] % 64 | between(d, 1, 3) << 4);
+        k[4] = edge_byte(d);
+        break;
+    case 12: /* an adaptation field and a payload of one byte or two */
+        k[3] = (uint8_t)(k[3] | 0x30);
+        k[4] = (uint8_t)between(d, 180, 183);
+        break;
+    default:
+        fill(d, k, 188);
+        if (one_in(d, 2))
+            k[0] = 0x47;
+    }
+    return 188;
+}
+
+size_t make_packet(struct dice *d, struct sender *s, uint8_t *to)
+{
+    size_t first = 4;
+    fill(d, to, PACKET_MOST);
+    to[0] = 0x47;
+    to[1] = (uint8_t)(to[1] & 0x20) | (uint8_t)(s->pid / 256);
+    to[2] = (uint8_t)s->pid;
+    to[3] = (uint8_t)(s->counter % 16);
+    if (one_in(d, 20)) { /* no payload, and the counter does not go on */
+        to[3] = (uint8_t)(to[3] + 0x20);
+        to[4] = 183;
+        if (one_in(d, 2))
+            to[1] |= 0x40;
+    } else {
+        if (one_in(d, 8)) {
+            to[3] = (uint8_t)(to[3] + 0x30);
+            to[4] = (uint8_t)(one_in(d, 4) ? between(d, 180, 182) : below(d, 183));
+            first = 5u + to[4];
+        } else {
+            to[3] = (uint8_t)(to[3] + 0x10);
+        }
+        put_payload(d, s, to, first);
+        s->counter++;
+    }
+    if (s->trouble && one_in(d, s->trouble))
+        return disturb(d, s, to);
+    return 188;
+}

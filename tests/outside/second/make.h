@@ -1,0 +1,85 @@
+/* Cases from a seed: sections, sheets, descriptors, packets; good ones, and damaged ones. */
+#ifndef MAKE_H
+#define MAKE_H
+
+#include <stddef.h>
+#include <stdint.h>
+
+/* Dice */
+
+/* With `tame` every descriptor and time is one that any parser can read to its end: no field out of range, no tag that is not ours or private. */
+struct dice { uint64_t state; int tame; };
+
+/* The dice of one case: it depends on the run's seed, the kind and the case's number alone, so a case can be made again. */
+struct dice dice_of(uint64_t seed, unsigned kind, uint64_t number);
+uint64_t dice_any(struct dice *d);
+unsigned below(struct dice *d, unsigned n);                        /* 0 to n - 1 */
+unsigned between(struct dice *d, unsigned from, unsigned to);      /* both ends included */
+int one_in(struct dice *d, unsigned n);
+void fill(struct dice *d, uint8_t *to, size_t n);
+
+/* Descriptors */
+
+extern const uint8_t typed_tags[11];
+
+/* A descriptor of at most 257 bytes with the layout of its tag. Most fields are in range; some, if `wild`, are not. */
+size_t make_typed(struct dice *d, uint8_t tag, uint8_t *to, int wild);
+
+/* The same, then perhaps damaged: cut, lengthened, another tag or length, bytes changed. */
+size_t make_reading_case(struct dice *d, uint8_t tag, uint8_t *to);
+
+/* Any descriptor of at most `most` bytes, which is 2 or more: typed, or with a tag and bytes of any kind. */
+size_t make_descriptor(struct dice *d, uint8_t *to, size_t most);
+
+/* Sections */
+
+enum { SECTION_MOST = 8192, LENGTHS_MOST = 1024, TAGS_MOST = 4096 };
+
+/* A section with the places of its loop lengths and of its descriptors' tags. */
+struct section {
+    uint8_t bytes[SECTION_MOST];
+    size_t size;
+    unsigned lengths[LENGTHS_MOST], length_count;
+    unsigned tags[TAGS_MOST], tag_count;
+};
+
+/* Sets CRC_32, but for a TDT; and section_length too. */
+void put_crc_right(struct section *s);
+void put_length_and_crc_right(struct section *s);
+
+/* A section that stands, of any of the six tables or of a table_id given. */
+void make_section(struct dice *d, struct section *s);
+void make_section_of(struct dice *d, struct section *s, uint8_t table_id, unsigned most_length);
+
+/* A section that stands, or damaged, or bytes of any kind. */
+void make_section_case(struct dice *d, struct section *s);
+
+/* Sheets */
+
+enum { SHEET_MOST = 24576 };
+
+size_t make_sheet_case(struct dice *d, uint8_t *to);
+
+/* Packets */
+
+enum { PACKET_MOST = 512, QUEUE_MOST = 16384 };
+
+/* A sender: sections end to end, waiting to be put into packets, with the places where one begins. */
+struct sender {
+    unsigned pid, counter;
+    uint8_t queue[QUEUE_MOST];
+    uint8_t begins[QUEUE_MOST];
+    size_t size, sent;
+    unsigned trouble;   /* one packet in so many is disturbed; 0 for none */
+    int large;          /* whether sections of some thousand bytes come */
+};
+
+void make_sender(struct dice *d, struct sender *s);
+
+/* A packet with the start flag and this pointer, full of short sections to its last byte. */
+void make_full_packet(struct dice *d, unsigned pid, unsigned counter, unsigned pointer, uint8_t *to);
+
+/* The next packet, perhaps disturbed, lost, repeated or of another size; its size. */
+size_t make_packet(struct dice *d, struct sender *s, uint8_t *to);
+
+#endif

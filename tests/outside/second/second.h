@@ -1,0 +1,147 @@
+/*
+ * A second implementation of document 01, written from document 01, docs/DECISIONS.md and EN 300 468 alone, a byte at a
+ * time. It is the judge in the comparison with the library, so it is plain before it is fast.
+ *
+ * Every answer has a `number`: 0, or the number of the refusal. `place` is 0 but for 8 to 10.
+ */
+#ifndef SECOND_H
+#define SECOND_H
+
+#include <stddef.h>
+#include <stdint.h>
+
+/* The register after the bytes: zero after a whole section. */
+uint32_t second_crc(const uint8_t *bytes, size_t size);
+
+/* Sections */
+
+struct second_verdict { unsigned number, place; };
+
+struct second_verdict second_judge(const uint8_t *section, size_t size);
+
+enum { SECOND_NONE, SECOND_HIT };
+
+struct second_found { unsigned number, place; int kind; unsigned loop; size_t at, size; };
+
+/* The body of the first descriptor with the tag: `loop` is 0 for the top loop, or the entry's number from 1. */
+struct second_found second_search(const uint8_t *section, size_t size, uint8_t tag);
+
+enum { SECOND_END, SECOND_DESCRIPTOR };
+
+struct second_step { unsigned number; uint64_t place; int kind; uint8_t tag; size_t at, size; uint64_t next; };
+
+/* What a walk gives at a place of a loop, and its place afterwards. `at` is the place of the tag, `size` that of the whole. */
+struct second_step second_walk(const uint8_t *loop, size_t size, uint64_t place);
+
+/* Content sheets */
+
+struct second_written { unsigned number, place; size_t written; };
+
+struct second_written second_to_sheet(const uint8_t *section, size_t size, uint8_t *room, size_t room_size);
+struct second_written second_to_section(const uint8_t *sheet, size_t size, uint8_t *room, size_t room_size);
+
+/* Collector */
+
+/* IN_HAND is no counter; the five before it are, in this order. */
+enum { SECOND_POINTER, SECOND_DELIVERED, SECOND_BROKEN, SECOND_FILLER, SECOND_SKIPPED, SECOND_IN_HAND };
+
+struct second_record { uint32_t pid; int has_counter; uint32_t counter; uint64_t in_hand; uint32_t counters[5]; };
+
+enum { SECOND_TAKEN, SECOND_REPEATED };
+
+/*
+ * `fate` is that of each byte which was in hand before the packet (`before` of them), then of each payload byte of the
+ * packet (`payload` of them), as they stand after it.
+ */
+struct second_collected {
+    unsigned number;
+    int kind;
+    unsigned sections, bytes;
+    size_t before, payload;
+    uint8_t fate[4095 + 184];
+};
+
+struct second_record second_fresh(uint32_t pid);
+void second_collect(struct second_collected *answer, struct second_record *record, uint8_t *hold, size_t hold_size,
+                    uint8_t *out, size_t out_size, const uint8_t *packet, size_t packet_size);
+
+/* Times */
+
+struct second_time { unsigned number; int undefined; unsigned mjd, hour, minute, second; };
+struct second_date { unsigned number, year, month, day; };
+struct second_duration { unsigned number, hours, minutes, seconds; };
+struct second_offset { unsigned number; int minutes; };
+
+struct second_time second_time(const uint8_t bytes[5]);
+struct second_date second_date(unsigned mjd);
+struct second_duration second_duration(const uint8_t bytes[3]);
+struct second_offset second_offset(int behind, uint8_t hour, uint8_t minute);
+
+/* Typed readings: each takes a descriptor's bytes from its tag on */
+
+struct second_text { unsigned number; size_t at, size; };                               /* 0x40, 0x42 */
+struct second_listed { unsigned number, service_id, service_type; };                    /* 0x41 */
+struct second_satellite {                                                               /* 0x43 */
+    unsigned number;
+    uint32_t frequency;
+    unsigned orbital_position, west_east_flag, polarization, modulation_system, roll_off, modulation_type;
+    uint32_t symbol_rate;
+    unsigned fec_inner;
+};
+struct second_cable {                                                                   /* 0x44 */
+    unsigned number;
+    uint32_t frequency;
+    unsigned fec_outer, modulation;
+    uint32_t symbol_rate;
+    unsigned fec_inner;
+};
+struct second_service { unsigned number, service_type; size_t provider_at, provider_size, name_at, name_size; }; /* 0x48 */
+struct second_event { unsigned number; uint8_t language[3]; size_t name_at, name_size, text_at, text_size; };    /* 0x4D */
+struct second_content { unsigned number, level_1, level_2, user_byte; };                /* 0x54 */
+struct second_rating { unsigned number; uint8_t country[3]; unsigned rating; };         /* 0x55 */
+struct second_local {                                                                   /* 0x58 */
+    unsigned number;
+    uint8_t country[3];
+    unsigned region;
+    int offset;
+    struct second_time change;
+    int next;
+};
+struct second_terrestrial {                                                             /* 0x5A */
+    unsigned number;
+    uint32_t frequency;
+    unsigned bandwidth, priority, time_slicing, mpe_fec, constellation, hierarchy, code_rate_hp, code_rate_lp;
+    unsigned guard_interval, transmission_mode, other_frequency;
+};
+
+struct second_count { unsigned number; size_t count; };
+
+struct second_count second_count(const uint8_t *bytes, size_t size, uint8_t tag, size_t item);
+struct second_text second_network_name(const uint8_t *bytes, size_t size);
+struct second_listed second_service_list(const uint8_t *bytes, size_t size, uint64_t index);
+struct second_text second_stuffing(const uint8_t *bytes, size_t size);
+struct second_satellite second_satellite(const uint8_t *bytes, size_t size);
+struct second_cable second_cable(const uint8_t *bytes, size_t size);
+struct second_service second_service(const uint8_t *bytes, size_t size);
+struct second_event second_short_event(const uint8_t *bytes, size_t size);
+struct second_content second_content(const uint8_t *bytes, size_t size, uint64_t index);
+struct second_rating second_parental_rating(const uint8_t *bytes, size_t size, uint64_t index);
+struct second_local second_local_time_offset(const uint8_t *bytes, size_t size, uint64_t index);
+struct second_terrestrial second_terrestrial(const uint8_t *bytes, size_t size);
+
+/* Roll */
+
+struct second_roll {
+    int empty;
+    unsigned table_id, extension, transport_stream_id, original_network_id, version, last;
+    uint8_t marks[256];
+};
+
+enum { SECOND_MISSING, SECOND_COMPLETE };
+
+struct second_taken { unsigned number, place; int kind; unsigned missing; };
+
+struct second_taken second_ask(const struct second_roll *roll);
+struct second_taken second_take(struct second_roll *roll, const uint8_t *section, size_t size);
+
+#endif

@@ -1,0 +1,393 @@
+/*
+ * The C interface with the second implementation behind it instead of the library. The harness is tried on it: as it stands no
+ * difference may show, and with each of the faults below (FAULT=n in the environment) one must.
+ */
+#include "lohitunga.h"
+#include "second.h"
+
+#include <stdlib.h>
+#include <string.h>
+
+static int fault(int n)
+{
+    static int known, asked;
+    if (!known) {
+        const char *text = getenv("FAULT");
+        asked = text ? atoi(text) : 0;
+        known = 1;
+    }
+    return asked == n;
+}
+
+uint32_t lohitunga_crc32(const uint8_t *bytes, size_t size)
+{
+    /* 1: reads one byte too many */
+    volatile uint8_t sink = fault(1) ? bytes[size] : 0;
+    (void)sink;
+    return second_crc(bytes, size);
+}
+
+lohitunga_judge_answer lohitunga_judge(const uint8_t *section, size_t size)
+{
+    struct second_verdict v = second_judge(section, size);
+    lohitunga_judge_answer a = {v.number, v.place};
+    /* 2: takes a place for another by one; 3: lets a short second loop pass; 4: 7 before 6 */
+    if (fault(2) && v.number == 9)
+        a.place++;
+    if (fault(3) && v.number == 10)
+        a.number = 0, a.place = 0;
+    if (fault(4) && v.number == 6 && size > 7 && section[0] != 0x73 && section[6] > section[7])
+        a.number = 7;
+    return a;
+}
+
+lohitunga_search_answer lohitunga_search(const uint8_t *section, size_t size, uint8_t tag)
+{
+    struct second_found f = second_search(section, size, tag);
+    lohitunga_search_answer a = {f.number, f.place, 0, 0, 0, 0};
+    if (f.number == 0 && f.kind == SECOND_HIT) {
+        a.found = 1;
+        a.entry = f.loop;
+        a.start = f.at;
+        a.size = f.size;
+    }
+    /* 5: an empty body is no hit */
+    if (fault(5) && a.found && a.size == 0)
+        memset(&a, 0, sizeof a);
+    return a;
+}
+
+lohitunga_walk_answer lohitunga_walk(const uint8_t *loop, size_t size, size_t at)
+{
+    struct second_step s = second_walk(loop, size, at);
+    lohitunga_walk_answer a = {s.number, s.place, 0, 0, 0, 0, s.next};
+    if (!s.number && s.kind == SECOND_DESCRIPTOR) {
+        a.descriptor = 1;
+        a.tag = s.tag;
+        a.start = s.at + 2;
+        a.size = s.size - 2;
+    }
+    /* 6: a place beyond the loop is its end */
+    if (fault(6) && at > size)
+        a.number = 0, a.place = 0;
+    return a;
+}
+
+lohitunga_record lohitunga_fresh(uint16_t pid)
+{
+    lohitunga_record r;
+    memset(&r, 0, sizeof r);
+    r.pid = pid;
+    r.last = LOHITUNGA_NO_COUNTER;
+    return r;
+}
+
+lohitunga_collect_answer lohitunga_collect(lohitunga_record *r, uint8_t *hold, size_t hold_size, uint8_t *out, size_t out_size,
+                                           const uint8_t *packet, size_t packet_size)
+{
+    static __thread struct second_collected c;
+    struct second_record s = {r->pid, r->last != LOHITUNGA_NO_COUNTER, r->last, r->in_hand,
+                              {r->pointer, r->delivered, r->broken, r->filler, r->skipped}};
+    second_collect(&c, &s, hold, hold_size, out, out_size, packet, packet_size);
+    lohitunga_collect_answer a = {c.number, c.number == 0 && c.kind == SECOND_REPEATED, c.sections, c.bytes};
+    if (c.number)
+        return a;
+    uint32_t filler = r->filler;
+    r->last = (uint8_t)(s.has_counter ? s.counter : LOHITUNGA_NO_COUNTER);
+    r->in_hand = s.in_hand;
+    r->pointer = s.counters[SECOND_POINTER];
+    r->delivered = s.counters[SECOND_DELIVERED];
+    r->broken = s.counters[SECOND_BROKEN];
+    r->filler = s.counters[SECOND_FILLER];
+    r->skipped = s.counters[SECOND_SKIPPED];
+    /* 7: one byte beyond the delivered ones; 8: the hold as scratch room; 9: a counter that stops at its end; 10: control 10 keeps the counter */
+    if (fault(7) && c.bytes > 0 && c.bytes < out_size)
+        out[c.bytes] ^= 1;
+    if (fault(8) && c.sections > 0 && s.in_hand < hold_size)
+        hold[s.in_hand] = out[0];
+    if (fault(9) && r->filler < filler)
+        r->filler = UINT32_MAX;
+    if (fault(10) && c.payload == 0 && !a.repeated)
+        r->last = packet[3] % 16;
+    return a;
+}
+
+static lohitunga_part part(unsigned number, size_t start, size_t size)
+{
+    lohitunga_part p = {number ? 0 : start, number ? 0 : size};
+    return p;
+}
+
+lohitunga_text_answer lohitunga_network_name(const uint8_t *b, size_t n)
+{
+    struct second_text s = second_network_name(b, n);
+    lohitunga_text_answer a = {s.number, part(s.number, s.at, s.size)};
+    return a;
+}
+
+lohitunga_text_answer lohitunga_stuffing(const uint8_t *b, size_t n)
+{
+    struct second_text s = second_stuffing(b, n);
+    lohitunga_text_answer a = {s.number, part(s.number, s.at, s.size)};
+    return a;
+}
+
+lohitunga_service_answer lohitunga_service(const uint8_t *b, size_t n)
+{
+    struct second_service s = second_service(b, n);
+    lohitunga_service_answer a = {s.number, (uint8_t)(s.number ? 0 : s.service_type), part(s.number, s.provider_at, s.provider_size),
+                                  part(s.number, s.name_at, s.name_size)};
+    return a;
+}
+
+static uint32_t letters(unsigned number, const uint8_t three[3])
+{
+    return number ? 0 : three[0] * 65536u + three[1] * 256u + three[2];
+}
+
+lohitunga_short_event_answer lohitunga_short_event(const uint8_t *b, size_t n)
+{
+    struct second_event s = second_short_event(b, n);
+    lohitunga_short_event_answer a = {s.number, letters(s.number, s.language), part(s.number, s.name_at, s.name_size),
+                                      part(s.number, s.text_at, s.text_size)};
+    return a;
+}
+
+static lohitunga_count_answer count(const uint8_t *b, size_t n, uint8_t tag, size_t item)
+{
+    struct second_count s = second_count(b, n, tag, item);
+    lohitunga_count_answer a = {s.number, s.count};
+    return a;
+}
+
+lohitunga_count_answer lohitunga_service_list_count(const uint8_t *b, size_t n) { return count(b, n, 0x41, 3); }
+lohitunga_count_answer lohitunga_content_count(const uint8_t *b, size_t n) { return count(b, n, 0x54, 2); }
+lohitunga_count_answer lohitunga_parental_rating_count(const uint8_t *b, size_t n) { return count(b, n, 0x55, 4); }
+lohitunga_count_answer lohitunga_local_time_offset_count(const uint8_t *b, size_t n) { return count(b, n, 0x58, 13); }
+
+lohitunga_service_list_answer lohitunga_service_list(const uint8_t *b, size_t n, size_t index)
+{
+    struct second_listed s = second_service_list(b, n, index);
+    lohitunga_service_list_answer a = {s.number, (uint16_t)s.service_id, (uint8_t)s.service_type};
+    /* 11: 66 before 62 */
+    if (fault(11) && s.number == 62 && n > 2 && index >= (n - 2) / 3)
+        a.number = 66;
+    return a;
+}
+
+lohitunga_content_answer lohitunga_content(const uint8_t *b, size_t n, size_t index)
+{
+    struct second_content s = second_content(b, n, index);
+    lohitunga_content_answer a = {s.number, (uint8_t)s.level_1, (uint8_t)s.level_2, (uint8_t)s.user_byte};
+    return a;
+}
+
+lohitunga_parental_rating_answer lohitunga_parental_rating(const uint8_t *b, size_t n, size_t index)
+{
+    struct second_rating s = second_parental_rating(b, n, index);
+    lohitunga_parental_rating_answer a = {s.number, letters(s.number, s.country), (uint8_t)s.rating};
+    return a;
+}
+
+static lohitunga_moment moment(unsigned number, const struct second_time *t)
+{
+    lohitunga_moment m = {0, 0, 0, 0, 0};
+    if (number)
+        return m;
+    m.undefined = (uint8_t)t->undefined;
+    m.mjd = (uint16_t)t->mjd;
+    m.hour = (uint8_t)t->hour;
+    m.minute = (uint8_t)t->minute;
+    m.second = (uint8_t)t->second;
+    return m;
+}
+
+lohitunga_local_time_offset_answer lohitunga_local_time_offset(const uint8_t *b, size_t n, size_t index)
+{
+    struct second_local s = second_local_time_offset(b, n, index);
+    lohitunga_local_time_offset_answer a;
+    memset(&a, 0, sizeof a);
+    a.number = s.number;
+    if (s.number)
+        return a;
+    a.country_code = letters(0, s.country);
+    a.country_region_id = (uint8_t)s.region;
+    a.local_time_offset = (int16_t)s.offset;
+    a.time_of_change = moment(0, &s.change);
+    /* 12: the polarity signs the first offset alone */
+    a.next_time_offset = (int16_t)(fault(12) && s.next < 0 ? -s.next : s.next);
+    return a;
+}
+
+uint64_t lohitunga_satellite_hertz(lohitunga_satellite_frequency f) { return f.steps * 10000ull; }
+uint64_t lohitunga_cable_hertz(lohitunga_cable_frequency f) { return f.steps * 100ull; }
+uint64_t lohitunga_terrestrial_hertz(lohitunga_terrestrial_frequency f) { return fault(13) ? f.steps * 10u : f.steps * 10ull; }
+
+lohitunga_satellite_answer lohitunga_satellite(const uint8_t *b, size_t n)
+{
+    struct second_satellite s = second_satellite(b, n);
+    lohitunga_satellite_answer a;
+    memset(&a, 0, sizeof a);
+    a.number = s.number;
+    if (s.number)
+        return a;
+    a.frequency.steps = s.frequency;
+    a.orbital_position = s.orbital_position;
+    a.symbol_rate = s.symbol_rate;
+    a.west_east_flag = (uint8_t)s.west_east_flag;
+    a.polarization = (uint8_t)s.polarization;
+    a.modulation_system = (uint8_t)s.modulation_system;
+    a.roll_off = (uint8_t)s.roll_off;
+    a.modulation_type = (uint8_t)s.modulation_type;
+    a.fec_inner = (uint8_t)s.fec_inner;
+    return a;
+}
+
+lohitunga_cable_answer lohitunga_cable(const uint8_t *b, size_t n)
+{
+    struct second_cable s = second_cable(b, n);
+    lohitunga_cable_answer a;
+    memset(&a, 0, sizeof a);
+    a.number = s.number;
+    if (s.number)
+        return a;
+    a.frequency.steps = s.frequency;
+    a.symbol_rate = s.symbol_rate;
+    a.fec_outer = (uint8_t)s.fec_outer;
+    a.modulation = (uint8_t)s.modulation;
+    a.fec_inner = (uint8_t)s.fec_inner;
+    return a;
+}
+
+lohitunga_terrestrial_answer lohitunga_terrestrial(const uint8_t *b, size_t n)
+{
+    struct second_terrestrial s = second_terrestrial(b, n);
+    lohitunga_terrestrial_answer a = {s.number, {s.frequency}, (uint8_t)s.bandwidth, (uint8_t)s.priority, (uint8_t)s.time_slicing,
+                                      (uint8_t)s.mpe_fec, (uint8_t)s.constellation, (uint8_t)s.hierarchy, (uint8_t)s.code_rate_hp,
+                                      (uint8_t)s.code_rate_lp, (uint8_t)s.guard_interval, (uint8_t)s.transmission_mode,
+                                      (uint8_t)s.other_frequency};
+    return a;
+}
+
+lohitunga_time_answer lohitunga_time(uint16_t mjd, uint8_t hour, uint8_t minute, uint8_t second)
+{
+    uint8_t b[5] = {(uint8_t)(mjd / 256), (uint8_t)mjd, hour, minute, second};
+    struct second_time s = second_time(b);
+    lohitunga_time_answer a = {s.number, moment(s.number, &s)};
+    /* 14: 64 before 63 */
+    if (fault(14) && s.number == 63 && hour >= 0x24)
+        a.number = 64;
+    return a;
+}
+
+lohitunga_duration_answer lohitunga_duration(uint8_t hour, uint8_t minute, uint8_t second)
+{
+    uint8_t b[3] = {hour, minute, second};
+    struct second_duration s = second_duration(b);
+    lohitunga_duration_answer a = {s.number, 0, 0, 0};
+    if (s.number)
+        return a;
+    a.hour = (uint8_t)s.hours;
+    a.minute = (uint8_t)s.minutes;
+    a.second = (uint8_t)s.seconds;
+    return a;
+}
+
+lohitunga_offset_answer lohitunga_offset(uint8_t behind, uint8_t hour, uint8_t minute)
+{
+    struct second_offset s = second_offset(behind != 0, hour, minute);
+    lohitunga_offset_answer a = {s.number, (int16_t)s.minutes};
+    return a;
+}
+
+lohitunga_date_answer lohitunga_date(uint16_t mjd)
+{
+    struct second_date s = second_date(mjd);
+    lohitunga_date_answer a = {s.number, (uint16_t)s.year, (uint8_t)s.month, (uint8_t)s.day};
+    /* 15: the last day of the range alone */
+    if (fault(15) && mjd == 65535)
+        a.day--;
+    return a;
+}
+
+lohitunga_roll lohitunga_roll_empty(void)
+{
+    lohitunga_roll r;
+    memset(&r, 0, sizeof r);
+    return r;
+}
+
+static struct second_roll rolled(const lohitunga_roll *r)
+{
+    struct second_roll s = {r->begun == 0, r->table_id, r->extension, r->transport_stream_id, r->original_network_id, r->version,
+                            r->last, {0}};
+    for (int i = 0; i < 256; i++)
+        s.marks[i] = r->came[i] != 0;
+    return s;
+}
+
+static lohitunga_roll_answer told(struct second_taken t)
+{
+    lohitunga_roll_answer a = {t.number, t.place, (uint8_t)(t.number == 0 && t.kind == SECOND_COMPLETE),
+                               (uint8_t)(t.number ? 0 : t.missing)};
+    return a;
+}
+
+lohitunga_roll_answer lohitunga_roll_ask(const lohitunga_roll *roll)
+{
+    struct second_roll s = rolled(roll);
+    return told(second_ask(&s));
+}
+
+lohitunga_roll_answer lohitunga_roll_take(lohitunga_roll *roll, const uint8_t *section, size_t size)
+{
+    struct second_roll s = rolled(roll);
+    struct second_taken t = second_take(&s, section, size);
+    /* 16: a new last number does not start it afresh; 17: 81 before 82; 18: alters a roll that refuses */
+    if (t.number == 0) {
+        int kept = fault(16) && roll->begun && roll->version == s.version && roll->last != s.last;
+        roll->begun = 1;
+        roll->table_id = (uint8_t)s.table_id;
+        roll->extension = (uint16_t)s.extension;
+        roll->transport_stream_id = (uint16_t)s.transport_stream_id;
+        roll->original_network_id = (uint16_t)s.original_network_id;
+        roll->version = (uint8_t)s.version;
+        roll->last = (uint8_t)s.last;
+        for (int i = 0; i < 256; i++)
+            roll->came[i] = kept ? roll->came[i] != 0 : s.marks[i];
+    }
+    lohitunga_roll_answer a = told(t);
+    if (fault(17) && t.number == 82 && section[5] % 2 == 0)
+        a.number = 81;
+    if (fault(18) && t.number == 81)
+        roll->came[255] ^= 1;
+    return a;
+}
+
+#ifdef LOHITUNGA_SHEET
+
+lohitunga_sheet_answer lohitunga_to_sheet(const uint8_t *section, size_t size, uint8_t *room, size_t room_size)
+{
+    struct second_written w = second_to_sheet(section, size, room, room_size);
+    lohitunga_sheet_answer a = {w.number, w.place, w.written};
+    /* 19: one byte beyond the sheet */
+    if (fault(19) && w.number == 0)
+        room[w.written] ^= 1;
+    return a;
+}
+
+lohitunga_section_answer lohitunga_to_section(const uint8_t *sheet, size_t size, uint8_t *room, size_t room_size)
+{
+    struct second_written w = second_to_section(sheet, size, room, room_size);
+    lohitunga_section_answer a = {w.number, w.written};
+    /* 20: writes while it still judges; 21: 26 before 25; 22: reserved bits as zeros */
+    if (fault(20) && w.number == 24)
+        room[0] = sheet[0];
+    if (fault(21) && w.number == 25 && size > 1100 && sheet[0] < 0x4B)
+        a.number = 26;
+    if (fault(22) && w.number == 0)
+        room[1] &= 0x8F;
+    return a;
+}
+
+#endif

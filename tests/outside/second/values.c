@@ -1,0 +1,280 @@
+/*
+ * Values that the documents print, put to the library: those of EN 300 468 and of the standards beside it, and the worked
+ * values of document 01, the starred ones too. Each line names what is printed where.
+ */
+#include "lohitunga.h"
+#include "second.h"
+
+#include <stdio.h>
+#include <stdlib.h>
+#include <string.h>
+
+static unsigned compared;
+
+static void is(const char *what, long long library, long long printed)
+{
+    compared++;
+    if (library == printed)
+        return;
+    printf("values: %s: the library says %lld, and %lld is printed\nvalues: FAILED\n", what, library, printed);
+    exit(1);
+}
+
+#define BYTES(...) (const uint8_t[]){__VA_ARGS__}, sizeof(const uint8_t[]){__VA_ARGS__}
+
+/* Times and dates */
+
+static void is_date(const char *what, unsigned mjd, unsigned year, unsigned month, unsigned day)
+{
+    lohitunga_date_answer a = lohitunga_date((uint16_t)mjd);
+    is(what, a.number, 0);
+    is(what, a.year, year);
+    is(what, a.month, month);
+    is(what, a.day, day);
+}
+
+static void times(void)
+{
+    lohitunga_time_answer t = lohitunga_time(0xC079, 0x12, 0x45, 0x00);
+    const char *what = "EN 300 468, 5.2.4 to 5.2.6: 93/10/13 12:45:00 is coded as 0xC079124500";
+    is(what, t.number, 0);
+    is(what, t.time.undefined, 0);
+    is(what, t.time.hour * 10000 + t.time.minute * 100 + t.time.second, 124500);
+    is_date(what, t.time.mjd, 1993, 10, 13);
+    what = "EN 300 468, 5.2.4: 01:45:30 is coded as 0x014530";
+    lohitunga_duration_answer d = lohitunga_duration(0x01, 0x45, 0x30);
+    is(what, d.number, 0);
+    is(what, d.hour * 10000 + d.minute * 100 + d.second, 14530);
+    what = "EN 300 468, 5.2.4: an undefined start has all bits 1";
+    t = lohitunga_time(0xFFFF, 0xFF, 0xFF, 0xFF);
+    is(what, t.number, 0);
+    is(what, t.time.undefined, 1);
+
+    is_date("EN 300 468, annex C: MJD 45218 is 6 September 1982", 45218, 1982, 9, 6);
+    is_date("EN 300 468, annex C: the formulas hold from 1 March 1900 on", 15079, 1900, 3, 1);
+    is_date("NBR 15603-2: the last date of 16 bits is 22 April 2038", 0xFFFF, 2038, 4, 22);
+    /* Days counted with a calendar, about the ends of years and of February. */
+    is_date("1900-12-31", 15384, 1900, 12, 31);
+    is_date("1904-02-29", 16539, 1904, 2, 29);
+    is_date("1999-12-31", 51543, 1999, 12, 31);
+    is_date("2000-02-29", 51603, 2000, 2, 29);
+    is_date("2000-03-01", 51604, 2000, 3, 1);
+    is_date("2036-02-29", 64752, 2036, 2, 29);
+
+    is("document 01: MJD 0x3AE6: 65", lohitunga_date(0x3AE6).number, 65);
+    is("document 01: MJD 0x3AE6: 65, in a time", lohitunga_time(0x3AE6, 0, 0, 0).number, 65);
+    is_date("document 01: 0x3AE7: 1900-03-01", 0x3AE7, 1900, 3, 1);
+    t = lohitunga_time(0xFFFF, 0, 0, 0);
+    is("document 01: 0xFFFF at 000000: 2038-04-22", t.number + t.time.undefined, 0);
+    is_date("document 01: 0xFFFF at 000000: 2038-04-22", t.time.mjd, 2038, 4, 22);
+    is("document 01: clock 24 00 00: 64", lohitunga_time(0xC079, 0x24, 0, 0).number, 64);
+    is("document 01: clock 12 4A 00: 63", lohitunga_time(0xC079, 0x12, 0x4A, 0).number, 63);
+    is("document 01: an offset of 1 with 0000 is zero", lohitunga_offset(1, 0, 0).minutes, 0);
+    is("document 01: a duration's hours go to 99", lohitunga_duration(0x99, 0x59, 0x59).hour, 99);
+}
+
+/* Descriptors */
+
+static void delivery(void)
+{
+    lohitunga_cable_answer c = lohitunga_cable(BYTES(0x44, 11, 0x03, 0x12, 0x00, 0x00, 0xFF, 0xF2, 0x03, 0x02, 0x74, 0x50, 0x0F));
+    const char *what = "EN 300 468, 6.2.13.1: cable frequency 0312,0000 MHz; document 01: 3,120,000 steps";
+    is(what, c.number, 0);
+    is(what, c.frequency.steps, 3120000);
+    is(what, (long long)lohitunga_cable_hertz(c.frequency), 312000000);
+    what = "EN 300 468, 6.2.13.1: symbol_rate 027,4500 Msymbol/s";
+    is(what, c.symbol_rate, 274500);
+    is("FEC_inner behind the seventh digit", c.fec_inner, 15);
+
+    lohitunga_satellite_answer s = lohitunga_satellite(BYTES(0x43, 11, 0x01, 0x17, 0x57, 0x25, 0x01, 0x92, 0x81, 0x02, 0x74, 0x50, 0x03));
+    what = "EN 300 468, 6.2.13.2: satellite frequency 011,75725 GHz; document 01: 1,175,725 steps";
+    is(what, s.number, 0);
+    is(what, s.frequency.steps, 1175725);
+    is(what, (long long)lohitunga_satellite_hertz(s.frequency), 11757250000LL);
+    is("EN 300 468, 6.2.13.2: orbital position 019,2 degrees", s.orbital_position, 192);
+    is("EN 300 468, 6.2.13.2: symbol_rate 027,4500 Msymbol/s", s.symbol_rate, 274500);
+    is("EN 300 468, 6.2.13.2: west_east_flag 1 is east", s.west_east_flag, 1);
+
+    what = "EN 300 468, 6.2.13.4: centre_frequency from 10 Hz to 42 949 672 950 Hz";
+    lohitunga_terrestrial_answer t = lohitunga_terrestrial(BYTES(0x5A, 11, 0, 0, 0, 1, 0, 0, 0, 0, 0, 0, 0));
+    is(what, t.number, 0);
+    is(what, (long long)lohitunga_terrestrial_hertz(t.centre_frequency), 10);
+    t = lohitunga_terrestrial(BYTES(0x5A, 11, 0xFF, 0xFF, 0xFF, 0xFF, 0, 0, 0, 0, 0, 0, 0));
+    is(what, (long long)lohitunga_terrestrial_hertz(t.centre_frequency), 42949672950LL);
+}
+
+/* "0100 0111 .." as it is printed. */
+static long long bits(const char *text)
+{
+    long long value = 0;
+    for (; *text; text++)
+        if (*text != ' ')
+            value = value * 2 + (*text == '1');
+    return value;
+}
+
+static void codes(void)
+{
+    const char *what = "EN 300 468, 6.2.20: \"GBR\" is 0100 0111 0100 0010 0101 0010";
+    lohitunga_local_time_offset_answer l =
+        lohitunga_local_time_offset(BYTES(0x58, 13, 'G', 'B', 'R', 0x02, 0, 0, 0xC0, 0x79, 0x12, 0x45, 0, 0x01, 0), 0);
+    is(what, l.number, 0);
+    is(what, l.country_code, bits("0100 0111 0100 0010 0101 0010"));
+    is("an offset of 0100 ahead", l.next_time_offset, 60);
+    what = "EN 300 468, 6.2.28: \"GBR\", and a rating of 0x04 is at least 7 years old: rating + 3";
+    lohitunga_parental_rating_answer r = lohitunga_parental_rating(BYTES(0x55, 4, 'G', 'B', 'R', 0x04), 0);
+    is(what, r.number, 0);
+    is(what, r.country_code, bits("0100 0111 0100 0010 0101 0010"));
+    is(what, r.rating + 3, 7);
+    what = "EN 300 468, 6.2.37: \"fre\" is 0110 0110 0111 0010 0110 0101";
+    lohitunga_short_event_answer e = lohitunga_short_event(BYTES(0x4D, 5, 'f', 'r', 'e', 0, 0));
+    is(what, e.number, 0);
+    is(what, e.language_code, bits("0110 0110 0111 0010 0110 0101"));
+    what = "NBR 15603-2: \"BRA\" is 0100 0010 0101 0010 0100 0001";
+    r = lohitunga_parental_rating(BYTES(0x55, 8, 'G', 'B', 'R', 0x04, 'B', 'R', 'A', 0x01), 1);
+    is(what, r.country_code, bits("0100 0010 0101 0010 0100 0001"));
+    what = "NBR 15603-2: \"por\" is 0111 0000 0110 1111 0111 0010";
+    e = lohitunga_short_event(BYTES(0x4D, 5, 'p', 'o', 'r', 0, 0));
+    is(what, e.language_code, bits("0111 0000 0110 1111 0111 0010"));
+    what = "NBR 15603-2: service_ids 0001000000100000 and 0001000000111000";
+    is(what, lohitunga_service_list(BYTES(0x41, 6, 0x10, 0x20, 1, 0x10, 0x38, 2), 0).service_id, bits("0001000000100000"));
+    is(what, lohitunga_service_list(BYTES(0x41, 6, 0x10, 0x20, 1, 0x10, 0x38, 2), 1).service_id, bits("0001000000111000"));
+}
+
+/* Sections */
+
+/* A section with CRC_32 and section_length put right. */
+static size_t closed(uint8_t *section, size_t size)
+{
+    section[1] = (uint8_t)(section[1] / 16 * 16 + (size + 1) / 256);
+    section[2] = (uint8_t)(size + 1);
+    uint32_t crc = second_crc(section, size);
+    for (int i = 0; i < 4; i++)
+        section[size + (size_t)i] = (uint8_t)(crc >> (24 - 8 * i));
+    return size + 4;
+}
+
+static void judged(const char *what, const uint8_t *section, size_t size, unsigned number, size_t place)
+{
+    lohitunga_judge_answer a = lohitunga_judge(section, size);
+    is(what, a.number, number);
+    is(what, (long long)a.place, (long long)place);
+}
+
+static void worked_sections(void)
+{
+    uint8_t tdt[8] = {0x70, 0x70, 0x05, 0xC0, 0x79, 0x12, 0x45, 0x00};
+    judged("document 01: empty: 1", tdt, 0, 1, 0);
+    judged("document 01: 70 70 05 C0 79 12 45 00: accepted", tdt, 8, 0, 0);
+    judged("document 01: its first 7 bytes: 5", tdt, 7, 5, 0);
+    tdt[0] = 0x71;
+    judged("document 01: first byte 71: 2", tdt, 8, 2, 0);
+    tdt[0] = 0x70, tdt[1] = 0xF0;
+    judged("document 01: second F0: 3", tdt, 8, 3, 0);
+    tdt[1] = 0x70, tdt[2] = 0x04;
+    judged("document 01: third 04: 4", tdt, 8, 4, 0);
+
+    /* A NIT whose top loop has four descriptors: of 1,021, and of one byte more. */
+    static uint8_t nit[1100] = {0x40, 0xF0, 0, 0, 1, 0xC1, 0, 0, 0xF3, 0xF0};
+    for (unsigned more = 0; more < 2; more++) {
+        size_t at = 10;
+        for (int i = 0; i < 4; i++) {
+            unsigned body = i < 3 ? 250 : 250 + more;
+            nit[at] = 0x42;
+            nit[at + 1] = (uint8_t)body;
+            at += 2 + body;
+        }
+        nit[8] = (uint8_t)(0xF0 + (at - 10) / 256);
+        nit[9] = (uint8_t)(at - 10);
+        nit[at] = 0xF0;
+        nit[at + 1] = 0;
+        size_t size = closed(nit, at + 2);
+        is("the NIT's section_length", (long long)size - 3, 1021 + more);
+        judged(more ? "document 01: NIT length 1,022: 4" : "document 01: NIT length 1,021 may pass", nit, size, more ? 4 : 0, 0);
+    }
+    uint8_t tot[16] = {0x73, 0x70, 0, 0xC0, 0x79, 0x12, 0x45, 0x00, 0xF0};
+    judged("document 01: TOT 10: 4", tot, closed(tot, 9), 4, 0);
+
+    const char *what = "document 01: loop 42 00: one descriptor";
+    lohitunga_walk_answer w = lohitunga_walk(BYTES(0x42, 0x00), 0);
+    is(what, w.number, 0);
+    is(what, w.descriptor, 1);
+    is(what, lohitunga_walk(BYTES(0x42, 0x00), w.next).descriptor, 0);
+    is(what, lohitunga_walk(BYTES(0x42, 0x00), w.next).number, 0);
+    is("document 01: loop 42: 9", lohitunga_walk(BYTES(0x42), 0).number, 9);
+}
+
+/* The register as the decoder model's annex has it: the bits enter one by one, seven 0 and a 1 for the byte 0x01. */
+static void crc(void)
+{
+    static const int order[8] = {0, 0, 0, 0, 0, 0, 0, 1};
+    uint32_t reg = 0xFFFFFFFFu;
+    for (int i = 0; i < 8; i++) {
+        uint32_t feedback = (reg >> 31) ^ (uint32_t)order[i];
+        reg = (reg << 1) ^ (feedback ? 0x04C11DB7u : 0);
+    }
+    is("J.94, annex B: the byte 0x01 enters as seven 0 bits, then 1", lohitunga_crc32(BYTES(0x01)), reg);
+    is("the check value of this CRC for the digits 1 to 9", lohitunga_crc32((const uint8_t *)"123456789", 9), 0x0376E6E7);
+}
+
+/*
+ * EN 300 468, 5.2.4: last_table_id of two services, 0x4E 0x4F 0x51 0x62 and 0x4E 0x4F 0x53 0x60; and the original_network_id
+ * 1205 of NBR 15603-2. A section that has them is accepted, and its sheet has them in their places.
+ */
+static void ids(void)
+{
+    static const uint8_t tables[2][4] = {{0x4E, 0x4F, 0x51, 0x62}, {0x4E, 0x4F, 0x53, 0x60}};
+    for (int i = 0; i < 8; i++) {
+        uint8_t id = tables[i / 4][i % 4];
+        uint8_t eit[32] = {id, 0xF0, 0, 0, 1, 0xC1, 0, 0, 0, 2, 0x04, 0xB5, 0, id};
+        size_t size = closed(eit, 14);
+        judged("EN 300 468, 5.2.4: a table_id that is its own last_table_id", eit, size, 0, 0);
+#ifdef LOHITUNGA_SHEET
+        uint8_t sheet[5120];
+        is("EN 300 468, 5.2.4: last_table_id", lohitunga_to_sheet(eit, size, sheet, sizeof sheet).number, 0);
+        is("EN 300 468, 5.2.4: last_table_id", sheet[12], id);
+        is("NBR 15603-2: original_network_id 1205", sheet[9] * 256 + sheet[10], 1205);
+#endif
+        /* The roll goes by it too: another original_network_id is another sub-table. */
+        lohitunga_roll roll = lohitunga_roll_empty();
+        is("an empty roll takes it", lohitunga_roll_take(&roll, eit, size).number, 0);
+        is("NBR 15603-2: original_network_id 1205", roll.original_network_id, 1205);
+        eit[11] ^= 1;
+        is("another original_network_id: 82", lohitunga_roll_take(&roll, eit, closed(eit, 14)).number, 82);
+    }
+}
+
+/* The worked packet */
+
+static void worked_packet(void)
+{
+    static uint8_t packet[188] = {0x47, 0x40, 0x14, 0x10, 0x00, 0x70, 0x70, 0x05, 0xC0, 0x79, 0x12, 0x45, 0x00};
+    static uint8_t hold[LOHITUNGA_HOLD], out[LOHITUNGA_OUT];
+    const char *what = "document 01: the account of 47 40 14 10 00 70 70 05 C0 79 12 45 00 and 175 bytes FF";
+    memset(packet + 13, 0xFF, 175);
+    lohitunga_record r = lohitunga_fresh(0x14);
+    lohitunga_collect_answer a = lohitunga_collect(&r, hold, sizeof hold, out, sizeof out, packet, sizeof packet);
+    is(what, a.number + a.repeated, 0);
+    is(what, (long long)a.sections, 1);
+    is(what, (long long)a.size, 8);
+    is(what, r.pointer, 1);
+    is(what, r.delivered, 8);
+    is(what, r.broken, 0);
+    is(what, r.filler, 175);
+    is(what, r.skipped, 0);
+    is(what, (long long)r.in_hand, 0);
+    is(what, lohitunga_judge(out, a.size).number, 0);
+}
+
+int main(void)
+{
+    times();
+    delivery();
+    codes();
+    worked_sections();
+    crc();
+    ids();
+    worked_packet();
+    printf("values: %u comparisons with what the documents print: all as printed\n", compared);
+    return 0;
+}
