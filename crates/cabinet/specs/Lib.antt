@@ -9,4 +9,5 @@ pub mod Clock
 pub mod Lists
 pub mod Delivery
 pub mod Roll
+pub mod Sheets
 pub mod Run

@@ -8,6 +8,7 @@ pub mod list_readings;
 mod moments;
 mod numbers;
 pub mod rolls;
+pub mod sheets;
 pub mod tag_search;
 pub mod text_readings;
 pub mod times;

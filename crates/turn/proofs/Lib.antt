@@ -13,3 +13,5 @@ pub mod LoopLaws
 pub mod EntriesLaws
 pub mod BodyLaws
 pub mod WholeLaws
+pub mod Once
+pub mod Demand2

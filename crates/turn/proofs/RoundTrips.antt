@@ -131,3 +131,15 @@ pub sheet-at-most : (n : ℕ) (s t : List ℕ) → Bytes s → toSheet n s ≡ g
 sheet-at-most n s t w e =
     let x = from-section n s t w e .1 in
     subst (λ z. length z ≤ 5120) (sym (x .made)) (sheet-fits (x .content) (x .holds))
+
+-- and what was turned is no longer than that either
+pub accepted-sheet-at-most : (n : ℕ) (s t : List ℕ) → Bytes s → toSection n s ≡ gives t → length s ≤ 5120
+accepted-sheet-at-most n s t w e =
+    let x = from-sheet n s t e in
+    let h = held s (x .content) w (x .reads) in
+    subst (λ z. length z ≤ 5120) (sym (h .shows)) (sheet-fits (x .content) (h .holds))
+
+pub accepted-section-at-most : (n : ℕ) (s t : List ℕ) → Bytes s → toSheet n s ≡ gives t → length s ≤ 4096
+accepted-section-at-most n s t w e =
+    let x = from-section n s t w e .1 in
+    subst (λ z. length z ≤ 4096) (x .is) (section-fits (x .content) (x .holds))

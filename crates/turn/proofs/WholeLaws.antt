@@ -82,7 +82,7 @@ crc-bytes (suc zero) h = refl
 crc-bytes (suc (suc x)) h = absurd (omega arith)
 
 -- the first bytes of a room in which something was put
-take-put : (o l : List ℕ) → length l ≤ length o → take (length l) (put o 0 l) ≡ l
+pub take-put : (o l : List ℕ) → length l ≤ length o → take (length l) (put o 0 l) ≡ l
 take-put o l h = ap (take (length l)) (put-fits o 0 l (omega arith)) ∙ take-at l (drop (0 + length l) o) (length l) refl
 
 -- four bytes of a CRC_32, put as two numbers

@@ -4,3 +4,4 @@ pub mod Ones
 pub mod Ways
 pub mod Bodies
 pub mod Answers
+pub mod Demand2
