@@ -140,6 +140,39 @@ typedef struct lohitunga_walk_answer {
 /* What stands at the place `at` of a loop. The loop's bytes end where the loop ends; `at` may be any number. */
 lohitunga_walk_answer lohitunga_walk(const uint8_t *loop, size_t size, size_t at);
 
+/* Content sheets: a section's content, big-endian, a fixed order, each list after the two-byte number of its items. Reserved bits are in no sheet, and
+ * are ones in a section made from one.
+ *
+ * number   given when
+ *   21     the room is under 5,120 bytes for a sheet, or under 4,096 for a section
+ *   22     the sheet ends early
+ *   23     its table_id is none of NIT, SDT, BAT, EIT, TDT, TOT
+ *   24     version above 31; current, a flag or free_CA_mode above 1; running_status above 7; section number above the last
+ *   25     bytes after the sheet
+ *   26     section_length would pass its table's range
+ * 21 comes first, then 22 to 24 as read left to right, 25, 26. A section is refused with 21, then 1 to 10 as of lohitunga_judge.
+ */
+#define LOHITUNGA_SHEET 5120
+#define LOHITUNGA_SECTION 4096
+
+typedef struct lohitunga_sheet_answer {
+    uint32_t number; /* 0, 21, or 1 to 10 */
+    size_t place;    /* of 8 to 10; else 0 */
+    size_t size;     /* how many bytes the sheet has: the first of the room */
+} lohitunga_sheet_answer;
+
+typedef struct lohitunga_section_answer {
+    uint32_t number; /* 0, or 21 to 26 */
+    size_t size;     /* how many bytes the section has: the first of the room */
+} lohitunga_section_answer;
+
+/* A section becomes a sheet. Alters the first `size` bytes of the room; later bytes stay. */
+lohitunga_sheet_answer lohitunga_to_sheet(const uint8_t *section, size_t size, uint8_t *room, size_t room_size);
+
+/* A sheet becomes a section, which lohitunga_judge accepts and lohitunga_to_sheet turns back into the same sheet. Alters the first `size` bytes of the
+ * room; later bytes stay. */
+lohitunga_section_answer lohitunga_to_section(const uint8_t *sheet, size_t size, uint8_t *room, size_t room_size);
+
 /* Readings of descriptors.
  * Each takes a whole descriptor, from its tag on.
  *
