@@ -152,8 +152,8 @@ lohitunga_walk_answer lohitunga_walk(const uint8_t *loop, size_t size, size_t at
  *   26     section_length would pass its table's range
  * 21 comes first, then 22 to 24 as read left to right, 25, 26. A section is refused with 21, then 1 to 10 as of lohitunga_judge.
  */
-#define LOHITUNGA_SHEET 5120
-#define LOHITUNGA_SECTION 4096
+#define LOHITUNGA_SHEET_ROOM 5120
+#define LOHITUNGA_SECTION_ROOM 4096
 
 typedef struct lohitunga_sheet_answer {
     uint32_t number; /* 0, 21, or 1 to 10 */
