@@ -43,7 +43,7 @@ static size_t used_by(void (*thunk)(void), int paint) {
 /* What the thunks lend. */
 static const uint8_t *bytes;
 static size_t size, number;
-static uint8_t hold[LOHITUNGA_HOLD], out[LOHITUNGA_OUT];
+static uint8_t hold[LOHITUNGA_HOLD], out[LOHITUNGA_OUT], room[LOHITUNGA_SHEET_ROOM];
 static lohitunga_record record;
 static lohitunga_roll roll;
 static volatile uint8_t taken[512];
@@ -80,7 +80,9 @@ static volatile uint8_t taken[512];
     CALL(lohitunga_date, lohitunga_date_answer, (number)) \
     CALL(lohitunga_roll_empty, lohitunga_roll, ()) \
     CALL(lohitunga_roll_ask, lohitunga_roll_answer, (&roll)) \
-    CALL(lohitunga_roll_take, lohitunga_roll_answer, (&roll, bytes, size))
+    CALL(lohitunga_roll_take, lohitunga_roll_answer, (&roll, bytes, size)) \
+    CALL(lohitunga_to_sheet, lohitunga_sheet_answer, (bytes, size, room, sizeof room)) \
+    CALL(lohitunga_to_section, lohitunga_section_answer, (bytes, size, room, sizeof room))
 
 /* The answer is kept, so that the compiler keeps the call. */
 #define THUNK(name, type, words) \
@@ -172,6 +174,15 @@ static void numbers(void) {
     }
 }
 
+/* A section's turn to a sheet, and that sheet's turn back. */
+static void turns(void) {
+    static uint8_t sheet[LOHITUNGA_SHEET_ROOM];
+    measure(call_lohitunga_to_sheet);
+    size_t n = lohitunga_to_sheet(bytes, size, sheet, sizeof sheet).size;
+    lend(sheet, n);
+    measure(call_lohitunga_to_section);
+}
+
 /* A section, as it is, cut short, and with a byte turned under a right CRC_32. */
 static void section(const uint8_t *from, size_t n) {
     static uint8_t turned[4096];
@@ -191,6 +202,7 @@ static void section(const uint8_t *from, size_t n) {
         measure(call_lohitunga_roll_empty);
         measure(call_lohitunga_roll_take);
         measure(call_lohitunga_roll_ask);
+        turns();
         if (k % 8 == 7)
             roll = lohitunga_roll_empty();
     }
