@@ -15,3 +15,4 @@ pub mod BodyLaws
 pub mod WholeLaws
 pub mod Once
 pub mod Demand2
+pub mod AtWork
