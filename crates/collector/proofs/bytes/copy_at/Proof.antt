@@ -1,12 +1,12 @@
--- `collector::bytes::copy_at` meets its contract.
+-- The invariant: the first i bytes are copied, in whole blocks.
 use mathlib.Core.Path.{_≡_, refl, sym, ap, _∙_}
 use mathlib.Core.List.{List}
 use Prim.Native.Nat.{ℕ, _+_, _-_, _≤_, _<_}
-use native.Mathlib.Numerals.{add-one}
 use native.Mathlib.Omega.{arith}
 use borrow.Author.Needs.{needs}
-use lib.ListN.{length, drop, getD, set, length-drop}
-use lib.Seq.{paste, paste-zero, paste-suc, getD-drop}
+use lib.ListN.{length, drop, length-drop}
+use lib.Seq.{paste, paste-zero, drop-drop}
+use Rattle.collector.proofs.Blocks.{over}
 use Rattle.collector.proofs.bytes.copy_at.Statement.{statement}
 use Rattle.collector.proofs.bytes.copy_at.Tie as tie
 
@@ -16,20 +16,39 @@ Inv-loop src from n dst₀ at i₀ dst i = (i ≤ n) × (dst ≡ paste dst₀ at
 abbrev μ-loop : tie.MeasureT-loop
 μ-loop src from n dst₀ at i₀ dst i = n - i
 
+-- a block after or over what is copied so far
+more : (d dst src : List ℕ) (from at i j k : ℕ) → at ≤ length d → i ≤ length (drop from src) → j ≤ i → i ≤ j + k → dst ≡ paste d at (drop from src) i
+    → paste dst (at + j) (drop (from + j) src) k ≡ paste d at (drop from src) (j + k)
+more d dst src from at i j k hd hs low high e =
+    ap (λ (l : List ℕ). paste l (at + j) (drop (from + j) src) k) e
+    ∙ ap (λ (l : List ℕ). paste (paste d at (drop from src) i) (at + j) l k) (sym (drop-drop j from src))
+    ∙ over d (drop from src) at i j k hd hs low high
+
+copy-singly-requires : tie.Need-copy-singly-requires Inv-loop μ-loop
+copy-singly-requires c κs = search needs
+
+same-length : tie.Need-same-length Inv-loop μ-loop
+same-length c = search needs
+
+returns : tie.Need-returns Inv-loop μ-loop
+returns c = search needs
+
 loop-holds : tie.Need-loop-holds Inv-loop μ-loop
-loop-holds c = (search needs, paste-zero (c .args .dst .now) (c .args .at) (drop (c .args .from) (c .args .src .now)), refl)
+loop-holds c =
+    let k = c .before .before .before in
+    (omega arith, paste-zero (k .args .dst .now) (k .args .at) (drop (k .args .from) (k .args .src .now)), refl)
 
-add-dst : tie.Need-add-dst Inv-loop μ-loop
-add-dst c = search needs
+sub-loop : tie.Need-sub-loop Inv-loop μ-loop
+sub-loop c = search needs
 
-shared-slice-read-dst : tie.Need-shared-slice-read-dst Inv-loop μ-loop
-shared-slice-read-dst c = search needs
+add-copy-block : tie.Need-add-copy-block Inv-loop μ-loop
+add-copy-block c = search needs
 
-add-dst-2 : tie.Need-add-dst-2 Inv-loop μ-loop
-add-dst-2 c = search needs
+add-copy-block-2 : tie.Need-add-copy-block-2 Inv-loop μ-loop
+add-copy-block-2 c = search needs
 
-slice-write-dst : tie.Need-slice-write-dst Inv-loop μ-loop
-slice-write-dst c = search needs
+copy-block-requires : tie.Need-copy-block-requires Inv-loop μ-loop
+copy-block-requires c κs = search needs
 
 add-i : tie.Need-add-i Inv-loop μ-loop
 add-i c = search needs
@@ -37,30 +56,61 @@ add-i c = search needs
 loop-less : tie.Need-loop-less Inv-loop μ-loop
 loop-less c = search needs
 
--- one store more
-more : (src d dst : List ℕ) (from at i : ℕ) → dst ≡ paste d at (drop from src) i → at + i < length d → from + i < length src
-    → set dst (at + i) (getD src (from + i) 0) ≡ paste d at (drop from src) (i + 1)
-more src d dst from at i e hd hs =
-    ap (λ (l : List ℕ). set l (at + i) (getD src (from + i) 0)) e
-    ∙ ap (λ (v : ℕ). set (paste d at (drop from src) i) (at + i) v) (sym (getD-drop from src i 0))
-    ∙ paste-suc d at (drop from src) i 0 hd (simp length-drop (omega arith))
-    ∙ ap (paste d at (drop from src)) (sym (add-one i))
-
 loop-again : tie.Need-loop-again Inv-loop μ-loop
 loop-again c =
-    let l = c .before .before .loop in
-    let a = c .before .before .before .args in
-    (search needs, more (a .src .now) (a .dst .now) (l .dst) (a .from) (a .at) (l .i) (l .inv .1) (omega arith) (omega arith), search needs)
+    let l = c .before .before .before .before .before .loop in
+    let k = c .before .before .before .before .before .before .before .before .before in
+    let d = k .args .dst .now in
+    let s = drop (k .args .from) (k .args .src .now) in
+    let long : k .args .n ≤ length s = omega (arith, length-drop (k .args .from) (k .args .src .now)) in (
+      omega arith,
+      c .before .before .copy-block .ensures ∙ more d (l .dst) (k .args .src .now) (k .args .from) (k .args .at) (l .i) (l .i) 32 (omega arith) (omega (arith, long)) (omega arith) (omega arith) (l .inv .1),
+      search needs,
+    )
 
-same-length : tie.Need-same-length Inv-loop μ-loop
-same-length c = search needs
+add-copy-block-3 : tie.Need-add-copy-block-3 Inv-loop μ-loop
+add-copy-block-3 c = search needs
 
-returns : tie.Need-returns Inv-loop μ-loop
-returns c =
-    let a = c .before .before .args in
-    let l = c .before .loop in
-    let e : l .i ≡ a .n = omega arith in
-    l .inv .1 ∙ ap (paste (a .dst .now) (a .at) (drop (a .from) (a .src .now))) e
+add-copy-block-4 : tie.Need-add-copy-block-4 Inv-loop μ-loop
+add-copy-block-4 c = search needs
+
+copy-block-requires-2 : tie.Need-copy-block-requires-2 Inv-loop μ-loop
+copy-block-requires-2 c κs = search needs
+
+same-length-2 : tie.Need-same-length-2 Inv-loop μ-loop
+same-length-2 c = search needs
+
+returns-2 : tie.Need-returns-2 Inv-loop μ-loop
+returns-2 c =
+    let l = c .before .before .before .before .before .loop in
+    let k = c .before .before .before .before .before .before .before .before .before in
+    let d = k .args .dst .now in
+    let n = k .args .n in
+    let long : n ≤ length (drop (k .args .from) (k .args .src .now)) = omega (arith, length-drop (k .args .from) (k .args .src .now)) in
+    let whole : n - 32 + 32 ≡ n = omega arith in
+    c .before .before .copy-block2 .ensures
+    ∙ more d (l .dst) (k .args .src .now) (k .args .from) (k .args .at) (l .i) (n - 32) 32 (omega arith) (omega (arith, long)) (omega arith) (omega arith) (l .inv .1)
+    ∙ ap (paste d (k .args .at) (drop (k .args .from) (k .args .src .now))) whole
 
 pub copy-at-spec : {M : Type 1} → statement M
-copy-at-spec = tie.close (tie.spec Inv-loop μ-loop loop-holds add-dst shared-slice-read-dst add-dst-2 slice-write-dst add-i loop-less loop-again same-length returns)
+copy-at-spec =
+    tie.close
+    (tie.spec
+    Inv-loop
+    μ-loop
+    copy-singly-requires
+    same-length
+    returns
+    loop-holds
+    sub-loop
+    add-copy-block
+    add-copy-block-2
+    copy-block-requires
+    add-i
+    loop-less
+    loop-again
+    add-copy-block-3
+    add-copy-block-4
+    copy-block-requires-2
+    same-length-2
+    returns-2)
