@@ -5,7 +5,8 @@ use Prim.Native.Nat.{ℕ}
 use lib.ListN.{length}
 use lib.Dec.{eqb}
 use borrow.Author.Tests.{eqb-true}
-use Rattle.wire.specs.If.{if_then_else_, if-case}
+use Rattle.wire.specs.If.{if_then_else_}
+use Rattle.wire.proofs.IfLaws.{if-case}
 use Rattle.collector.specs.Answer as collector
 use Rattle.collector.specs.Refusals.{lastOf, cannotStand, Ruling, refused, repeated, bare, takes, ruling}
 use Rattle.collector.specs.Collected.{unaltered, outcomeOf, collected}

@@ -8,7 +8,8 @@ use native.Mathlib.Omega.{arith}
 use lib.ListN.{length}
 use lib.Dec.{eqb}
 use borrow.Author.Tests.{ne-eqb}
-use Rattle.wire.specs.If.{if_then_else_, if-case}
+use Rattle.wire.specs.If.{if_then_else_}
+use Rattle.wire.proofs.IfLaws.{if-case}
 use Rattle.collector.specs.Packet.{control}
 use Rattle.collector.specs.Rules.{Carried}
 use Rattle.collector.specs.Refusals.{lastOf, cannotStand, Judged, refuse, carries, judgedBy, judged, repeats, firstOf, refusals, Ruling, refused, repeated, takes, ruledBy, ruling}

@@ -7,6 +7,7 @@ use native.Mathlib.Numerals.{add-one}
 use native.Mathlib.Omega.{arith}
 use lib.ListN.{length, drop, getD, drop-of-length-le}
 use lib.Seq.{drop-cons}
+use Rattle.wire.specs.Bytes.{Bytes}
 use Rattle.crc.specs.Crc.{feedBits, feedBytes}
 use Rattle.crc.specs.Steps.{wordAt, longAt}
 use Rattle.crc.proofs.Linear.{bits-lt, join}
@@ -45,10 +46,6 @@ module _ (s : List ℕ) (i r : ℕ) where
 
 pub word-lt : (a b c d : ℕ) → a < 2 ^ 8 → b < 2 ^ 8 → c < 2 ^ 8 → d < 2 ^ 8 → a * 2 ^ 24 + b * 2 ^ 16 + c * 2 ^ 8 + d < 2 ^ 32
 word-lt a b c d ha hb hc hd = omega arith
-
--- each element is a byte
-abbrev pub Bytes : List ℕ → Type 0
-Bytes s = (k : ℕ) → getD s k 0 < 2 ^ 8
 
 four-front : (s : List ℕ) (i r : ℕ) → i + 4 ≤ length s
     → feedBytes (drop i s) r ≡ feedBytes (drop (i + 4) s) (feedBytes (getD s i 0 ∷ getD s (i + 1) 0 ∷ getD s (i + 2) 0 ∷ getD s (i + 3) 0 ∷ []) r)

@@ -9,6 +9,7 @@ use lib.Dec.{eqb, eqb→eq, lit<}
 use lib.Pow.{pow-pos, shl-lt}
 use lib.Bits.{bitXor, xor-block, xor-shifted, xor-comm, xor-lt, xor-zero-l, xor-zero-r}
 use lib.ListN.{length, drop}
+use Rattle.wire.specs.Bytes.{Bytes}
 use Rattle.crc.specs.Crc.{feed, feedBits, feedBytes}
 use Rattle.crc.specs.Steps.{rights, lefts, over, under, longAt}
 use Rattle.crc.proofs.Xor.{_⊕_, xor-shl}
@@ -16,7 +17,7 @@ use Rattle.crc.proofs.Linear.{linear, join, zeros-add, zeros-first, mov
 use Rattle.crc.proofs.Basis.{Additive, agree-at, passed}
 use Rattle.crc.proofs.Shifts.{itself, up-of, rights-of, lefts-of, lefts-lt, fed-of}
 use Rattle.crc.proofs.Steps.{absorb}
-use Rattle.crc.proofs.Bytes.{Bytes, long-front}
+use Rattle.crc.proofs.Bytes.{long-front}
 
 -- a register is its own bits, from zero, in front of what follows
 up-front : (r : ℕ) → r < 2 ^ 32 → feedBits 64 (r * 2 ^ 32) 0 ≡ feedBits 64 0 r

@@ -9,9 +9,11 @@ use borrow.Author.Tests.{ltb-true, lt-ltb}
 use lib.Pow.{pow-pos}
 use lib.ListN.{length, getD}
 use lib.Dec.{ltb}
-use Rattle.wire.specs.If.{if_then_else_, if-case}
+use Rattle.wire.specs.If.{if_then_else_}
+use Rattle.wire.specs.Bytes.{Bytes}
 use Rattle.wire.specs.Reading.{Reading, value, refused, _>>=_, value-is, never, through}
-use Rattle.forms.specs.Form.{Front, Form, Bytes, rawRead, EachOk}
+use Rattle.wire.proofs.IfLaws.{if-case}
+use Rattle.forms.specs.Form.{Front, Form, rawRead, EachOk}
 use Rattle.forms.specs.Fields.{Field, kept, reserved, width, belowRead, below, sheetField, sheetFields, room, pack, unpack, Fit, byteRead, byteOf}
 use Rattle.forms.proofs.Lawful.{Lawful, Sound, Complete, read-on, mute-lawful, raw-read, raw-shown, each-lawful, each-ok}
 

@@ -9,9 +9,11 @@ use borrow.Author.Tests.{leb-true, le-leb}
 use lib.ListN.{length, getD, take, drop, length-append, take-append-drop}
 use lib.Seq.{take-at, drop-at, getD-append-add, length-take-le}
 use lib.Dec.{leb}
-use Rattle.wire.specs.If.{if_then_else_, if-case}
+use Rattle.wire.specs.If.{if_then_else_}
+use Rattle.wire.specs.Bytes.{Bytes}
 use Rattle.wire.specs.Reading.{Reading, value, refused, _>>=_, value-is, never, through}
-use Rattle.forms.specs.Form.{Front, Form, Bytes, mute, rawRead, raw, bothRead, _then_, suchRead, such, eachRead, eachShow, EachOk, each}
+use Rattle.wire.proofs.IfLaws.{if-case}
+use Rattle.forms.specs.Form.{Front, Form, mute, rawRead, raw, bothRead, _then_, suchRead, such, eachRead, eachShow, EachOk, each}
 
 -- ---- lists of bytes
 

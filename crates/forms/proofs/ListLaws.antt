@@ -4,10 +4,10 @@ use mathlib.Core.Path.{_≡_, refl, sym, ap, ap₂, _∙_, subst}
 use mathlib.Core.List.{List, [], _∷_, _++_, append-assoc}
 use native.Mathlib.Omega.{arith}
 use lib.ListN.{length, getD, length-append}
-use Rattle.wire.specs.Bytes.{len12At}
+use Rattle.wire.specs.Bytes.{Bytes, len12At}
 use Rattle.wire.specs.Number.{number}
 use Rattle.wire.specs.Reading.{Reading, value, refused, _>>=_, value-is, never, through}
-use Rattle.forms.specs.Form.{Front, Form, Bytes, rawRead}
+use Rattle.forms.specs.Form.{Front, Form, rawRead}
 use Rattle.forms.specs.Fields.{Field, room, pack, unpack, Fit}
 use Rattle.forms.specs.Lists.{timesRead, all, All, none, one, times, countedRead, countedShow, counted, untilRead, fillingRead, filling, loopRead, loopShow, loop}
 use Rattle.forms.proofs.Lawful.{Lawful, Sound, Complete, read-on, raw-read, raw-shown, bytes-behind}

@@ -5,7 +5,8 @@ use mathlib.Core.List.{List, [], _∷_, _++_}
 use mathlib.Core.Bool.{Bool}
 use native.Mathlib.Omega.{arith}
 use lib.ListN.{length, length-append}
-use Rattle.wire.specs.Parts.{Part, part-first, part-second}
+use Rattle.wire.specs.Parts.{Part}
+use Rattle.wire.proofs.PartLaws.{part-first, part-second}
 use Rattle.forms.specs.Form.{Form, mute, _then_, such, each, eachShow, EachOk}
 use Rattle.forms.specs.Lists.{all, All, none, one, times}
 use Rattle.forms.specs.Room.{put, Done, Turned}

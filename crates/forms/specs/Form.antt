@@ -1,10 +1,10 @@
 -- A form of a value in bytes: how it is read from the front of a list, and how it is shown; Ok says which values it can show.
 use Prim.{Unit, tt}
-use Prim.Native.Nat.{ℕ, _≤_, _<_}
+use Prim.Native.Nat.{ℕ}
 use mathlib.Core.Path.{_≡_}
 use mathlib.Core.List.{List, [], _∷_, _++_}
 use mathlib.Core.Bool.{Bool, true}
-use lib.ListN.{length, getD, take, drop}
+use lib.ListN.{length, take, drop}
 use lib.Dec.{leb}
 use Rattle.wire.specs.If.{if_then_else_}
 use Rattle.wire.specs.Reading.{Reading, value, refused, _>>=_}
@@ -65,7 +65,3 @@ module _ {X A : Type 0} (f : X → Form A) where
 
   abbrev pub each : List X → Form (List A)
   each xs = record { read = eachRead xs; show = eachShow xs; Ok = EachOk xs }
-
--- the elements of a list are bytes
-abbrev pub Bytes : List ℕ → Type 0
-Bytes s = (i : ℕ) → getD s i 0 < 256

@@ -8,9 +8,9 @@ use borrow.Author.Tests.{eqb-true, eq-eqb, ltb-true, lt-ltb, le-ltb}
 use lib.Dec.{eqb, ltb}
 use lib.ListN.{length, getD, take, drop, length-append, length-drop, take-append-drop}
 use lib.Seq.{drop-cons, drop-drop, take-all, take-length, getD-at}
-use Rattle.wire.specs.If.{if-case}
-use Rattle.wire.specs.Parts.{part-front}
 use Rattle.wire.specs.Reading.{value, refused, value-is, never, through}
+use Rattle.wire.proofs.IfLaws.{if-case}
+use Rattle.wire.proofs.PartLaws.{part-front}
 use Rattle.layout.specs.Refusal.{partAt, bytesOf}
 use Rattle.layout.specs.Body.{lengthed, framed}
 use Rattle.layout.specs.Items.{items, count, place}

@@ -8,9 +8,10 @@ use lib.ListN.{length, getD, take, drop, length-drop, drop-of-length-le}
 use lib.Seq.{drop-drop, drop-cons}
 use native.Mathlib.Decide.{decLe}
 use lib.Dec.{leb, eqb}
-use Rattle.wire.specs.If.{if-case}
-use Rattle.wire.specs.Trail.{on, Trail, ended, before, onward, trail-by}
-use Rattle.wire.specs.Parts.{two-front}
+use Rattle.wire.specs.Trail.{on, Trail, ended, before, onward}
+use Rattle.wire.proofs.IfLaws.{if-case}
+use Rattle.wire.proofs.TrailLaws.{trail-by}
+use Rattle.wire.proofs.PartLaws.{two-front}
 use Rattle.verdict.specs.Verdict.{Said, accepted, refused}
 use Rattle.loops.specs.Descriptors.{Placed, placed, Rest, rest, firstOf, descriptors, Gives, descriptor, theEnd, refusing, stepAt, toldStep}
 use Rattle.loops.specs.declared.walk.Step.{Step}

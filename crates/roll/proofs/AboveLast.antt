@@ -8,10 +8,11 @@ use native.Mathlib.Omega.{arith}
 use lib.Dec.{eqb}
 use borrow.Author.Tests.{eqb-true, eqb-false}
 use Rattle.wire.specs.If.{if_then_else_}
+use Rattle.wire.specs.Bytes.{Bytes}
 use Rattle.roll.specs.Answer.{Says, missing}
 use Rattle.roll.specs.Marks.{has, unmarked, marked, Whole, smallest, smallestMissing}
 use Rattle.roll.specs.Roll.{numberIn, another, startsAfresh, begunWith, continued, after, asked, answering, refusal, taking}
-use Rattle.roll.specs.Sequence.{Bytes, AllBytes, none, more}
+use Rattle.roll.specs.Sequence.{AllBytes, none, more}
 use Rattle.roll.specs.Alike.{Alike, empty, begun, answersTo}
 use Rattle.roll.proofs.MarkLaws.{unmarked-whole, marked-whole, marked-has, marked-keeps}
 use Rattle.roll.proofs.Steps.{both-taken-or-refused}

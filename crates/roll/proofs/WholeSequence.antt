@@ -8,12 +8,14 @@ use mathlib.Core.List.{List, [], _∷_}
 use native.Mathlib.Omega.{arith}
 use lib.Dec.{eqb, ltb}
 use borrow.Author.Tests.{eqb-true, eqb-false, ltb-true, ltb-false}
-use Rattle.wire.specs.If.{if_then_else_, if-case}
+use Rattle.wire.specs.If.{if_then_else_}
+use Rattle.wire.specs.Bytes.{Bytes}
+use Rattle.wire.proofs.IfLaws.{if-case}
 use Rattle.roll.specs.Answer.{Says, missing, complete}
 use Rattle.roll.specs.Marks.{has, unmarked, marked, Whole, smallest, smallestMissing}
 use Rattle.roll.specs.SubTable.{subTableOf, compared, sameIds}
 use Rattle.roll.specs.Roll.{versionIn, numberIn, lastIn, another, startsAfresh, begunWith, continued, after, asked, Outcome, answering, taking}
-use Rattle.roll.specs.Sequence.{belongs, takes, taken, Come, just, earlier, Answers, all, least, Answered, nothing, some, Bytes, AllBytes, none, more, Run, start, step}
+use Rattle.roll.specs.Sequence.{belongs, takes, taken, Come, just, earlier, Answers, all, least, Answered, nothing, some, AllBytes, none, more, Run, start, step}
 use Rattle.roll.proofs.MarkLaws.{unmarked-has-none, unmarked-whole, marked-whole, marked-has, marked-only, marked-more}
 use Rattle.roll.proofs.Ids.{compared-as-it-stands, same-ids-same}
 use Rattle.roll.proofs.Steps.{Refuses, taken-or-refused}

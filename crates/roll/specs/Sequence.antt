@@ -3,8 +3,8 @@ use Prim.Native.Nat.{ℕ, _<_, _≤_}
 use mathlib.Core.Path.{_≡_}
 use mathlib.Core.List.{List, [], _∷_}
 use mathlib.Core.Bool.{Bool, true, false, not, _&&_}
-use lib.ListN.{getD}
 use Rattle.wire.specs.If.{if_then_else_}
+use Rattle.wire.specs.Bytes.{Bytes}
 use Rattle.verdict.specs.Verdict.{accepted, refused, isAccepted}
 use Rattle.section.specs.Reading.{judged}
 use Rattle.roll.specs.Answer.{Says, missing, complete}
@@ -55,10 +55,7 @@ pub data Answered : List (List ℕ) → Says → Type 0 where
   nothing : Answered [] (missing 0)
   some : {s : List ℕ} {t : List (List ℕ)} {x : Says} → Answers (Come (s ∷ t)) (lastIn s) x → Answered (s ∷ t) x
 
--- bytes, as any slice of them is
-abbrev pub Bytes : List ℕ → Type 0
-Bytes s = (i : ℕ) → getD s i 0 < 256
-
+-- sections of bytes, as any slice is
 pub data AllBytes : List (List ℕ) → Type 0 where
   none : AllBytes []
   more : (s : List ℕ) {given : List (List ℕ)} → Bytes s → AllBytes given → AllBytes (s ∷ given)

@@ -6,7 +6,8 @@ use mathlib.Core.List.{List, [], _∷_}
 use native.Mathlib.Decide.{ℕ-discrete}
 use borrow.Author.Tests.{eq-eqb, ne-eqb}
 use lib.ListN.{length, take, drop}
-use Rattle.wire.specs.Parts.{Part, part-second, part-taken}
+use Rattle.wire.specs.Parts.{Part}
+use Rattle.wire.proofs.PartLaws.{part-second, part-taken}
 use Rattle.verdict.specs.Verdict.{Said, accepted, refused, isAccepted}
 use Rattle.loops.specs.Descriptors.{Placed}
 use Rattle.section.specs.Reading.{Reading, judged}

@@ -8,10 +8,11 @@ use lib.ListN.{length, take, drop, length-drop, drop-of-length-le}
 use lib.Seq.{drop-drop}
 use mathlib.Core.Bool.{true, false}
 use lib.Dec.{ltb}
-use Rattle.wire.specs.If.{if-case}
 use Rattle.wire.specs.Bytes.{len12At}
-use Rattle.wire.specs.Trail.{Turn, on, Trail, ended, before, onward, trail-by}
-use Rattle.wire.specs.Parts.{part-of-front, len12-drop}
+use Rattle.wire.specs.Trail.{Turn, on, Trail, ended, before, onward}
+use Rattle.wire.proofs.IfLaws.{if-case}
+use Rattle.wire.proofs.TrailLaws.{trail-by}
+use Rattle.wire.proofs.PartLaws.{part-of-front, len12-drop}
 use Rattle.verdict.specs.Verdict.{Said, accepted, refused, isAccepted}
 use Rattle.loops.specs.Descriptors.{Placed, Rest, rest, descriptors}
 use Rattle.section.specs.Entries.{past, whole, firstOf, entries}

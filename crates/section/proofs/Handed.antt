@@ -4,7 +4,8 @@ use mathlib.Core.Path.{refl, ap, _∙_, sym}
 use mathlib.Core.List.{List, [], _∷_, _++_, append-nil}
 use native.Mathlib.Omega.{arith}
 use lib.ListN.{length}
-use Rattle.wire.specs.Parts.{Part, part-first, part-second}
+use Rattle.wire.specs.Parts.{Part}
+use Rattle.wire.proofs.PartLaws.{part-first, part-second}
 use Rattle.loops.specs.Descriptors.{Placed}
 use Rattle.section.specs.Grammar as grammar
 use Rattle.loops.proofs.Standing.{Standing, moved, in-loop}

@@ -12,7 +12,7 @@ use lib.Seq.{take-append-seam, drop-append-seam, drop-drop, drop-at, length-take
 use lib.Dec.{ltb}
 use Rattle.wire.specs.Bytes.{len12At}
 use Rattle.wire.specs.Trail.{ended, before, answer, onward}
-use Rattle.wire.specs.Parts.{len12-front}
+use Rattle.wire.proofs.PartLaws.{len12-front}
 use Rattle.verdict.specs.Verdict.{accepted, refused}
 use Rattle.loops.specs.Descriptors.{Placed, descriptors}
 use Rattle.section.specs.Entries.{whole, past, entries}

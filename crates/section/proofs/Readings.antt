@@ -8,10 +8,10 @@ use borrow.Author.Tests.{lt-ltb, le-ltb, ltb-false, le-leb, lt-leb, eq-eqb, ne-e
 use lib.ListN.{length, getD, take, drop, length-drop}
 use lib.Seq.{drop-drop}
 use lib.Dec.{ltb}
-use Rattle.wire.specs.If.{if-case}
 use Rattle.wire.specs.Bytes.{len12At}
 use Rattle.wire.specs.Trail.{Trail, ended, before, answer}
-use Rattle.wire.specs.Parts.{part-of-front, len12-drop}
+use Rattle.wire.proofs.IfLaws.{if-case}
+use Rattle.wire.proofs.PartLaws.{part-of-front, len12-drop}
 use Rattle.verdict.specs.Verdict.{Said, accepted, refused, isAccepted}
 use Rattle.loops.specs.Descriptors.{Placed, descriptors}
 use Rattle.section.specs.Entries.{entries}

@@ -10,10 +10,11 @@ use lib.ListN.{length, getD, drop, length-drop}
 use lib.Seq.{drop-length}
 use lib.Dec.{ltb}
 use Rattle.wire.specs.If.{if_then_else_}
+use Rattle.wire.specs.Bytes.{Bytes}
 use Rattle.wire.specs.Number.{numberAt}
 use Rattle.wire.specs.Reading.{value, refused, _>>=_}
 use Rattle.tables.specs.Tables.{cell, rowOf, rowAt}
-use Rattle.forms.specs.Form.{Bytes, rawRead, raw, suchRead}
+use Rattle.forms.specs.Form.{rawRead, raw, suchRead}
 use Rattle.forms.specs.Room.{sum}
 use Rattle.forms.proofs.Lawful.{read-on}
 use Rattle.forms.proofs.Puts.{sum-fits, sum-past}

@@ -11,7 +11,7 @@ use lib.Dec.{ltb, leb}
 use Rattle.wire.specs.If.{if_then_else_}
 use Rattle.wire.specs.Number.{number, numberAt}
 use Rattle.wire.specs.Reading.{Reading, value, refused, _>>=_}
-use Rattle.wire.specs.Parts.{two-front}
+use Rattle.wire.proofs.PartLaws.{two-front}
 use Rattle.tables.specs.Tables.{cell, rowAt}
 use Rattle.forms.specs.Form.{Form, mute, rawRead, raw, bothRead, _then_, suchRead, such, eachRead, each}
 use Rattle.forms.specs.Fields.{kept, reserved, belowRead, below, sheetField, sheetFields}

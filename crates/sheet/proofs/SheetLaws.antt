@@ -8,9 +8,10 @@ use borrow.Author.Tests.{ltb-true, lt-ltb}
 use lib.ListN.{length, getD}
 use lib.Dec.{ltb, eqb}
 use Rattle.wire.specs.If.{if_then_else_}
+use Rattle.wire.specs.Bytes.{Bytes}
 use Rattle.wire.specs.Reading.{Reading, value, _>>=_, value-is, through}
 use Rattle.tables.specs.Tables.{rowOf, rowAt}
-use Rattle.forms.specs.Form.{Form, Bytes, mute, rawRead, raw, _then_, such, each}
+use Rattle.forms.specs.Form.{Form, mute, rawRead, raw, _then_, such, each}
 use Rattle.forms.specs.Fields.{Field, sheetFields}
 use Rattle.forms.specs.Lists.{counted}
 use Rattle.forms.proofs.Lawful.{Lawful, Sound, Complete, read-on, mute-lawful, raw-read, raw-shown, raw-lawful, then-lawful, such-lawful, each-lawful, bytes-behind}

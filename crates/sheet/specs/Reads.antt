@@ -6,10 +6,11 @@ use mathlib.Core.List.{List, [], _∷_}
 use lib.ListN.{length, getD, drop}
 use lib.Dec.{ltb, eqb}
 use Rattle.wire.specs.If.{if_then_else_}
+use Rattle.wire.specs.Bytes.{Bytes}
 use Rattle.wire.specs.Number.{numberAt}
 use Rattle.wire.specs.Reading.{Reading, value, refused, _>>=_}
 use Rattle.tables.specs.Tables.{rowOf}
-use Rattle.forms.specs.Form.{Form, Bytes, mute, _then_, each}
+use Rattle.forms.specs.Form.{Form, mute, _then_, each}
 use Rattle.forms.specs.Fields.{Field}
 use Rattle.forms.specs.Room.{sum}
 use Rattle.sheet.specs.Content.{Item, plain, flags, bare, status, common, Loop, Entry}

@@ -10,8 +10,8 @@ use lib.ListN.{length, getD, take, drop, length-append, length-drop, take-append
 use lib.Seq.{length-take-le, getD-drop, getD-take, drop-drop, drop-length, drop-cons}
 use lib.Dec.{eqb, leb}
 use Rattle.wire.specs.If.{if_then_else_}
-use Rattle.wire.specs.Bytes.{len12, len12At}
-use Rattle.wire.specs.Parts.{two-front}
+use Rattle.wire.specs.Bytes.{Bytes, len12, len12At}
+use Rattle.wire.proofs.PartLaws.{two-front}
 use Rattle.crc.specs.Crc.{crc, bytesOf}
 use Rattle.crc.proofs.Closes.{closes-exactly}
 use Rattle.tables.specs.Tables.{cell, rowOf, rowAt, InRow}
@@ -22,7 +22,7 @@ use Rattle.loops.specs.Grammar as loops
 use Rattle.section.specs.Grammar as grammar
 use Rattle.section.specs.Reading.{judged}
 use Rattle.section.proofs.Exactly.{accepted-exactly-if}
-use Rattle.forms.specs.Form.{Form, Bytes, mute, _then_, each, eachShow, EachOk}
+use Rattle.forms.specs.Form.{Form, mute, _then_, each, eachShow, EachOk}
 use Rattle.forms.specs.Fields.{Field, room, pack, unpack, Fit}
 use Rattle.forms.specs.Lists.{loop, loopShow, filling, all, All, none, one}
 use Rattle.forms.proofs.Lawful.{bytes-behind, bytes-front}

@@ -8,9 +8,11 @@ use borrow.Author.Tests.{leb-true, leb-false}
 use lib.ListN.{length, getD, drop, length-append, length-drop}
 use lib.Seq.{drop-at, drop-drop, getD-drop}
 use lib.Dec.{leb}
-use Rattle.wire.specs.If.{if_then_else_, if-case}
-use Rattle.wire.specs.Parts.{Part, part-first, part-second}
+use Rattle.wire.specs.If.{if_then_else_}
+use Rattle.wire.specs.Parts.{Part}
 use Rattle.wire.specs.Number.{numberAt, number, bytesAt}
+use Rattle.wire.proofs.IfLaws.{if-case}
+use Rattle.wire.proofs.PartLaws.{part-first, part-second}
 use Rattle.forms.specs.Form.{Form}
 use Rattle.forms.specs.Lists.{all, All, none, one, countedShow}
 use Rattle.forms.specs.Room.{sum}

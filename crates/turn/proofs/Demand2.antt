@@ -8,7 +8,7 @@ use borrow.Author.Tests.{ltb-false}
 use lib.ListN.{length, take}
 use lib.Dec.{ltb}
 use Rattle.wire.specs.If.{if_then_else_}
-use Rattle.forms.specs.Form.{Bytes}
+use Rattle.wire.specs.Bytes.{Bytes}
 use Rattle.forms.specs.Room.{put}
 use Rattle.section.specs.Reading.{judged}
 use Rattle.sheet.specs.Section.{contentOf, readSheet}

@@ -7,7 +7,8 @@ use native.Mathlib.Omega.{arith}
 use lib.ListN.{length, getD, take, drop, length-append}
 use Rattle.wire.specs.Bytes.{len12, len12At}
 use Rattle.wire.specs.Number.{numberAt}
-use Rattle.wire.specs.Parts.{Part, part-second, part-taken}
+use Rattle.wire.specs.Parts.{Part}
+use Rattle.wire.proofs.PartLaws.{part-second, part-taken}
 use Rattle.tables.specs.Tables.{cell, rowAt}
 use Rattle.forms.specs.Form.{Form, mute, eachShow, EachOk}
 use Rattle.forms.specs.Fields.{Field, reserved, room, pack, Fit, sheetFields}

@@ -6,7 +6,7 @@ use native.Mathlib.Omega.{arith}
 use lib.ListN.{length, getD, drop, length-append, length-drop}
 use lib.Seq.{getD-drop, getD-append-add}
 use Rattle.wire.specs.Bytes.{len12, len12At}
-use Rattle.wire.specs.Parts.{len12-drop}
+use Rattle.wire.proofs.PartLaws.{len12-drop}
 use Rattle.tables.specs.Tables.{cell, rowAt}
 use Rattle.forms.specs.Form.{Form, eachShow}
 use Rattle.forms.specs.Fields.{pack}

@@ -7,10 +7,12 @@ use native.Mathlib.Omega.{arith}
 use borrow.Author.Tests.{ltb-false, le-ltb}
 use lib.ListN.{length, length-append}
 use lib.Dec.{ltb, eqb}
-use Rattle.wire.specs.If.{if_then_else_, if-case}
+use Rattle.wire.specs.If.{if_then_else_}
+use Rattle.wire.specs.Bytes.{Bytes}
 use Rattle.wire.specs.Reading.{Reading, value, refused, _>>=_, value-is, never, through}
+use Rattle.wire.proofs.IfLaws.{if-case}
 use Rattle.tables.specs.Tables.{rowOf, rowAt}
-use Rattle.forms.specs.Form.{Form, Bytes, mute, _then_, each, eachShow, EachOk}
+use Rattle.forms.specs.Form.{Form, mute, _then_, each, eachShow, EachOk}
 use Rattle.forms.specs.Fields.{Field, sheetField, sheetFields, Fit}
 use Rattle.forms.specs.Lists.{loop, loopShow, filling, counted, all, All, none, one}
 use Rattle.forms.proofs.Lawful.{each-ok, read-on}

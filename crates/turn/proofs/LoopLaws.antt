@@ -6,7 +6,8 @@ use mathlib.Core.Bool.{Bool, true, false}
 use native.Mathlib.Omega.{arith}
 use lib.ListN.{length, getD, take, drop, length-append}
 use Rattle.wire.specs.Bytes.{len12, len12At}
-use Rattle.wire.specs.Parts.{Part, part-first, part-second, part-taken}
+use Rattle.wire.specs.Parts.{Part}
+use Rattle.wire.proofs.PartLaws.{part-first, part-second, part-taken}
 use Rattle.forms.specs.Form.{Form, eachShow, EachOk}
 use Rattle.forms.specs.Fields.{Field, room, pack, Fit, sheetFields}
 use Rattle.forms.specs.Lists.{all, All, countedShow, loopShow}

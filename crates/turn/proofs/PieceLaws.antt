@@ -7,7 +7,8 @@ use native.Mathlib.Omega.{arith}
 use lib.ListN.{length, getD, take, drop, length-append, List·getD-append}
 use lib.Seq.{getD-append-add}
 use Rattle.wire.specs.If.{if_then_else_}
-use Rattle.wire.specs.Parts.{Part, part-taken}
+use Rattle.wire.specs.Parts.{Part}
+use Rattle.wire.proofs.PartLaws.{part-taken}
 use Rattle.forms.specs.Form.{Form, raw, eachShow, EachOk}
 use Rattle.forms.specs.Fields.{Field, kept, reserved, room, pack, Fit, sheetFields}
 use Rattle.forms.specs.Room.{put, sum, Done, Turned}

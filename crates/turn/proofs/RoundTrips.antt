@@ -9,11 +9,11 @@ use borrow.Author.Tests.{le-ltb}
 use lib.ListN.{length, length-append}
 use lib.Dec.{ltb}
 use Rattle.wire.specs.If.{if_then_else_}
+use Rattle.wire.specs.Bytes.{Bytes}
 use Rattle.wire.specs.Reading as reading
 use Rattle.tables.specs.Tables.{rowAt}
 use Rattle.verdict.specs.Verdict as verdict
 use Rattle.section.specs.Reading.{judged}
-use Rattle.forms.specs.Form.{Bytes}
 use Rattle.sheet.specs.Content.{Content, bodyOf, rowIn}
 use Rattle.sheet.specs.Sheet.{sheetOf}
 use Rattle.sheet.specs.Section.{sectionLength, sectionOf, contentOf, readSheet}

@@ -9,8 +9,9 @@ use borrow.Author.Tests.{eqb-true, eq-eqb}
 use lib.ListN.{length, getD, take, drop, length-append}
 use lib.Seq.{take-at}
 use lib.Dec.{eqb}
-use Rattle.wire.specs.If.{if_then_else_, if-case}
+use Rattle.wire.specs.If.{if_then_else_}
 use Rattle.wire.specs.Reading.{Reading, value, _>>=_}
+use Rattle.wire.proofs.IfLaws.{if-case}
 use Rattle.crc.specs.Crc.{crc, bytesOf}
 use Rattle.tables.specs.Tables.{cell, rowOf, rowAt}
 use Rattle.forms.specs.Form.{Form, mute, raw, _then_, such, each, eachShow, EachOk}

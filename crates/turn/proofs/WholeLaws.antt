@@ -10,6 +10,7 @@ use lib.Seq.{take-at}
 use lib.Dec.{eqb, ltb, lit<}
 use Prim.{tt}
 use Rattle.wire.specs.If.{if_then_else_}
+use Rattle.wire.specs.Bytes.{Bytes}
 use Rattle.wire.specs.Parts.{Part}
 use Rattle.wire.specs.Reading as reading
 use Rattle.wire.specs.Reading.{_>>=_}
@@ -18,7 +19,7 @@ use Rattle.crc.proofs.Bytes.{bytes-lt}
 use Rattle.tables.specs.Tables.{rowOf, rowAt}
 use Rattle.verdict.specs.Verdict as verdict
 use Rattle.section.specs.Reading.{judged}
-use Rattle.forms.specs.Form.{Bytes, eachShow, EachOk}
+use Rattle.forms.specs.Form.{eachShow, EachOk}
 use Rattle.forms.specs.Fields.{Field, Fit, room, pack, sheetFields}
 use Rattle.forms.specs.Room.{put, sum}
 use Rattle.forms.proofs.Puts.{sum-fits, put-fits, put-put, length-put}

@@ -3,9 +3,9 @@ use Prim.Native.Nat.{ℕ, _≤_}
 use mathlib.Core.Path.{_≡_}
 use mathlib.Core.List.{List}
 use lib.ListN.{length, take}
+use Rattle.wire.specs.Bytes.{Bytes}
 use Rattle.verdict.specs.Verdict.{accepted}
 use Rattle.section.specs.Reading.{judged}
-use Rattle.forms.specs.Form.{Bytes}
 use Rattle.turn.specs.Turn.{toSection, toSheet, answer, roomAfter}
 use Rattle.turn.specs.Answers.{toldSection, toldSheet}
 use Rattle.turn.specs.Ones.{ReservedWereOnes}

@@ -6,9 +6,9 @@ use native.Mathlib.Nat.{mul-le-mul-right, one-mul, zero-mul, zero-add, lt-of-lt-
 use native.Mathlib.Omega.{arith}
 use borrow.Author.Tests.{ltb-false, le-ltb}
 use lib.Dec.{ltb}
-use Rattle.wire.specs.If.{if-case}
 use Rattle.wire.specs.Reading.{value, refused}
 use Rattle.wire.specs.Digits.{digit, bcdAfter, bcdOf}
+use Rattle.wire.proofs.IfLaws.{if-case}
 
 abbrev pub decimal : ℕ → ℕ → ℕ
 decimal zero v = 0

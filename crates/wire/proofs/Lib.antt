@@ -1,4 +1,8 @@
 -- The laws that the proofs cite, and what holds of the answers.
+pub mod IfLaws
+pub mod TrailLaws
+pub mod NumberLaws
+pub mod PartLaws
 pub mod Decimal
 pub mod NextDigit
 pub mod SomeBits

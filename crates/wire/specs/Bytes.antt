@@ -4,6 +4,10 @@ use mathlib.Core.List.{List}
 use Prim.Native.Nat.{ℕ, _+_, _*_, _%_, _<_}
 use lib.ListN.{getD}
 
+-- the elements of a list are bytes
+abbrev pub Bytes : List ℕ → Type 0
+Bytes s = (i : ℕ) → getD s i 0 < 256
+
 -- a number that was read: what it is, and that it is below a bound
 pub record Below (bound value r : ℕ) : Type 0 where
   pub same : r ≡ value

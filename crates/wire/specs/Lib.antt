@@ -1,4 +1,4 @@
--- What the layers above share: tests, loops, bytes and digits as numbers, readings, and the laws of parts of lists.
+-- What the layers above share: tests, loops, bytes and digits as numbers, readings, and parts of lists.
 pub mod If
 pub mod Trail
 pub mod Bytes

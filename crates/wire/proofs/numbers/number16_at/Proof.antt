@@ -1,9 +1,9 @@
 -- The number in two bytes from a place on.
-use Rattle.wire.specs.Number.{number-after}
 use denote.Ref.{now}
 use borrow.Author.Needs.{needs}
 use Rattle.wire.proofs.numbers.number16_at.Statement.{statement}
 use Rattle.wire.proofs.numbers.number16_at.Tie as tie
+use Rattle.wire.proofs.NumberLaws.{number-after}
 
 after-requires : tie.Need-after-requires
 after-requires c κs = search needs

@@ -1,0 +1,18 @@
+-- Numbers in what is left of a list.
+use mathlib.Core.Path.{_≡_, refl, ap, ap₂, _∙_}
+use mathlib.Core.List.{List, _∷_}
+use Prim.Native.Nat.{ℕ, zero, suc, _+_}
+use native.Mathlib.Nat.{add-assoc, add-zero}
+use lib.ListN.{drop}
+use lib.Seq.{getD-drop}
+use Rattle.wire.specs.Number.{number, bytesAt, numberAt}
+
+-- the bytes at a place of what follows the first k
+pub bytes-after : (n : ℕ) (s : List ℕ) (k i : ℕ) → bytesAt n (drop k s) i ≡ bytesAt n s (k + i)
+bytes-after zero s k i = refl
+bytes-after (suc n) s k i = ap₂ _∷_ (getD-drop k s i 0) (bytes-after n s k (i + 1) ∙ rw add-assoc)
+
+-- the number in the first bytes of what follows the first k is the number at place k
+pub number-after : (n : ℕ) (s : List ℕ) (k : ℕ) → number (bytesAt n (drop k s) 0) ≡ numberAt n s k
+unfolding numberAt
+number-after n s k = ap number (bytes-after n s k 0) ∙ rw add-zero
