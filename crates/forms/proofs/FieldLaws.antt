@@ -15,15 +15,9 @@ use Rattle.wire.specs.Reading.{Reading, value, refused, _>>=_, value-is, never,
 use Rattle.wire.proofs.IfLaws.{if-case}
 use Rattle.forms.specs.Form.{Front, Form, rawRead, EachOk}
 use Rattle.forms.specs.Fields.{Field, kept, reserved, width, belowRead, below, sheetField, sheetFields, room, pack, unpack, Fit, byteRead, byteOf}
-use Rattle.forms.proofs.Lawful.{Lawful, Sound, Complete, read-on, mute-lawful, raw-read, raw-shown, each-lawful, each-ok}
+use Rattle.forms.proofs.Lawful.{Lawful, Sound, Complete, read-on, mute-lawful, raw-read, raw-shown, one-of, each-lawful, each-ok}
 
 -- ---- one byte read
-
--- what a list of one element is
-one-of : (a : List ℕ) → length a ≡ 1 → a ≡ getD a 0 0 ∷ []
-one-of [] e = absurd (omega arith)
-one-of (x ∷ []) e = refl
-one-of (x ∷ y ∷ a) e = absurd (omega arith)
 
 pub one-read : (s a r : List ℕ) → rawRead 1 s ≡ value (a, r) → s ≡ getD a 0 0 ∷ r
 one-read s a r e = let x = raw-shown 1 s a r e in x .0 ∙ ap (λ l. l ++ r) (one-of a (x .1))

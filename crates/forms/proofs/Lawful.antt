@@ -17,6 +17,18 @@ use Rattle.forms.specs.Form.{Front, Form, mute, rawRead, raw, bothRead, 
 
 -- ---- lists of bytes
 
+-- a list of one element, and of two
+pub one-of : (a : List ℕ) → length a ≡ 1 → a ≡ getD a 0 0 ∷ []
+one-of [] e = absurd (omega arith)
+one-of (x ∷ []) e = refl
+one-of (x ∷ y ∷ a) e = absurd (omega arith)
+
+pub two-of : (a : List ℕ) → length a ≡ 2 → a ≡ getD a 0 0 ∷ getD a 1 0 ∷ []
+two-of [] e = absurd (omega arith)
+two-of (x ∷ []) e = absurd (omega arith)
+two-of (x ∷ y ∷ []) e = refl
+two-of (x ∷ y ∷ z ∷ a) e = absurd (omega arith)
+
 pub bytes-behind : {s : List ℕ} (x r : List ℕ) → s ≡ x ++ r → Bytes s → Bytes r
 bytes-behind x r e h i = subst (λ n. n < 256) (getD-append-add x r i 0) (subst Bytes e h (length x + i))
 

@@ -10,7 +10,7 @@ use Rattle.wire.specs.Reading.{Reading, value, refused, _>>=_, value-is, never,
 use Rattle.forms.specs.Form.{Front, Form, rawRead}
 use Rattle.forms.specs.Fields.{Field, room, pack, unpack, Fit}
 use Rattle.forms.specs.Lists.{timesRead, all, All, none, one, times, countedRead, countedShow, counted, untilRead, fillingRead, filling, loopRead, loopShow, loop}
-use Rattle.forms.proofs.Lawful.{Lawful, Sound, Complete, read-on, raw-read, raw-shown, bytes-behind}
+use Rattle.forms.proofs.Lawful.{Lawful, Sound, Complete, read-on, raw-read, raw-shown, two-of, bytes-behind}
 use Rattle.forms.proofs.FieldLaws.{pack-lt, unpack-pack}
 
 module _ {A : Type 0} (c : Form A) where
@@ -60,12 +60,6 @@ module _ {A : Type 0} (c : Form A) where
       read-on _ (raw-read 2 (n / 256 ∷ n % 256 ∷ []) (all c l ++ r) refl)
       ∙ ap (λ k. timesRead c k (all c l ++ r)) e
       ∙ times-read f l r (o .1)
-
-  two-of : (a : List ℕ) → length a ≡ 2 → a ≡ getD a 0 0 ∷ getD a 1 0 ∷ []
-  two-of [] e = absurd (omega arith)
-  two-of (x ∷ []) e = absurd (omega arith)
-  two-of (x ∷ y ∷ []) e = refl
-  two-of (x ∷ y ∷ z ∷ a) e = absurd (omega arith)
 
   counted-sound : Sound c → Sound (counted c)
   unfolding countedRead countedShow

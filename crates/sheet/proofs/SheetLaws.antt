@@ -14,7 +14,7 @@ use Rattle.tables.specs.Tables.{rowOf, rowAt}
 use Rattle.forms.specs.Form.{Form, mute, rawRead, raw, _then_, such, each}
 use Rattle.forms.specs.Fields.{Field, sheetFields}
 use Rattle.forms.specs.Lists.{counted}
-use Rattle.forms.proofs.Lawful.{Lawful, Sound, Complete, read-on, mute-lawful, raw-read, raw-shown, raw-lawful, then-lawful, such-lawful, each-lawful, bytes-behind}
+use Rattle.forms.proofs.Lawful.{Lawful, Sound, Complete, read-on, mute-lawful, raw-read, raw-shown, one-of, two-of, raw-lawful, then-lawful, such-lawful, each-lawful, bytes-behind}
 use Rattle.forms.proofs.FieldLaws.{fields-lawful}
 use Rattle.forms.proofs.ListLaws.{counted-lawful}
 use Rattle.sheet.specs.Content.{Item, plain, numbers, packed, bare, frame, headOf, entryOf, sideOf, Descriptor, Loop, Entry, Entries, Body, Content, tableOf, rowIn}
@@ -27,12 +27,6 @@ item-lawful (packed fs) = fields-lawful fs
 
 pub items-lawful : (xs : List Item) → Lawful (each sheetItem xs)
 items-lawful = each-lawful sheetItem item-lawful
-
-two-of : (a : List ℕ) → length a ≡ 2 → a ≡ getD a 0 0 ∷ getD a 1 0 ∷ []
-two-of [] e = absurd (omega arith)
-two-of (x ∷ []) e = absurd (omega arith)
-two-of (x ∷ y ∷ []) e = refl
-two-of (x ∷ y ∷ z ∷ a) e = absurd (omega arith)
 
 descriptor-sound : Sound descriptor
 unfolding descriptorRead
@@ -91,11 +85,6 @@ behind-lawful row =
 
 abbrev known : List ℕ → Bool
 known id = ltb (rowOf (getD id 0 0)) 6
-
-one-of : (a : List ℕ) → length a ≡ 1 → a ≡ getD a 0 0 ∷ []
-one-of [] e = absurd (omega arith)
-one-of (x ∷ []) e = refl
-one-of (x ∷ y ∷ a) e = absurd (omega arith)
 
 sheet-complete : Complete sheet
 unfolding sheetRead sheetOf SheetOk
