@@ -245,17 +245,29 @@ module _ {A : Type 0} (c : Form A) (s : List ℕ) (at : ℕ) where
       let q = subst (λ n. Follows (times c n) s (At (at + 2)) r) e p in
       record { onward = λ w. counted-onward (omega arith) r (q .onward (omega arith)) }
 
-  -- also where there is no such place
-  pub early-counted : length s - at < 2 → Reads (counted c) s at EndsEarly
-  unfolding countedRead
-  early-counted h = stays _ (raw-short s at 2 h)
-
   pub follows-early : length s - at < 2 → Follows (counted c) s (At at) EndsEarly
-  follows-early h = record { onward = λ w. early-counted h }
+  unfolding countedRead
+  follows-early h = record { onward = λ w. stays _ (raw-short s at 2 h) }
 
--- no item is left
-pub follows-done : {A : Type 0} (c : Form A) {s : List ℕ} {k : ℕ} {x : End} → k ≡ 0 → Follows (times c k) s x x
-follows-done c {s} {k} {x} e = subst (λ n. Follows (times c n) s x x) (sym e) (follows-zero c)
+-- ---- item after item
+
+-- as the k items from the place p on are read, so are all n from the place `at` on
+abbrev pub Rest : {A : Type 0} → Form A → List ℕ → ℕ → ℕ → ℕ → ℕ → Type 0
+Rest c s at n p k = (r : End) → Follows (times c k) s (At p) r → Follows (times c n) s (At at) r
+
+module _ {A : Type 0} (c : Form A) {s : List ℕ} {at n p k : ℕ} (rest : Rest c s at n p k) where
+  pub item-on : {x : End} {e : ℕ} → 0 < k → x ≡ At e → Follows c s (At p) x → Rest c s at n e (k - 1)
+  item-on h g i r j = rest r (follows-item c h (follows-told c g i) j)
+
+  pub item-early : {x : End} → 0 < k → x ≡ EndsEarly → Follows c s (At p) x → Follows (times c n) s (At at) EndsEarly
+  item-early h g i = rest EndsEarly (follows-item c h (follows-told c g i) (still-early (times c (k - 1)) refl))
+
+  pub item-wide : {x : End} → 0 < k → x ≡ TooWide → Follows c s (At p) x → Follows (times c n) s (At at) TooWide
+  item-wide h g i = rest TooWide (follows-item c h (follows-told c g i) (still-wide (times c (k - 1)) refl))
+
+  -- no item is left
+  pub items-done : k ≡ 0 → Follows (times c n) s (At at) (At p)
+  items-done e = rest (At p) (subst (λ m. Follows (times c m) s (At p) (At p)) (sym e) (follows-zero c))
 
 -- ---- the parts of a sheet
 

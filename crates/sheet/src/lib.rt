@@ -1,8 +1,6 @@
 // Content sheets: whether bytes are one.
 ghost use mathlib.Core.Path.{_≡_};
-ghost use Rattle.forms.specs.Lists.{counted};
-ghost use Rattle.sheet.specs.Sheet.{descriptor};
-ghost use Rattle.sheet.specs.Reads.{told, judgedSheet, judgedLength, Reads, Known};
+ghost use Rattle.sheet.specs.Reads.{told, judgedSheet, judgedLength, Known};
 
 mod read;
 mod size;
@@ -24,20 +22,10 @@ pub enum Judged {
 }
 
 // How a reading from a place of a sheet ended: the place behind what was read, 22 or 24.
-pub enum End {
+enum End {
     At(usize),
     EndsEarly,
     TooWide,
-}
-
-// Where a list of descriptors ends that begins, with the number of its items, at a place of a sheet.
-pub fn descriptors_end(sheet: &[u8], at: usize) -> End
-    ensures { λ r. ⌜ Reads (counted descriptor) (now (sheet .entry)) at r ⌝ }
-{
-    if sheet.len() < at {
-        return End::EndsEarly;
-    }
-    read::descriptors(sheet, End::At(at))
 }
 
 fn judge_length(most: usize, n: usize) -> Judged

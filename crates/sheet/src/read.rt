@@ -139,7 +139,7 @@ fn section_numbers(s: &[u8], from: End) -> End
     }
 }
 
-pub fn descriptors(s: &[u8], from: End) -> End
+fn descriptors(s: &[u8], from: End) -> End
     ensures { λ r. ⌜ Follows (counted descriptor) (now (s .entry)) from r ⌝ }
 {
     match from {

@@ -1,18 +1,13 @@
--- `sheet::read::entries_times` meets its contract: as the k items from the place p on are read, so are all from the place `at` on.
+-- `sheet::read::entries_times` meets its contract.
 use borrow.Author.Needs.{needs}
 use native.Mathlib.Omega.{arith}
-use mathlib.Core.Path.{refl}
-use Rattle.forms.specs.Lists.{times}
-use Rattle.sheet.specs.Reads.{Follows, entryWith}
-use Rattle.sheet.specs.declared.End.{End}
-use Rattle.sheet.specs.declared.End.the-variants.{At}
-use Rattle.sheet.proofs.ReadLaws.{follows-item, follows-done, follows-told, still-early, still-wide}
+use Rattle.sheet.specs.Reads.{entryWith}
+use Rattle.sheet.proofs.ReadLaws.{Rest, item-on, item-early, item-wide, items-done}
 use Rattle.sheet.proofs.read.entries_times.Statement.{statement}
 use Rattle.sheet.proofs.read.entries_times.Tie as tie
 
 abbrev Inv-loop : tie.InvT-loop
-Inv-loop s at count n flagged running p₀ k₀ p k =
-    (r : End) → Follows (times (entryWith n flagged running) k) s (At p) r → Follows (times (entryWith n flagged running) count) s (At at) r
+Inv-loop s at count n flagged running p₀ k₀ p k = Rest (entryWith n flagged running) s at count p k
 
 abbrev μ-loop : tie.MeasureT-loop
 μ-loop s at count n flagged running p₀ k₀ p k = k
@@ -30,13 +25,13 @@ enum-told : tie.Need-enum-told Inv-loop μ-loop
 enum-told c = search needs
 
 returns : tie.Need-returns Inv-loop μ-loop
-returns c = c .before .before .before .before .loop .inv _ (follows-item _ (c .before .before .before .loop-test .taken) (follows-told _ (c .enum-told .given .1) (c .before .before .entry .ensures)) (still-early _ refl))
+returns c = item-early _ (c .before .before .before .before .loop .inv) (c .before .before .before .loop-test .taken) (c .enum-told .given .1) (c .before .before .entry .ensures)
 
 enum-told-2 : tie.Need-enum-told-2 Inv-loop μ-loop
 enum-told-2 c = search needs
 
 returns-2 : tie.Need-returns-2 Inv-loop μ-loop
-returns-2 c = c .before .before .before .before .loop .inv _ (follows-item _ (c .before .before .before .loop-test .taken) (follows-told _ (c .enum-told2 .given .1) (c .before .before .entry .ensures)) (still-wide _ refl))
+returns-2 c = item-wide _ (c .before .before .before .before .loop .inv) (c .before .before .before .loop-test .taken) (c .enum-told2 .given .1) (c .before .before .entry .ensures)
 
 sub-k : tie.Need-sub-k Inv-loop μ-loop
 sub-k c = search needs
@@ -45,10 +40,10 @@ loop-less : tie.Need-loop-less Inv-loop μ-loop
 loop-less c = search needs
 
 loop-again : tie.Need-loop-again Inv-loop μ-loop
-loop-again c = λ r h. c .before .before .before .before .before .loop .inv r (follows-item _ (c .before .before .before .before .loop-test .taken) (follows-told _ (c .before .end .given .1) (c .before .before .before .entry .ensures)) h)
+loop-again c = item-on _ (c .before .before .before .before .before .loop .inv) (c .before .before .before .before .loop-test .taken) (c .before .end .given .1) (c .before .before .before .entry .ensures)
 
 returns-3 : tie.Need-returns-3 Inv-loop μ-loop
-returns-3 c = c .before .loop .inv _ (follows-done _ (omega (arith, c .loop-test .left)))
+returns-3 c = items-done _ (c .before .loop .inv) (omega (arith, c .loop-test .left))
 
 pub entries-times-spec : {M : Type 1} → statement M
 entries-times-spec =
