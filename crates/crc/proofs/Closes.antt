@@ -11,7 +11,7 @@ use Rattle.crc.specs.Crc.{poly, feed, feedBits, feedBytes, crc, bytesOf}
 use Rattle.crc.proofs.Xor.{_⊕_, xor-zero-eq}
 use Rattle.crc.proofs.Linear.{feed-sum, feed-lt}
 use Rattle.crc.proofs.Steps.{own, absorb}
-use Rattle.crc.proofs.Bytes.{feed-append, bytes-lt, four}
+use Rattle.crc.proofs.Bytes.{feed-append, bytes-lt, four, word-lt}
 
 -- the nine digits 1 to 9 in ASCII: the value by which catalogues of CRCs tell this one
 pub digits : crc (0x31 ∷ 0x32 ∷ 0x33 ∷ 0x34 ∷ 0x35 ∷ 0x36 ∷ 0x37 ∷ 0x38 ∷ 0x39 ∷ []) ≡ 0x0376E6E7
@@ -70,9 +70,6 @@ only-own w v hw hv e =
     let z : ℕ = w ⊕ v in
     let hz : z < 2 ^ 32 = xor-lt 32 w v hw hv in
     xor-zero-eq w v (bits-zero 32 z hz (absorb 0 z hz ∙ ap (λ (x : ℕ). feedBits 32 x 0) (xor-zero-l z) ∙ sym (absorb w v hv) ∙ e))
-
-word-lt : (a b c d : ℕ) → a < 2 ^ 8 → b < 2 ^ 8 → c < 2 ^ 8 → d < 2 ^ 8 → a * 2 ^ 24 + b * 2 ^ 16 + c * 2 ^ 8 + d < 2 ^ 32
-word-lt a b c d ha hb hc hd = omega arith
 
 same-bytes : (a b c d v : ℕ) → a < 2 ^ 8 → b < 2 ^ 8 → c < 2 ^ 8 → d < 2 ^ 8 → a * 2 ^ 24 + b * 2 ^ 16 + c * 2 ^ 8 + d ≡ v
     → a ∷ b ∷ c ∷ d ∷ [] ≡ bytesOf v

@@ -1,10 +1,11 @@
 -- A step by its four tests: it takes the section, or refuses it and stays as it is.
 use Prim.Native.Nat.{ℕ}
-use mathlib.Core.Path.{_≡_, refl, sym}
-use mathlib.Core.Bool.{Bool, true, false, not, false≢true}
+use mathlib.Core.Path.{_≡_, refl}
+use mathlib.Core.Bool.{Bool, true, false, not}
 use mathlib.Core.Logic.{_⊎_, inl, inr}
 use mathlib.Core.List.{List}
-use Rattle.verdict.specs.Verdict.{Said, accepted, refused, isAccepted, numberOf, placeOf}
+use Rattle.verdict.specs.Verdict.{isAccepted, numberOf, placeOf}
+use Rattle.verdict.proofs.SaidLaws.{is-accepted, is-refused}
 use Rattle.section.specs.Reading.{judged}
 use Rattle.roll.specs.Roll.{isCurrent, hasNoSubTable, another, after, refusal, answering, takingAccepted, taking}
 use Rattle.roll.specs.Sequence.{belongs, takes, FirstRefusal, by-the-judge, no-sub-table, another-sub-table, not-current}
@@ -16,14 +17,6 @@ pub record Refuses (t : List (List ℕ)) (r : Roll) (s : List ℕ) : Type 0 wher
   pub place : ℕ
   pub first : FirstRefusal t s number place
   pub same : taking r s ≡ refusal r number place
-
-is-accepted : (v : Said) → isAccepted v ≡ true → v ≡ accepted
-is-accepted accepted h = refl
-is-accepted (refused k p) h = absurd (false≢true h)
-
-is-refused : (v : Said) → isAccepted v ≡ false → v ≡ refused (numberOf v) (placeOf v)
-is-refused accepted h = absurd (false≢true (sym h))
-is-refused (refused k p) h = refl
 
 module _ (r : Roll) (s : List ℕ) where
   -- a roll that compares with what was taken takes exactly what belongs there

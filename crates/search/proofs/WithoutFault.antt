@@ -84,10 +84,6 @@ module _ (l : List ℕ) (p n : ℕ) (same : n ≡ len12At l p) where
   pub topped-ok : (fixed : ℕ) → topped fixed p (drop p l) .ends ≡ accepted → Topped fixed
   topped-ok fixed ok = elim (ℕ-discrete fixed 0) [ yes f ↦ one-ok fixed f ok | no f ↦ two-ok fixed f ok ]
 
-pub is-accepted : (v : Said) → isAccepted v ≡ true → v ≡ accepted
-is-accepted accepted e = refl
-is-accepted (refused k p) e = let z : _≡_ {A = ℕ} 0 1 = cc in absurd (omega arith)
-
 -- of an accepted section all is read; with the row and the section's end as the code has them
 pub read-inside : (s : List ℕ) (row : Row) (e : ℕ) → row ≡ rowFor s → e ≡ length s - 4 → judged s ≡ accepted
     → read s ≡ inside row (row .before) (drop (row .before) (take e s))

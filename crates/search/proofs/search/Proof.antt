@@ -10,7 +10,8 @@ use Rattle.section.specs.Reading.{Reading, inside, read, judged}
 use Rattle.search.specs.Search.{refusing, hitFrom, sought}
 use Rattle.tables.specs.declared.Row.{Row}
 use Rattle.tables.proofs.RowLaws.{fixed-two}
-use Rattle.search.proofs.WithoutFault.{is-accepted, read-inside}
+use Rattle.verdict.proofs.SaidLaws.{is-accepted}
+use Rattle.search.proofs.WithoutFault.{read-inside}
 use borrow.Author.Needs.{needs}
 use Rattle.search.proofs.search.Statement.{statement}
 use Rattle.search.proofs.search.Tie as tie
