@@ -5,6 +5,7 @@ use mathlib.Core.Path.{_≡_, refl}
 use mathlib.Core.List.{List, [], _∷_}
 use Rattle.crc.specs.Crc.{crc, feed, feedBits, feedBytes}
 use Rattle.tables.specs.Tables.{cell, holds, first, rowOf}
+use Rattle.wire.specs.Number.{numberAt}
 use Rattle.wire.specs.Trail.{run, trail}
 use Rattle.loops.specs.Descriptors.{descriptors}
 use Rattle.section.specs.Entries.{entries}
@@ -42,5 +43,5 @@ lower = 0x40 ∷ 0xF0 ∷ 0x0D ∷ 0x00 ∷ 0x01 ∷ 0xC7 ∷ 0x00 ∷ 0x01 ∷ 
 
 pub at-work : answersTo emptyRoll (tdt ∷ coming ∷ second ∷ other ∷ opening ∷ lower ∷ [])
     ≡ refusing 83 0 ∷ refusing 81 0 ∷ missing 0 ∷ refusing 82 0 ∷ complete ∷ missing 1 ∷ []
-unfolding tdt coming second other opening lower emptyRoll taking takingAccepted asked after continued begunWith startsAfresh another hasNoSubTable isCurrent versionIn sameIds compared subTableOf networkIn idsThatCount smallestMissing smallest marked unmarked has judged read opened header wrongSyntax lengthOutside sizeDiffers crcFails aboveLast inside topped plain twoLoops secondLoop leavesRoom fills _andThen_ entries descriptors run trail cell holds first rowOf crc feedBytes feedBits feed
+unfolding tdt coming second other opening lower emptyRoll taking takingAccepted asked after continued begunWith startsAfresh another hasNoSubTable isCurrent versionIn sameIds compared subTableOf numberAt networkIn idsThatCount smallestMissing smallest marked unmarked has judged read opened header wrongSyntax lengthOutside sizeDiffers crcFails aboveLast inside topped plain twoLoops secondLoop leavesRoom fills _andThen_ entries descriptors run trail cell holds first rowOf crc feedBytes feedBits feed
 at-work = refl

@@ -6,7 +6,8 @@ use mathlib.Core.List.{List}
 use lib.ListN.{getD}
 use lib.Dec.{eqb}
 use borrow.Author.Tests.{eqb-true, eq-eqb}
-use Rattle.roll.specs.SubTable.{isSdt, isEit, wordAt, idsThatCount, networkIn, subTableOf, compared, sameIds}
+use Rattle.wire.specs.Number.{numberAt}
+use Rattle.roll.specs.SubTable.{isSdt, isEit, idsThatCount, networkIn, subTableOf, compared, sameIds}
 use Rattle.roll.specs.declared.SubTable.{SubTable}
 
 counted-twice : (id e t n : ℕ) → compared (idsThatCount id e t n) ≡ idsThatCount id e t n
@@ -20,7 +21,7 @@ counted-twice id e t n = go (isSdt id) (isEit id) refl refl
 
 pub compared-as-it-stands : (s : List ℕ) → compared (subTableOf s) ≡ subTableOf s
 unfolding subTableOf
-compared-as-it-stands s = counted-twice (getD s 0 0) (wordAt s 3) (wordAt s 8) (networkIn s)
+compared-as-it-stands s = counted-twice (getD s 0 0) (numberAt 2 s 3) (numberAt 2 s 8) (networkIn s)
 
 and-left : (a b : Bool) → (a && b) ≡ true → a ≡ true
 and-left true b h = refl

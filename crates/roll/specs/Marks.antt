@@ -11,9 +11,11 @@ use Rattle.roll.specs.declared.Marks.{Marks}
 unfoldable pub has : Marks → ℕ → Bool
 has m n = getD (m .came) n false
 
+-- no number has come
 unfoldable pub unmarked : Marks
 unmarked = record { came = replicate 256 false }
 
+-- a number has come too
 unfoldable pub marked : Marks → ℕ → Marks
 marked m n = record { came = set (m .came) n true }
 

@@ -18,10 +18,11 @@ use Rattle.roll.specs.declared.Step.{Step}
 unfoldable pub versionIn : List ℕ → ℕ
 versionIn s = getD s 5 0 / 2 % 32
 
--- section_number and last_section_number
+-- section_number
 abbrev pub numberIn : List ℕ → ℕ
 numberIn s = getD s 6 0
 
+-- last_section_number
 abbrev pub lastIn : List ℕ → ℕ
 lastIn s = getD s 7 0
 
@@ -63,6 +64,7 @@ continued r s =
       marks = marked (r .marks) (numberIn s);
     }
 
+-- the roll after a section that it takes
 unfoldable pub after : Roll → List ℕ → Roll
 after r s = if startsAfresh r s then begunWith s else continued r s
 
@@ -75,6 +77,7 @@ pub record Outcome : Type 0 where
   pub roll : Roll
   pub says : Says
 
+-- what a step of the program comes to
 abbrev pub heard : Step → Outcome
 heard x = record { roll = x .roll; says = toldAnswer (x .answer) }
 
@@ -82,6 +85,7 @@ heard x = record { roll = x .roll; says = toldAnswer (x .answer) }
 abbrev pub refusal : Roll → ℕ → ℕ → Outcome
 refusal r k p = record { roll = r; says = refusing k p }
 
+-- the roll as it is now, and its answer
 abbrev pub answering : Roll → Outcome
 answering r = record { roll = r; says = asked r }
 
@@ -97,6 +101,7 @@ takingAccepted r s =
 unfoldable pub taking : Roll → List ℕ → Outcome
 taking r s = if isAccepted (judged s) then takingAccepted r s else refusal r (numberOf (judged s)) (placeOf (judged s))
 
+-- nothing has come
 unfoldable pub emptyRoll : Roll
 emptyRoll =
     record {

@@ -1,24 +1,19 @@
 -- "A sub-table is table_id and extension, for SDT also original_network_id, for EIT also both transport ids."
-use Prim.Native.Nat.{ℕ, _+_, _*_}
+use Prim.Native.Nat.{ℕ}
 use mathlib.Core.List.{List}
 use mathlib.Core.Bool.{Bool, _&&_}
 use lib.ListN.{getD}
 use lib.Dec.{eqb}
 use Rattle.wire.specs.If.{if_then_else_}
+use Rattle.wire.specs.Number.{numberAt}
 use Rattle.tables.specs.Tables.{rowOf}
 use Rattle.roll.specs.declared.SubTable.{SubTable}
 
--- a number of two bytes
-abbrev pub word : ℕ → ℕ → ℕ
-word high low = high * 256 + low
-
-abbrev pub wordAt : List ℕ → ℕ → ℕ
-wordAt s i = word (getD s i 0) (getD s (i + 1) 0)
-
--- the rows of SDT and EIT
+-- the row of SDT
 abbrev pub isSdt : ℕ → Bool
 isSdt id = eqb (rowOf id) 1
 
+-- the row of EIT
 abbrev pub isEit : ℕ → Bool
 isEit id = eqb (rowOf id) 3
 
@@ -31,16 +26,17 @@ idsThatCount id extension transport network =
 
 -- original_network_id: bytes 8 and 9 of SDT, 10 and 11 of EIT
 unfoldable pub networkIn : List ℕ → ℕ
-networkIn s = if isSdt (getD s 0 0) then wordAt s 8 else wordAt s 10
+networkIn s = if isSdt (getD s 0 0) then numberAt 2 s 8 else numberAt 2 s 10
 
 -- the sub-table of a section: its extension in bytes 3 and 4, EIT's transport_stream_id in 8 and 9
 unfoldable pub subTableOf : List ℕ → SubTable
-subTableOf s = idsThatCount (getD s 0 0) (wordAt s 3) (wordAt s 8) (networkIn s)
+subTableOf s = idsThatCount (getD s 0 0) (numberAt 2 s 3) (numberAt 2 s 8) (networkIn s)
 
 -- what a roll keeps, as it is compared: what stands in an id that does not count means nothing
 unfoldable pub compared : SubTable → SubTable
 compared k = idsThatCount (k .«table_id») (k .extension) (k .«transport_stream_id») (k .«original_network_id»)
 
+-- the same sub-table
 unfoldable pub sameIds : SubTable → SubTable → Bool
 sameIds a b =
     eqb (a .«table_id») (b .«table_id») && (eqb (a .extension) (b .extension)

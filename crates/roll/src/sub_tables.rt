@@ -1,15 +1,10 @@
 // Which sub-table a section belongs to.
 ghost use mathlib.Core.Path.{_≡_};
-ghost use Rattle.roll.specs.SubTable.{word, idsThatCount, networkIn, subTableOf, compared, sameIds};
+ghost use Rattle.roll.specs.SubTable.{idsThatCount, networkIn, subTableOf, compared, sameIds};
 use crate::SubTable;
 use tables::row_of;
 use wire::numbers::byte_at;
-
-fn number_of(high: u8, low: u8) -> u16
-    ensures { λ r. ⌜ r ≡ word high low ⌝ }
-{
-    high as u16 * 256 + low as u16
-}
+use wire::numbers::number16_at;
 
 // Of the two transport ids, those that count for the table; 0 for the others.
 fn ids_that_count(table_id: u8, extension: u16, transport: u16, network: u16) -> SubTable
@@ -45,16 +40,16 @@ fn network_in(section: &[u8]) -> u16
     ensures { λ r. ⌜ r ≡ networkIn (now (section .entry)) ⌝ }
 {
     if row_of(byte_at(section, 0)) == 1 {
-        return number_of(byte_at(section, 8), byte_at(section, 9));
+        return number16_at(section, 8);
     }
-    number_of(byte_at(section, 10), byte_at(section, 11))
+    number16_at(section, 10)
 }
 
 pub fn sub_table_of(section: &[u8]) -> SubTable
     ensures { λ r. ⌜ r ≡ subTableOf (now (section .entry)) ⌝ }
 {
-    let extension = number_of(byte_at(section, 3), byte_at(section, 4));
-    let transport = number_of(byte_at(section, 8), byte_at(section, 9));
+    let extension = number16_at(section, 3);
+    let transport = number16_at(section, 8);
     let network = network_in(section);
     ids_that_count(byte_at(section, 0), extension, transport, network)
 }

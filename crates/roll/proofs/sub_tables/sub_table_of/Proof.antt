@@ -4,29 +4,17 @@ use borrow.Author.Needs.{needs}
 use Rattle.roll.proofs.sub_tables.sub_table_of.Statement.{statement}
 use Rattle.roll.proofs.sub_tables.sub_table_of.Tie as tie
 
-byte-at-requires : tie.Need-byte-at-requires
-byte-at-requires c κs = search needs
+number16-at-requires : tie.Need-number16-at-requires
+number16-at-requires c κs = search needs
 
-byte-at-requires-2 : tie.Need-byte-at-requires-2
-byte-at-requires-2 c κs = search needs
-
-number-of-requires : tie.Need-number-of-requires
-number-of-requires c κs = search needs
-
-byte-at-requires-3 : tie.Need-byte-at-requires-3
-byte-at-requires-3 c κs = search needs
-
-byte-at-requires-4 : tie.Need-byte-at-requires-4
-byte-at-requires-4 c κs = search needs
-
-number-of-requires-2 : tie.Need-number-of-requires-2
-number-of-requires-2 c κs = search needs
+number16-at-requires-2 : tie.Need-number16-at-requires-2
+number16-at-requires-2 c κs = search needs
 
 network-in-requires : tie.Need-network-in-requires
 network-in-requires c κs = search needs
 
-byte-at-requires-5 : tie.Need-byte-at-requires-5
-byte-at-requires-5 c κs = search needs
+byte-at-requires : tie.Need-byte-at-requires
+byte-at-requires c κs = search needs
 
 ids-that-count-requires : tie.Need-ids-that-count-requires
 ids-that-count-requires c κs = search needs
@@ -39,13 +27,9 @@ pub sub-table-of-spec : {M : Type 1} → statement M
 sub-table-of-spec =
     tie.close
     (tie.spec
-    byte-at-requires
-    byte-at-requires-2
-    number-of-requires
-    byte-at-requires-3
-    byte-at-requires-4
-    number-of-requires-2
+    number16-at-requires
+    number16-at-requires-2
     network-in-requires
-    byte-at-requires-5
+    byte-at-requires
     ids-that-count-requires
     returns)
