@@ -16,6 +16,7 @@ use Rattle.cabinet.specs.declared.collect.CollectAnswer.{CollectAnswer}
 abbrev pub lastIn : ℕ → Last
 lastIn n = if eqb n 255 then None else Counter n
 
+-- and the number for each
 abbrev pub lastSays : Last → ℕ
 lastSays None = 255
 lastSays (Counter n) = n
@@ -33,6 +34,7 @@ recordIn r = record {
   skipped = r .skipped;
 }
 
+-- the numbers for a record of the collector
 abbrev pub recordSays : of.Record → Record
 recordSays r = record {
   pid = r .pid;
@@ -45,6 +47,7 @@ recordSays r = record {
   skipped = r .skipped;
 }
 
+-- a refusal's number; "repeated"; or taken, with the number of sections and of their bytes
 abbrev pub collectSays : Told → CollectAnswer
 collectSays (refused k) = record { number = k; repeated = 0; sections = 0; size = 0 }
 collectSays repeated = record { number = 0; repeated = 1; sections = 0; size = 0 }
@@ -57,6 +60,7 @@ pub record Outcome : Type 0 where
   pub out : List ℕ
   pub answer : CollectAnswer
 
+-- the four put together
 abbrev pub leaves : Record → List ℕ → List ℕ → CollectAnswer → Outcome
 leaves r hold out answer = record { rec = r; hold = hold; out = out; answer = answer }
 
@@ -64,5 +68,6 @@ leaves r hold out answer = record { rec = r; hold = hold; out = out; answer = an
 abbrev pub outcomeSays : collector.Outcome → Outcome
 outcomeSays o = leaves (recordSays (o .rec)) (o .hold) (o .out) (collectSays (o .said))
 
+-- what `lohitunga_collect` makes of a record in numbers, a hold, an out room and a packet
 unfoldable pub collecting : Record → List ℕ → List ℕ → List ℕ → Outcome
 collecting r hold out packet = outcomeSays (collected (recordIn r) hold out packet)

@@ -21,6 +21,7 @@ abbrev pub rollOff : System → ℕ
 rollOff S = 0
 rollOff (S2 off) = off
 
+-- the fields of a satellite delivery system
 abbrev pub satelliteIs : Satellite → SatelliteAnswer
 satelliteIs f = record {
   number = 0;
@@ -35,6 +36,7 @@ satelliteIs f = record {
   «fec_inner» = f .«fec_inner»;
 }
 
+-- those fields, or the refusal's number and zeros
 abbrev pub satelliteSays : Reading Satellite → SatelliteAnswer
 satelliteSays (value f) = satelliteIs f
 satelliteSays (refused k) = record {
@@ -50,6 +52,7 @@ satelliteSays (refused k) = record {
   «fec_inner» = 0;
 }
 
+-- the fields of a cable delivery system, or the refusal's number and zeros
 abbrev pub cableSays : Reading Cable → CableAnswer
 cableSays (value f) = record {
   number = 0;
@@ -61,6 +64,7 @@ cableSays (value f) = record {
 }
 cableSays (refused k) = record { number = k; frequency = record { steps = 0 }; «symbol_rate» = 0; «fec_outer» = 0; modulation = 0; «fec_inner» = 0 }
 
+-- the fields of a terrestrial delivery system
 abbrev pub terrestrialIs : Terrestrial → TerrestrialAnswer
 terrestrialIs f = record {
   number = 0;
@@ -78,6 +82,7 @@ terrestrialIs f = record {
   «other_frequency_flag» = bit (f .«other_frequency_flag»);
 }
 
+-- those fields, or the refusal's number and zeros
 abbrev pub terrestrialSays : Reading Terrestrial → TerrestrialAnswer
 terrestrialSays (value f) = terrestrialIs f
 terrestrialSays (refused k) = record {

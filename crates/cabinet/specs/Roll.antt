@@ -14,6 +14,7 @@ use Rattle.cabinet.specs.declared.rolls.RollAnswer.{RollAnswer}
 unfoldable pub marksIn : List ℕ → List Bool
 marksIn came = map isSet came
 
+-- a mark is 1
 unfoldable pub marksSay : List Bool → List ℕ
 marksSay came = map bit came
 
@@ -27,6 +28,7 @@ rollIn r = record {
   marks = record { came = marksIn (r .came) };
 }
 
+-- the numbers for a roll
 unfoldable pub rollSays : of.Roll → Roll
 rollSays r = record {
   begun = bit (r .begun);
@@ -39,6 +41,7 @@ rollSays r = record {
   came = marksSay (r .marks .came);
 }
 
+-- "the smallest number missing, or complete"; or the refusal's number and place
 abbrev pub rollAnswer : Says → RollAnswer
 rollAnswer (missing n) = record { number = 0; place = 0; complete = 0; missing = n }
 rollAnswer complete = record { number = 0; place = 0; complete = 1; missing = 0 }
@@ -55,6 +58,7 @@ pub record Outcome : Type 0 where
   pub roll : Roll
   pub answer : RollAnswer
 
+-- the two put together
 abbrev pub holds : Roll → RollAnswer → Outcome
 holds r answer = record { roll = r; answer = answer }
 
@@ -62,5 +66,6 @@ holds r answer = record { roll = r; answer = answer }
 abbrev pub outcomeSays : Roll → roll.Outcome → Outcome
 outcomeSays before o = holds (keeps before (o .roll) (o .says)) (rollAnswer (o .says))
 
+-- what `lohitunga_roll_take` makes of a roll in numbers and a section
 unfoldable pub rolling : Roll → List ℕ → Outcome
 rolling r s = outcomeSays r (taking (rollIn r) s)

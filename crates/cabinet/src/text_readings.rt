@@ -1,5 +1,6 @@
 // The descriptors that hold texts.
 ghost use mathlib.Core.Path.{_≡_};
+ghost use Rattle.texts.specs.Whole.{told};
 ghost use Rattle.texts.specs.NetworkName.{networkName};
 ghost use Rattle.texts.specs.Stuffing.{stuffing};
 ghost use Rattle.texts.specs.Service.{service};
@@ -56,14 +57,14 @@ fn no_part() -> Part
     Part { start: 0, size: 0 }
 }
 
-#[no_mangle]
-pub extern "C" fn lohitunga_network_name(descriptor: &[u8]) -> TextAnswer
-    ensures { λ r. ⌜ r ≡ textSays (networkName (now (descriptor .entry))) ⌝ }
+// A body that is one part.
+fn text_of(answer: network_name::Answer) -> TextAnswer
+    ensures { λ r. ⌜ r ≡ textSays (told answer) ⌝ }
 {
-    match network_name::read(descriptor) {
-        network_name::Answer::Is(name) => TextAnswer {
+    match answer {
+        network_name::Answer::Is(bytes) => TextAnswer {
             number: 0,
-            text: part_of(name),
+            text: part_of(bytes),
         },
         network_name::Answer::Refused(why) => TextAnswer {
             number: of_refusal(why),
@@ -73,19 +74,17 @@ pub extern "C" fn lohitunga_network_name(descriptor: &[u8]) -> TextAnswer
 }
 
 #[no_mangle]
+pub extern "C" fn lohitunga_network_name(descriptor: &[u8]) -> TextAnswer
+    ensures { λ r. ⌜ r ≡ textSays (networkName (now (descriptor .entry))) ⌝ }
+{
+    text_of(network_name::read(descriptor))
+}
+
+#[no_mangle]
 pub extern "C" fn lohitunga_stuffing(descriptor: &[u8]) -> TextAnswer
     ensures { λ r. ⌜ r ≡ textSays (stuffing (now (descriptor .entry))) ⌝ }
 {
-    match stuffing::read(descriptor) {
-        stuffing::Answer::Is(bytes) => TextAnswer {
-            number: 0,
-            text: part_of(bytes),
-        },
-        stuffing::Answer::Refused(why) => TextAnswer {
-            number: of_refusal(why),
-            text: no_part(),
-        },
-    }
+    text_of(stuffing::read(descriptor))
 }
 
 #[no_mangle]

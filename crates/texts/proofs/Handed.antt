@@ -2,14 +2,15 @@
 use mathlib.Core.Path.{_≡_, ap, _∙_, sym, subst}
 use mathlib.Core.List.{List}
 use Prim.Native.Nat.{ℕ}
-use lib.ListN.{length, drop}
-use Rattle.wire.specs.Reading.{value, _>>=_, value-is, through}
-use Rattle.layout.specs.Refusal.{partAt, bytesOf}
+use lib.ListN.{drop}
+use Rattle.wire.specs.Reading.{value, value-is, through}
+use Rattle.layout.specs.Refusal.{bytesOf}
 use Rattle.layout.specs.Body.{framed}
 use Rattle.layout.specs.Texts.{twoTexts}
 use Rattle.layout.specs.declared.Part.{Part}
 use Rattle.layout.specs.declared.texts.TwoTexts.{TwoTexts}
 use Rattle.layout.proofs.Exactly.{framed-is, whole-part, Filled, texts-are}
+use Rattle.texts.specs.Whole.{whole}
 use Rattle.texts.specs.NetworkName.{networkName}
 use Rattle.texts.specs.Stuffing.{stuffing}
 use Rattle.texts.specs.Service as service
@@ -18,18 +19,19 @@ use Rattle.texts.specs.declared.service.Service.{Service}
 use Rattle.texts.specs.declared.short_event.ShortEvent.{ShortEvent}
 
 -- a part that is read as the whole body is the body
-whole : (tag : ℕ) (s : List ℕ) (p : Part) → (framed tag s >>= λ b. value (partAt 0 (length b))) ≡ value p → framed tag s ≡ value (bytesOf s p)
-whole tag s p e =
+whole-is-body : (tag : ℕ) (s : List ℕ) (p : Part) → whole tag s ≡ value p → framed tag s ≡ value (bytesOf s p)
+unfolding whole
+whole-is-body tag s p e =
     let t = through (framed tag s) _ p e in
     t .1 ∙ ap value (sym (whole-part tag s (t .0) (t .1)) ∙ ap (bytesOf s) (value-is (t .2)))
 
 pub name-is-body : (s : List ℕ) (p : Part) → networkName s ≡ value p → framed 0x40 s ≡ value (bytesOf s p)
 unfolding networkName
-name-is-body s p e = whole 0x40 s p e
+name-is-body s p e = whole-is-body 0x40 s p e
 
 pub stuffing-is-body : (s : List ℕ) (p : Part) → stuffing s ≡ value p → framed 0x42 s ≡ value (bytesOf s p)
 unfolding stuffing
-stuffing-is-body s p e = whole 0x42 s p e
+stuffing-is-body s p e = whole-is-body 0x42 s p e
 
 -- two texts read out of a descriptor's body fill it behind the first h bytes
 fill : (h tag : ℕ) (s b : List ℕ) (x : TwoTexts) → framed tag s ≡ value b → twoTexts h b ≡ value x → Filled h s x

@@ -3,12 +3,9 @@ use mathlib.Core.Path.{_≡_, refl}
 use Rattle.wire.proofs.Unique.{answer-once}
 use Rattle.layout.specs.Refusal.{numbered}
 use Rattle.layout.proofs.Unique.{refusal-once}
-use Rattle.texts.specs.NetworkName as network-name
-use Rattle.texts.specs.declared.network_name.Answer.{Answer as NetworkName}
-use Rattle.texts.specs.declared.network_name.Answer.the-variants.{Is as network-name-is, Refused as network-name-refused}
-use Rattle.texts.specs.Stuffing as stuffing
-use Rattle.texts.specs.declared.stuffing.Answer.{Answer as Stuffing}
-use Rattle.texts.specs.declared.stuffing.Answer.the-variants.{Is as stuffing-is, Refused as stuffing-refused}
+use Rattle.texts.specs.Whole as whole
+use Rattle.texts.specs.declared.whole.Answer.{Answer as Whole}
+use Rattle.texts.specs.declared.whole.Answer.the-variants.{Is as whole-is, Refused as whole-refused}
 use Rattle.texts.specs.Service as service
 use Rattle.texts.specs.declared.service.Answer.{Answer as Service}
 use Rattle.texts.specs.declared.service.Answer.the-variants.{Is as service-is, Refused as service-refused}
@@ -16,15 +13,11 @@ use Rattle.texts.specs.ShortEvent as short-event
 use Rattle.texts.specs.declared.short_event.Answer.{Answer as ShortEvent}
 use Rattle.texts.specs.declared.short_event.Answer.the-variants.{Is as short-event-is, Refused as short-event-refused}
 
-pub network-name-once : (p q : NetworkName) → network-name.told p ≡ network-name.told q → p ≡ q
-network-name-once =
-    answer-once network-name.told network-name-is network-name-refused numbered (λ a. refl) (λ w. refl)
-    (λ P f g r. elim r [ network-name-is a ↦ f a | network-name-refused w ↦ g w ]) refusal-once
-
-pub stuffing-once : (p q : Stuffing) → stuffing.told p ≡ stuffing.told q → p ≡ q
-stuffing-once =
-    answer-once stuffing.told stuffing-is stuffing-refused numbered (λ a. refl) (λ w. refl)
-    (λ P f g r. elim r [ stuffing-is a ↦ f a | stuffing-refused w ↦ g w ]) refusal-once
+-- network name and stuffing
+pub whole-once : (p q : Whole) → whole.told p ≡ whole.told q → p ≡ q
+whole-once =
+    answer-once whole.told whole-is whole-refused numbered (λ a. refl) (λ w. refl)
+    (λ P f g r. elim r [ whole-is a ↦ f a | whole-refused w ↦ g w ]) refusal-once
 
 pub service-once : (p q : Service) → service.told p ≡ service.told q → p ≡ q
 service-once =

@@ -1,4 +1,4 @@
--- 0x48 service.
+-- 0x48 service: EN 300 468, clause 6.2.33.
 use mathlib.Core.List.{List}
 use Prim.Native.Nat.{ℕ}
 use lib.ListN.{getD}
@@ -16,9 +16,11 @@ fields b = do
   texts ← twoTexts 1 b
   value (record { «service_type» = getD b 0 0; «service_provider_name» = texts .first; «service_name» = texts .second })
 
+-- the tag 0x48, and a body of those fields
 unfoldable pub service : List ℕ → Reading Service
 service s = framed 0x48 s >>= fields
 
+-- document 01's number for every answer
 abbrev pub told : Answer → Reading Service
 told (Is f) = value f
 told (Refused why) = refused (numbered why)

@@ -1,4 +1,4 @@
--- 0x4D short event.
+-- 0x4D short event: EN 300 468, clause 6.2.37.
 use mathlib.Core.List.{List}
 use Prim.Native.Nat.{ℕ}
 use Rattle.wire.specs.Number.{numberAt}
@@ -16,9 +16,11 @@ fields b = do
   texts ← twoTexts 3 b
   value (record { «language_code» = numberAt 3 b 0; «event_name» = texts .first; text = texts .second })
 
+-- the tag 0x4D, and a body of those fields
 unfoldable pub shortEvent : List ℕ → Reading ShortEvent
 shortEvent s = framed 0x4D s >>= fields
 
+-- document 01's number for every answer
 abbrev pub told : Answer → Reading ShortEvent
 told (Is f) = value f
 told (Refused why) = refused (numbered why)

@@ -1,19 +1,10 @@
--- 0x42 stuffing.
+-- 0x42 stuffing: EN 300 468, clause 6.2.40.
 use mathlib.Core.List.{List}
 use Prim.Native.Nat.{ℕ}
-use lib.ListN.{length}
-use Rattle.wire.specs.Reading.{Reading, value, refused, _>>=_}
-use Rattle.layout.specs.Refusal.{numbered}
-use Rattle.layout.specs.Body.{framed}
-use Rattle.layout.specs.Refusal.{partAt}
+use Rattle.wire.specs.Reading.{Reading}
 use Rattle.layout.specs.declared.Part.{Part}
-use Rattle.texts.specs.declared.stuffing.Answer.{Answer}
-use Rattle.texts.specs.declared.stuffing.Answer.the-variants.{Is, Refused}
+use Rattle.texts.specs.Whole.{whole}
 
 -- 0.. stuffing bytes, any value
 unfoldable pub stuffing : List ℕ → Reading Part
-stuffing s = framed 0x42 s >>= λ b. value (partAt 0 (length b))
-
-abbrev pub told : Answer → Reading Part
-told (Is bytes) = value bytes
-told (Refused why) = refused (numbered why)
+stuffing s = whole 0x42 s

@@ -3,3 +3,4 @@ pub mod network_name;
 pub mod service;
 pub mod short_event;
 pub mod stuffing;
+mod whole;

@@ -1,25 +1,11 @@
 // 0x40 network name: the name, to the end.
 ghost use mathlib.Core.Path.{_≡_};
-ghost use Rattle.texts.specs.NetworkName.{networkName, told};
-use layout::Part;
-use layout::Refusal;
-use layout::body::Body;
-use layout::body::any;
-use layout::body::size;
-
-pub enum Answer {
-    Is(Part),
-    Refused(Refusal),
-}
+ghost use Rattle.texts.specs.Whole.{told};
+ghost use Rattle.texts.specs.NetworkName.{networkName};
+pub use super::whole::Answer;
 
 pub fn read(s: &[u8]) -> Answer
     ensures { λ r. ⌜ told r ≡ networkName (now (s .entry)) ⌝ }
 {
-    match any(s, 0x40) {
-        Body::Refused(why) => Answer::Refused(why),
-        Body::Fits => Answer::Is(Part {
-            start: 2,
-            length: size(s),
-        }),
-    }
+    super::whole::read(s, 0x40)
 }

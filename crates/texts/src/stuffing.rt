@@ -1,25 +1,11 @@
 // 0x42 stuffing: bytes of any value, to the end.
 ghost use mathlib.Core.Path.{_≡_};
-ghost use Rattle.texts.specs.Stuffing.{stuffing, told};
-use layout::Part;
-use layout::Refusal;
-use layout::body::Body;
-use layout::body::any;
-use layout::body::size;
-
-pub enum Answer {
-    Is(Part),
-    Refused(Refusal),
-}
+ghost use Rattle.texts.specs.Whole.{told};
+ghost use Rattle.texts.specs.Stuffing.{stuffing};
+pub use super::whole::Answer;
 
 pub fn read(s: &[u8]) -> Answer
     ensures { λ r. ⌜ told r ≡ stuffing (now (s .entry)) ⌝ }
 {
-    match any(s, 0x42) {
-        Body::Refused(why) => Answer::Refused(why),
-        Body::Fits => Answer::Is(Part {
-            start: 2,
-            length: size(s),
-        }),
-    }
+    super::whole::read(s, 0x42)
 }
