@@ -11,6 +11,7 @@ use Rattle.account.specs.declared.tally.Account.{Account}
 abbrev pub firstPid : List ℕ → ℕ
 firstPid bytes = getD bytes 1 0 % 32 * 256 + getD bytes 2 0
 
+-- the account of a fresh collector for a PID: no packet yet
 abbrev pub freshAccount : ℕ → Account
 freshAccount pid = record { rec = freshRecord pid; taken = 0; repeated = 0; refused = 0; sections = 0 }
 
@@ -20,6 +21,7 @@ pub record Kept : Type 0 where
   pub hold : List ℕ
   pub out : List ℕ
 
+-- the three put together
 abbrev pub keptAs : Account → List ℕ → List ℕ → Kept
 keptAs a hold out = record { account = a; hold = hold; out = out }
 
@@ -29,12 +31,15 @@ tallied a r (refused n) = record { rec = r; taken = a .taken; repeated = a .repe
 tallied a r repeated = record { rec = r; taken = a .taken; repeated = (a .repeated + 1) % 2 ^ 64; refused = a .refused; sections = a .sections }
 tallied a r (taken sections bytes) = record { rec = r; taken = (a .taken + 1) % 2 ^ 64; repeated = a .repeated; refused = a .refused; sections = (a .sections + sections) % 2 ^ 64 }
 
+-- what is kept after a packet that had this outcome
 abbrev pub enteredAs : Account → Outcome → Kept
 enteredAs a o = record { account = tallied a (o .rec) (o .said); hold = o .hold; out = o .out }
 
+-- one packet more, given to the collector
 abbrev pub entered : Kept → List ℕ → Kept
 entered k packet = enteredAs (k .account) (collected (k .account .rec) (k .hold) (k .out) packet)
 
+-- packets, one after the other
 abbrev pub enteredAll : Kept → List (List ℕ) → Kept
 enteredAll k [] = k
 enteredAll k (p ∷ ps) = enteredAll (entered k p) ps

@@ -47,6 +47,7 @@ pub record Behind (left n : ℕ) (buf buf′ : List ℕ) : Type 0 where
   pub fits : left + n ≤ length buf
   pub kept : take left buf′ ≡ take left buf
 
+-- whatever a read says: what stood in the buffer before it stays
 abbrev pub GotSays : ℕ → List ℕ → List ℕ → Got → Type 0
 GotSays left buf buf′ (Bytes n) = Behind left n buf buf′
 GotSays left buf buf′ Again = Behind left 0 buf buf′
@@ -58,6 +59,7 @@ pub record Moved (buf : List ℕ) (from n : ℕ) (buf′ : List ℕ) : Type 0 wh
   pub front : take n buf′ ≡ take n (drop from buf)
   pub long : length buf′ ≡ length buf
 
+-- the account so far, or a fresh one for "the PID .. of the first" packet, which stands at the front of the bytes
 abbrev pub accountFor : Place → List ℕ → Account
 accountFor p bytes = if p .begun then p .account else freshAccount (firstPid bytes)
 
@@ -65,12 +67,13 @@ accountFor p bytes = if p .begun then p .account else freshAccount (firstPid byt
 abbrev pub Absorbs : Place → ℕ → List ℕ → List ℕ → List ℕ → Place → List ℕ → List ℕ → List ℕ → Type 0
 Absorbs p n buf hold out p′ buf′ hold′ out′ = (input hold₀ out₀ : List ℕ) → Reads input hold₀ out₀ p buf hold out → Reads (input ++ drop (p .left) (take n buf)) hold₀ out₀ p′ buf′ hold′ out′
 
--- what the end of an input comes to
+-- what an input comes to: "input under 188 bytes prints only `no packets`"; else the account
 abbrev pub EndedAs : List ℕ → List ℕ → List ℕ → Ended → Type 0
 EndedAs input hold₀ out₀ Ended.Failed = Unit {0}
 EndedAs input hold₀ out₀ Ended.NoPackets = length input < 188
 EndedAs input hold₀ out₀ (Ended.Account a) = (188 ≤ length input) × (a ≡ wholeAccount input hold₀ out₀)
 
+-- the input ends here, whatever it was: this is what it comes to
 abbrev pub Ends : Place → List ℕ → List ℕ → List ℕ → Ended → Type 0
 Ends p buf hold out e = (input hold₀ out₀ : List ℕ) → Reads input hold₀ out₀ p buf hold out → EndedAs input hold₀ out₀ e
 
@@ -79,10 +82,12 @@ pub record More (input hold₀ out₀ : List ℕ) (p : Place) (buf hold out : Li
   pub came : List ℕ
   pub reads : Reads (input ++ came) hold₀ out₀ p buf hold out
 
+-- a turn of reading: it goes on with some bytes more, or the input is over
 abbrev pub TurnedTo : List ℕ → List ℕ → List ℕ → Turn → List ℕ → List ℕ → List ℕ → Type 0
 TurnedTo input hold₀ out₀ (On p) buf hold out = More input hold₀ out₀ p buf hold out
 TurnedTo input hold₀ out₀ (Over e) buf hold out = EndedAs input hold₀ out₀ e
 
+-- a turn from here, whatever input has come so far
 abbrev pub Turns : Place → List ℕ → List ℕ → List ℕ → Turn → List ℕ → List ℕ → List ℕ → Type 0
 Turns p buf hold out t buf′ hold′ out′ = (input hold₀ out₀ : List ℕ) → Reads input hold₀ out₀ p buf hold out → TurnedTo input hold₀ out₀ t buf′ hold′ out′
 

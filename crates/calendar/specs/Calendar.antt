@@ -20,6 +20,7 @@ leap y = if eqb (y % 100) 0 then eqb (y % 400) 0 else eqb (y % 4) 0
 abbrev pub daysIn : ℕ → ℕ → ℕ
 daysIn y m = getD (31 ∷ (if leap y then 29 else 28) ∷ 31 ∷ 30 ∷ 31 ∷ 30 ∷ 31 ∷ 31 ∷ 30 ∷ 31 ∷ 30 ∷ 31 ∷ []) (m - 1) 0
 
+-- the date of a year, a month and a day
 abbrev pub dated : ℕ → ℕ → ℕ → Date
 dated y m d = record { year = y; month = m; day = d }
 
@@ -43,6 +44,7 @@ gregorian mjd = daysOn (mjd - 15079)
 unfoldable pub dateOf : ℕ → Reading Date
 dateOf mjd = day mjd >>= λ d. value (gregorian d)
 
+-- document 01's number for every answer
 abbrev pub told : Answer → Reading Date
 told (Is t) = value t
 told (Refused f) = refused (numbered f)

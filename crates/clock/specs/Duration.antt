@@ -11,6 +11,7 @@ use Rattle.clock.specs.declared.duration.Answer.the-variants.{Is, Refuse
 unfoldable pub durationOf : ℕ → ℕ → ℕ → Reading Hms
 durationOf h m s = hms 100 h m s
 
+-- document 01's number for every answer
 abbrev pub told : Answer → Reading Hms
 told (Is t) = value t
 told (Refused f) = refused (numbered f)

@@ -27,10 +27,12 @@ hms limit h m s = do
   second ← field 60 s
   value (record { hour = hour; minute = minute; second = second })
 
+-- document 01's number for every answer
 abbrev pub told : Field → Reading ℕ
 told (Is n) = value n
 told (Refused f) = refused (numbered f)
 
+-- and of a whole clock
 abbrev pub toldHms : Clock → Reading Hms
 toldHms (clock.Is t) = value t
 toldHms (clock.Refused f) = refused (numbered f)

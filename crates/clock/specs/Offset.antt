@@ -13,12 +13,14 @@ abbrev pub signed : Bool → ℕ → ℤ
 signed true n = negℤ (pos n)
 signed false n = pos n
 
+-- hour and minute, "fields of their own too", as signed minutes
 unfoldable pub offsetOf : Bool → ℕ → ℕ → Reading ℤ
 offsetOf behind h m = do
   hour ← field 24 h
   minute ← field 60 m
   value (signed behind (hour * 60 + minute))
 
+-- document 01's number for every answer
 abbrev pub told : Answer → Reading ℤ
 told (Minutes n) = value n
 told (Refused f) = refused (numbered f)

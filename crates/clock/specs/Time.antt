@@ -23,6 +23,7 @@ timeOf mjd h m s = if eqb (number (mjd ∷ h ∷ m ∷ s ∷ [])) 0xFF_FFFF_FFFF
   t ← hms 24 h m s
   value (At (record { mjd = d; clock = t }))
 
+-- document 01's number for every answer
 abbrev pub told : Answer → Reading Moment
 told (Is t) = value t
 told (Refused f) = refused (numbered f)

@@ -37,6 +37,7 @@ longAt s i = wordAt s i * 2 ^ 32 + wordAt s (i + 4)
 unfoldable pub over : ℕ → ℕ
 over a = rights (16 ∷ 23 ∷ 41 ∷ 47 ∷ 48 ∷ 55 ∷ 56 ∷ []) a a
 
+-- its lower half
 unfoldable pub under : ℕ → ℕ
 under a = lefts 64 (9 ∷ 16 ∷ 17 ∷ 23 ∷ 41 ∷ 48 ∷ []) (a * 2 ^ 8 % 2 ^ 64) a
 

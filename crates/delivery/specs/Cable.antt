@@ -1,4 +1,4 @@
--- 0x44 cable delivery system.
+-- 0x44 cable delivery system: EN 300 468, clause 6.2.13.1.
 use mathlib.Core.List.{List}
 use Prim.Native.Nat.{ℕ}
 use lib.ListN.{getD}
@@ -11,6 +11,7 @@ use Rattle.delivery.specs.declared.cable.Cable.{Cable}
 use Rattle.delivery.specs.declared.cable.Answer.{Answer}
 use Rattle.delivery.specs.declared.cable.Answer.the-variants.{Is, Refused}
 
+-- "Cable .. frequencies count steps of 100 Hz".
 -- 0 frequency, 8 BCD digits; 4 reserved 12; 5 b3-b0 FEC_outer; 6 modulation 8; 7 symbol_rate, 7 BCD digits; 10 b3-b0 FEC_inner
 unfoldable pub fields : List ℕ → Reading Cable
 fields b = do
@@ -24,9 +25,11 @@ fields b = do
     «fec_inner» = bitsAt 3 0 b 10;
   })
 
+-- the tag 0x44, and a body of 11 bytes
 unfoldable pub cable : List ℕ → Reading Cable
 cable s = fixed 11 0x44 s >>= fields
 
+-- document 01's number for every answer
 abbrev pub told : Answer → Reading Cable
 told (Is c) = value c
 told (Refused why) = refused (numbered why)

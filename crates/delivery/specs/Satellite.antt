@@ -1,4 +1,4 @@
--- 0x43 satellite delivery system.
+-- 0x43 satellite delivery system: EN 300 468, clause 6.2.13.2.
 use mathlib.Core.List.{List}
 use Prim.Native.Nat.{ℕ}
 use lib.Dec.{eqb}
@@ -14,7 +14,7 @@ use Rattle.delivery.specs.declared.satellite.Satellite.{Satellite}
 use Rattle.delivery.specs.declared.satellite.Answer.{Answer}
 use Rattle.delivery.specs.declared.satellite.Answer.the-variants.{Is, Refused}
 
--- 6 b4-b3 roll_off or two reserved bits, b2 modulation_system
+-- 6 b4-b3 roll_off or two reserved bits, b2 modulation_system: 0 for DVB-S, 1 for DVB-S2
 unfoldable pub system : List ℕ → System
 system b = if eqb (bitsAt 2 2 b 6) 0 then S else S2 (bitsAt 4 3 b 6)
 
@@ -31,6 +31,7 @@ made b frequency position rate = record {
   «fec_inner» = bitsAt 3 0 b 10;
 }
 
+-- "satellite .. frequencies count steps of .. 10 kHz".
 -- 0 frequency, 8 BCD digits; 4 orbital_position, 4 BCD digits; 7 symbol_rate, 7 BCD digits
 unfoldable pub fields : List ℕ → Reading Satellite
 fields b = do
@@ -39,9 +40,11 @@ fields b = do
   rate ← digitsAt 7 b 7
   value (made b frequency position rate)
 
+-- the tag 0x43, and a body of 11 bytes
 unfoldable pub satellite : List ℕ → Reading Satellite
 satellite s = fixed 11 0x43 s >>= fields
 
+-- document 01's number for every answer
 abbrev pub told : Answer → Reading Satellite
 told (Is f) = value f
 told (Refused why) = refused (numbered why)

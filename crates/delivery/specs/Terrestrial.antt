@@ -1,4 +1,4 @@
--- 0x5A terrestrial delivery system.
+-- 0x5A terrestrial delivery system: EN 300 468, clause 6.2.13.4.
 use mathlib.Core.List.{List}
 use Prim.Native.Nat.{ℕ}
 use lib.Dec.{eqb}
@@ -10,6 +10,7 @@ use Rattle.delivery.specs.declared.terrestrial.Terrestrial.{Terrestrial}
 use Rattle.delivery.specs.declared.terrestrial.Answer.{Answer}
 use Rattle.delivery.specs.declared.terrestrial.Answer.the-variants.{Is, Refused}
 
+-- "terrestrial frequencies count steps of .. 10 Hz".
 -- 0 centre_frequency 32, binary; 4 b7-b5 bandwidth, b4 priority, b3 Time_Slicing_indicator, b2 MPE-FEC_indicator, b1-b0 reserved;
 -- 5 b7-b6 constellation, b5-b3 hierarchy_information, b2-b0 code_rate-HP_stream; 6 b7-b5 code_rate-LP_stream, b4-b3 guard_interval,
 -- b2-b1 transmission_mode, b0 other_frequency_flag; 7 reserved 32
@@ -29,9 +30,11 @@ fields b = record {
   «other_frequency_flag» = eqb (bitsAt 0 0 b 6) 1;
 }
 
+-- the tag 0x5A, and a body of 11 bytes
 unfoldable pub terrestrial : List ℕ → Reading Terrestrial
 terrestrial s = fixed 11 0x5A s >>= λ b. value (fields b)
 
+-- document 01's number for every answer
 abbrev pub told : Answer → Reading Terrestrial
 told (Is f) = value f
 told (Refused why) = refused (numbered why)

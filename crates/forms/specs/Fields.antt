@@ -13,6 +13,7 @@ pub data Field : Type 0 where
   kept : ℕ → Field
   reserved : ℕ → Field
 
+-- its bits
 abbrev pub width : Field → ℕ
 width (kept w) = w
 width (reserved w) = w
@@ -23,6 +24,7 @@ width (reserved w) = w
 unfoldable pub belowRead : ℕ → List ℕ → Front ℕ
 belowRead n s = rawRead 1 s >>= λ a. if ltb (getD (a .0) 0 0) n then value (getD (a .0) 0 0, a .1) else refused 24
 
+-- the form of such a byte
 abbrev pub below : ℕ → Form ℕ
 below n = record { read = belowRead n; show = λ v. v ∷ []; Ok = λ v. v < n }
 
@@ -31,6 +33,7 @@ abbrev pub sheetField : Field → Form ℕ
 sheetField (kept w) = below (2 ^ w)
 sheetField (reserved w) = mute (2 ^ w - 1)
 
+-- fields in a sheet, one behind the other
 abbrev pub sheetFields : List Field → Form (List ℕ)
 sheetFields = each sheetField
 
@@ -47,6 +50,7 @@ pack [] vs = 0
 pack (f ∷ fs) [] = 0
 pack (f ∷ fs) (v ∷ vs) = v * room fs + pack fs vs
 
+-- the fields of a number
 unfoldable pub unpack : List Field → ℕ → List ℕ
 unpack [] x = []
 unpack (f ∷ fs) x = x / room fs ∷ unpack fs (x % room fs)
@@ -55,6 +59,7 @@ unpack (f ∷ fs) x = x / room fs ∷ unpack fs (x % room fs)
 abbrev pub Fit : List Field → List ℕ → Type 0
 Fit = EachOk (λ f. below (2 ^ width f))
 
+-- one byte is read, and its fields are taken apart
 unfoldable pub byteRead : List Field → List ℕ → Front (List ℕ)
 byteRead fs s = rawRead 1 s >>= λ a. value (unpack fs (getD (a .0) 0 0), a .1)
 

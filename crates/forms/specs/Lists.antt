@@ -15,14 +15,17 @@ module _ {A : Type 0} (c : Form A) where
   timesRead zero s = value ([], s)
   timesRead (suc k) s = c .read s >>= λ a. timesRead k (a .1) >>= λ l. value (a .0 ∷ l .0, l .1)
 
+  -- shown one behind the other
   unfoldable pub all : List A → List ℕ
   all [] = []
   all (a ∷ l) = c .show a ++ all l
 
+  -- each can be shown
   pub data All : List A → Type 0 where
     none : All []
     one : {a : A} {l : List A} → c .Ok a → All l → All (a ∷ l)
 
+  -- the form of k items
   abbrev pub times : ℕ → Form (List A)
   times k = record { read = timesRead k; show = all; Ok = λ l. (length l ≡ k) × All l }
 
@@ -30,13 +33,15 @@ module _ {A : Type 0} (c : Form A) where
   unfoldable pub countedRead : List ℕ → Front (List A)
   countedRead s = rawRead 2 s >>= λ n. timesRead (number (n .0)) (n .1)
 
+  -- the number of the items in two bytes, and the items
   unfoldable pub countedShow : List A → List ℕ
   countedShow l = length l / 256 ∷ length l % 256 ∷ all l
 
+  -- the form of such a list
   abbrev pub counted : Form (List A)
   counted = record { read = countedRead; show = countedShow; Ok = λ l. (length l < 65536) × All l }
 
-  -- items up to the end of the bytes, of which there are at most k
+  -- items up to the end of the bytes, of which there are at most k; 10 where bytes are left
   unfoldable pub untilRead : ℕ → List ℕ → Reading (List A)
   untilRead zero [] = value []
   untilRead zero (b ∷ s) = refused 10
@@ -47,6 +52,7 @@ module _ {A : Type 0} (c : Form A) where
   unfoldable pub fillingRead : ℕ → List ℕ → Front (List A)
   fillingRead n s = rawRead n s >>= λ b. untilRead n (b .0) >>= λ l. value (l, b .1)
 
+  -- the form of items that fill n bytes
   abbrev pub filling : ℕ → Form (List A)
   filling n = record { read = fillingRead n; show = all; Ok = λ l. (length (all l) ≡ n) × All l }
 
@@ -55,8 +61,10 @@ module _ {A : Type 0} (c : Form A) where
     unfoldable pub loopRead : List ℕ → Front (List ℕ × List A)
     loopRead s = rawRead 2 s >>= λ h. fillingRead (len12At (h .0) 0) (h .1) >>= λ l. value ((unpack fs (getD (h .0) 0 0 / 16), l .0), l .1)
 
+    -- the fields and the length in two bytes, and the items
     unfoldable pub loopShow : List ℕ × List A → List ℕ
     loopShow p = (pack fs (p .0) * 16 + length (all (p .1)) / 256) ∷ length (all (p .1)) % 256 ∷ all (p .1)
 
+    -- the form of such a loop
     abbrev pub loop : Form (List ℕ × List A)
     loop = record { read = loopRead; show = loopShow; Ok = λ p. Fit fs (p .0) × (length (all (p .1)) < 4096) × All (p .1) }

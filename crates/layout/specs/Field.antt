@@ -12,6 +12,7 @@ use Rattle.layout.specs.declared.digits.Number.the-variants.{Is, Refused
 unfoldable pub digitsAt : ℕ → List ℕ → ℕ → Reading ℕ
 digitsAt n body at = bcdOf n (numberAt 4 body at / 2 ^ (4 * (8 - n)))
 
+-- document 01's number for every answer
 abbrev pub told : Number → Reading ℕ
 told (Is n) = value n
 told (Refused f) = refused (numbered f)

@@ -12,6 +12,7 @@ use Rattle.layout.specs.declared.items.Count.the-variants.{Items, Refuse
 use Rattle.layout.specs.declared.items.Place.{Place}
 use Rattle.layout.specs.declared.items.Place.the-variants as answer
 
+-- 62, "body doesn't fit the layout exactly": its size is no multiple of k
 unfoldable pub items : ℕ → ℕ → List ℕ → Reading (List ℕ)
 items k tag s = framed tag s >>= λ body. fit (eqb (length body % k) 0) body
 
@@ -27,10 +28,12 @@ place k tag s index = items k tag s >>= λ body. if ltb index (length body / k) 
 unfoldable pub item : ℕ → ℕ → List ℕ → ℕ → Reading (List ℕ)
 item k tag s index = place k tag s index >>= λ at. value (take k (drop at s))
 
+-- document 01's number for every answer
 abbrev pub toldCount : Count → Reading ℕ
 toldCount (Items n) = value n
 toldCount (Refused why) = refused (numbered why)
 
+-- and of a place
 abbrev pub toldPlace : Place → Reading ℕ
 toldPlace (answer.At at) = value at
 toldPlace (answer.Refused why) = refused (numbered why)

@@ -17,6 +17,7 @@ twoTexts h body =
     let n = getD body (h + 1 + a) 0 in
     if eqb (length body) (h + 2 + a + n) then value (record { first = partAt (h + 1) a; second = partAt (h + 2 + a) n }) else refused 62
 
+-- document 01's number for every answer
 abbrev pub told : Texts → Reading TwoTexts
 told (Are t) = value t
 told DoNotFit = refused 62

@@ -1,4 +1,4 @@
--- 0x54 content.
+-- 0x54 content: EN 300 468, clause 6.2.9.
 use mathlib.Core.List.{List}
 use Prim.Native.Nat.{ℕ}
 use lib.ListN.{getD}
@@ -14,12 +14,15 @@ use Rattle.lists.specs.declared.content.Answer.the-variants.{Is, Refused
 abbrev pub fields : List ℕ → Item
 fields b = record { «content_nibble_level_1» = bitsAt 7 4 b 0; «content_nibble_level_2» = bitsAt 3 0 b 0; «user_byte» = getD b 1 0 }
 
+-- the item of an index, of a body of items of 2 bytes behind the tag 0x54
 unfoldable pub content : List ℕ → ℕ → Reading Item
 content s index = item 2 0x54 s index >>= λ b. value (fields b)
 
+-- how many there are
 abbrev pub contentCount : List ℕ → Reading ℕ
 contentCount s = count 2 0x54 s
 
+-- document 01's number for every answer
 abbrev pub told : Answer → Reading Item
 told (Is i) = value i
 told (Refused why) = refused (numbered why)

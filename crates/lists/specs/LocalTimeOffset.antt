@@ -1,4 +1,4 @@
--- 0x58 local time offset.
+-- 0x58 local time offset: EN 300 468, clause 6.2.20.
 use mathlib.Core.List.{List}
 use Prim.Native.Nat.{ℕ, _+_}
 use lib.IntN.{ℤ}
@@ -38,12 +38,15 @@ fields b = do
     «next_time_offset» = next;
   })
 
+-- the item of an index, of a body of items of 13 bytes behind the tag 0x58
 unfoldable pub localTimeOffset : List ℕ → ℕ → Reading Item
 localTimeOffset s index = item 13 0x58 s index >>= fields
 
+-- how many there are
 abbrev pub offsetCount : List ℕ → Reading ℕ
 offsetCount s = count 13 0x58 s
 
+-- document 01's number for every answer
 abbrev pub told : Answer → Reading Item
 told (Is i) = value i
 told (Refused why) = refused (numbered why)

@@ -16,6 +16,7 @@ pub record Placed : Type 0 where
   pub tag : ℕ
   pub body : List ℕ
 
+-- the three put together
 abbrev pub placed : ℕ → ℕ → List ℕ → Placed
 placed p t b = record { place = p; tag = t; body = b }
 
@@ -24,6 +25,7 @@ pub record Rest : Type 0 where
   pub place : ℕ
   pub bytes : List ℕ
 
+-- the two put together
 abbrev pub rest : ℕ → List ℕ → Rest
 rest p l = record { place = p; bytes = l }
 
@@ -43,6 +45,7 @@ pub data Gives : Type 0 where
   theEnd : Gives
   refusing : ℕ → ℕ → Gives
 
+-- document 01's number and values for every answer
 abbrev pub toldStep : Step → Gives
 toldStep (Descriptor t b n) = descriptor t b n
 toldStep End = theEnd

@@ -18,6 +18,7 @@ pub data Outcome : Type 0 where
   hit : ℕ → ℕ → ℕ → Outcome
   none : Outcome
 
+-- document 01's number and values for every answer
 abbrev pub toldFound : Found → Outcome
 toldFound (Hit k b n) = hit k b n
 toldFound Nothing = none
@@ -33,6 +34,7 @@ abbrev pub hitFrom : ℕ → ℕ → List (List Placed) → Outcome
 hitFrom tag k [] = none
 hitFrom tag k (ds ∷ loops) = hitIn tag k ds (hitFrom tag (k + 1) loops)
 
+-- "It refuses 1 to 10 first."; else all loops are searched, the top loop as number 0
 unfoldable pub sought : List ℕ → ℕ → Outcome
 sought s tag =
     if isAccepted (judged s) then hitFrom tag 0 (read s .items)

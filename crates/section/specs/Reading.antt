@@ -78,7 +78,7 @@ inside row p m = if eqb (row .top) 1 then topped (row .fixed) p m else plain (ro
 abbrev pub body : List ℕ → List ℕ
 body s = take (length s - 4) s
 
--- refusals 1 and 2
+-- 1: "fewer than 3 bytes"; 2: "table_id not in the table"
 unfoldable pub opening : List ℕ → Said
 opening s =
     given 1 when ltb (length s) 3 otherwise
@@ -105,7 +105,7 @@ crcFails row s = eqb (row .crc) 1 && not (eqb (crc s) 0)
 unfoldable pub aboveLast : Row → List ℕ → Bool
 aboveLast row s = eqb (row .syntax) 1 && ltb (getD s 7 0) (getD s 6 0)
 
--- refusals 3 to 7
+-- 3 to 7, in this order
 unfoldable pub header : Row → List ℕ → Said
 header row s =
     given 3 when wrongSyntax row s otherwise
@@ -119,12 +119,13 @@ header row s =
 abbrev pub rowFor : List ℕ → Row
 rowFor s = rowAt (rowOf (getD s 0 0))
 
+-- "Checked in this order": 1 and 2, 3 to 7 by the row, and what stands inside
 unfoldable pub read : List ℕ → Reading
 read s =
     opening s andThen
     header (rowFor s) s andThen
     inside (rowFor s) (rowFor s .before) (drop (rowFor s .before) (body s))
 
--- the judge's verdict
+-- the judge's verdict: accepted, or the first refusal and its place
 unfoldable pub judged : List ℕ → Said
 judged s = read s .ends

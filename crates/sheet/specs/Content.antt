@@ -29,10 +29,11 @@ flags = packed (reserved 6 ∷ kept 1 ∷ kept 1 ∷ [])
 abbrev pub filler : Item
 filler = packed (reserved 8 ∷ [])
 
--- the four bits before a loop's length: reserved; or running_status, free_CA_mode
+-- the four bits before a loop's length, reserved
 abbrev pub bare : List Field
 bare = reserved 4 ∷ []
 
+-- running_status, free_CA_mode, in their place
 abbrev pub status : List Field
 status = kept 3 ∷ kept 1 ∷ []
 
@@ -66,9 +67,11 @@ entryItems =
     ∷ (plain 10 ∷ [])
     ∷ []
 
+-- the row's head
 unfoldable pub headOf : ℕ → List Item
 headOf row = getD heads row []
 
+-- the row's entry, up to its loop
 unfoldable pub entryOf : ℕ → List Item
 entryOf row = getD entryItems row []
 
@@ -89,6 +92,7 @@ pub record Descriptor : Type 0 where
 abbrev pub Loop : Type 0
 Loop = List ℕ × List Descriptor
 
+-- the fields of an entry, and its loop
 abbrev pub Entry : Type 0
 Entry = Fields × Loop
 
@@ -104,12 +108,15 @@ Body = Fields × (Loop × Entries)
 abbrev pub Content : Type 0
 Content = ℕ × (List ℕ × Body)
 
+-- table_id
 abbrev pub tableOf : Content → ℕ
 tableOf c = c .0
 
+-- the values of the fields before section_length
 abbrev pub frameOf : Content → List ℕ
 frameOf c = c .1 .0
 
+-- what stands behind section_length
 abbrev pub bodyOf : Content → Body
 bodyOf c = c .1 .1
 

@@ -53,6 +53,7 @@ Onward c s (At at) r = at ≤ length s → Reads c s at r
 Onward c s EndsEarly r = r ≡ EndsEarly
 Onward c s TooWide r = r ≡ TooWide
 
+-- a function that reads on from x and ends at r has read the form c
 pub record Follows {A : Type 0} (c : Form A) (s : List ℕ) (x r : End) : Type 0 where
   pub onward : Onward c s x r
 
@@ -72,6 +73,7 @@ abbrev pub sideBy : Bool → List Field
 sideBy true = status
 sideBy false = bare
 
+-- an entry in a sheet, by the three
 abbrev pub entryWith : ℕ → Bool → Bool → Form Entry
 entryWith n flagged running = each sheetItem (entryBy n flagged) then sheetLoop (sideBy running)
 
@@ -97,6 +99,7 @@ countAt row = getD (0 ∷ 9 ∷ 0 ∷ 13 ∷ 0 ∷ 0 ∷ []) row 0
 unfoldable pub spare : ℕ → List ℕ → ℕ
 spare row s = cut row * numberAt 2 s (countAt row) + 1
 
+-- section_length, from the sheet's length
 unfoldable pub lengthBy : ℕ → List ℕ → ℕ
 lengthBy row s = sum (length s) (gain row) - spare row s
 

@@ -14,17 +14,21 @@ use Rattle.forms.specs.Lists.{loop, filling}
 use Rattle.sheet.specs.Content.{Item, plain, numbers, packed, bare, frame, headOf, entryOf, sideOf, Fields, Loop, Entry, Entries, Body, Content, tableOf, frameOf, bodyOf, rowIn}
 use Rattle.sheet.specs.Sheet.{inOrder, descriptor, sheet}
 
+-- an item of a head or an entry in a section; 7 is the section's refusal of a section_number above the last
 abbrev pub sectionItem : Item → Form (List ℕ)
 sectionItem (plain n) = raw n
 sectionItem numbers = such (raw 2) 7 inOrder
 sectionItem (packed fs) = byteOf fs
 
+-- "A loop is a 12-bit length in the low bits of two bytes, then descriptors"
 abbrev pub sectionLoop : List Field → Form Loop
 sectionLoop fs = loop descriptor fs
 
+-- "An entry's fixed bytes end in its own loop length."
 abbrev pub sectionEntry : ℕ → Form Entry
 sectionEntry row = each sectionItem (entryOf row) then sectionLoop (sideOf row)
 
+-- the top loop, where the row has one
 unfoldable pub sectionTop : ℕ → Form Loop
 sectionTop row = if eqb (rowAt row .top) 1 then sectionLoop bare else mute ([], [])
 
@@ -41,9 +45,11 @@ sectionBody row n = each sectionItem (headOf row) then sectionTop row then secti
 
 -- ---- to a section
 
+-- the bytes behind section_length, up to the CRC_32
 abbrev pub bodyBytes : Content → List ℕ
 bodyBytes c = sectionBody (rowIn c) 0 .show (bodyOf c)
 
+-- section_length: those bytes, and four where a CRC_32 follows
 unfoldable pub sectionLength : Content → ℕ
 sectionLength c = length (bodyBytes c) + 4 * rowAt (rowIn c) .crc
 
@@ -59,6 +65,7 @@ front c =
 unfoldable pub seal : Content → List ℕ
 seal c = if eqb (rowAt (rowIn c) .crc) 1 then bytesOf (crc (front c)) else []
 
+-- the whole section
 unfoldable pub sectionOf : Content → List ℕ
 sectionOf c = front c ++ seal c
 
@@ -68,6 +75,7 @@ sectionOf c = front c ++ seal c
 abbrev pub middle : List ℕ → List ℕ
 middle s = drop 3 (take (length s - 4 * rowAt (rowOf (getD s 0 0)) .crc) s)
 
+-- the content of a section, row by row; the judge says before whether it is one
 unfoldable pub contentOf : List ℕ → Reading Content
 contentOf s =
     sectionBody (rowOf (getD s 0 0)) (3 + length (middle s) - rowAt (rowOf (getD s 0 0)) .before) .read (middle s) >>= λ b.

@@ -17,6 +17,7 @@ use Rattle.sheet.specs.Content.{Item, plain, numbers, packed, bare, fram
 abbrev pub inOrder : List ℕ → Bool
 inOrder l = leb (getD l 0 0) (getD l 1 0)
 
+-- an item of a head or an entry in a sheet
 abbrev pub sheetItem : Item → Form (List ℕ)
 sheetItem (plain n) = raw n
 sheetItem numbers = such (raw 2) 24 inOrder
@@ -26,6 +27,7 @@ sheetItem (packed fs) = sheetFields fs
 unfoldable pub descriptorRead : List ℕ → Front Descriptor
 descriptorRead s = rawRead 2 s >>= λ h. rawRead (getD (h .0) 1 0) (h .1) >>= λ b. value (record { tag = getD (h .0) 0 0; body = b .0 }, b .1)
 
+-- a descriptor: tag, length, body
 abbrev pub descriptor : Form Descriptor
 descriptor = record {
   read = descriptorRead;
@@ -33,9 +35,11 @@ descriptor = record {
   Ok = λ d. length (d .body) < 256;
 }
 
+-- what stands beside the loop, and "count, descriptors"
 abbrev pub sheetLoop : List Field → Form Loop
 sheetLoop fs = sheetFields fs then counted descriptor
 
+-- "An entry is ..; then count, descriptors."
 abbrev pub sheetEntry : ℕ → Form Entry
 sheetEntry row = each sheetItem (entryOf row) then sheetLoop (sideOf row)
 
@@ -49,6 +53,7 @@ sheetEntries row =
     if eqb (rowAt row .fixed) 0 then mute ([], [])
     else sheetFields (if eqb (rowAt row .top) 1 then bare else []) then counted (sheetEntry row)
 
+-- head, top loop, entries
 abbrev pub sheetBody : ℕ → Form Body
 sheetBody row = each sheetItem (headOf row) then sheetTop row then sheetEntries row
 
@@ -63,11 +68,14 @@ sheetRead s =
     behindId (rowOf (getD (id .0) 0 0)) .read (id .1) >>= λ c.
     value ((getD (id .0) 0 0, c .0), c .1)
 
+-- the sheet of a content
 unfoldable pub sheetOf : Content → List ℕ
 sheetOf c = tableOf c ∷ behindId (rowIn c) .show (c .1)
 
+-- a content that a sheet can show
 unfoldable pub SheetOk : Content → Type 0
 SheetOk c = (rowIn c < 6) × behindId (rowIn c) .Ok (c .1)
 
+-- the form of sheets
 abbrev pub sheet : Form Content
 sheet = record { read = sheetRead; show = sheetOf; Ok = SheetOk }

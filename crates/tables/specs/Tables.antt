@@ -42,6 +42,7 @@ rowAt i =
       crc = cell i 10;
     }
 
+-- low ≤ x ≤ high
 abbrev pub between : ℕ → ℕ → ℕ → Bool
 between low x high = leb low x && leb x high
 

@@ -7,6 +7,7 @@ use Rattle.turn.specs.declared.SectionAnswer.the-variants as section
 use Rattle.turn.specs.declared.SheetAnswer.{SheetAnswer}
 use Rattle.turn.specs.declared.SheetAnswer.the-variants as sheet
 
+-- refusals 21 to 26, and what was written
 abbrev pub toldSection : SectionAnswer → Told
 toldSection (section.Wrote n) = wrote n
 toldSection section.Room = refused 21 0
@@ -21,6 +22,7 @@ abbrev pub toldRefusal : verdict.Said → Told
 toldRefusal verdict.accepted = refused 0 0
 toldRefusal (verdict.refused k p) = refused k p
 
+-- refusals 21, then 1 to 10, and what was written
 abbrev pub toldSheet : SheetAnswer → Told
 toldSheet (sheet.Wrote n) = wrote n
 toldSheet sheet.Room = refused 21 0

@@ -18,16 +18,19 @@ Ones (f ∷ fs) [] = Unit {0}
 Ones (kept w ∷ fs) (v ∷ vs) = Ones fs vs
 Ones (reserved w ∷ fs) (v ∷ vs) = (v ≡ 2 ^ w - 1) × Ones fs vs
 
+-- of one item
 abbrev pub ItemOnes : Item → List ℕ → Type 0
 ItemOnes (plain n) vs = Unit {0}
 ItemOnes numbers vs = Unit {0}
 ItemOnes (packed fs) vs = Ones fs vs
 
+-- of the items of a head or an entry
 abbrev pub ItemsOnes : List Item → Fields → Type 0
 ItemsOnes [] l = Unit {0}
 ItemsOnes (x ∷ xs) [] = Unit {0}
 ItemsOnes (x ∷ xs) (v ∷ l) = ItemOnes x v × ItemsOnes xs l
 
+-- of every entry: its items, and the bits beside its loop's length
 abbrev pub EntriesOnes : ℕ → List Entry → Type 0
 EntriesOnes row [] = Unit {0}
 EntriesOnes row (e ∷ l) = (ItemsOnes (entryOf row) (e .0) × Ones (sideOf row) (e .1 .0)) × EntriesOnes row l
@@ -44,6 +47,7 @@ pub record ReservedOnes (c : Content) : Type 0 where
   pub in-second : Ones (lengthBits (rowIn c)) (bodyOf c .1 .1 .0)
   pub in-entries : EntriesOnes (rowIn c) (bodyOf c .1 .1 .1)
 
+-- where the bytes have a content
 abbrev pub OnesIn : Reading Content → Type 0
 OnesIn (value c) = ReservedOnes c
 OnesIn (refused k) = ⊥

@@ -20,6 +20,7 @@ pub data Outcome : Type 0 where
 
 -- ---- a sheet into a section
 
+-- the section of a sheet's content, or its refusal
 abbrev pub sectionFrom : reading.Reading Content → Outcome
 sectionFrom (reading.value c) = gives (sectionOf c)
 sectionFrom (reading.refused k) = refuses k 0
@@ -30,11 +31,12 @@ toSection n s = if ltb n 4096 then refuses 21 0 else sectionFrom (readSheet s)
 
 -- ---- a section into a sheet
 
--- of an accepted section; it has no other content
+-- the sheet of a section's content, which every accepted section has
 abbrev pub sheetFrom : reading.Reading Content → List ℕ
 sheetFrom (reading.value c) = sheetOf c
 sheetFrom (reading.refused k) = []
 
+-- the sheet, where the judge accepts; else the judge's refusal: "then 1 to 10"
 abbrev pub sheetIf : verdict.Said → List ℕ → Outcome
 sheetIf verdict.accepted l = gives l
 sheetIf (verdict.refused k p) l = refuses k p
@@ -45,14 +47,17 @@ toSheet n s = if ltb n 5120 then refuses 21 0 else sheetIf (judged s) (sheetFrom
 
 -- ---- what is told, and what the room holds then
 
+-- what the caller is told: how many bytes were written, or a refusal's number and place
 pub data Told : Type 0 where
   wrote : ℕ → Told
   refused : ℕ → ℕ → Told
 
+-- "tells n"
 abbrev pub answer : Outcome → Told
 answer (gives l) = wrote (length l)
 answer (refuses k p) = refused k p
 
+-- "Success writes the first n bytes ..; later bytes stay."; a refusal writes nothing
 abbrev pub roomAfter : List ℕ → Outcome → List ℕ
 roomAfter o (gives l) = put o 0 l
 roomAfter o (refuses k p) = o

@@ -30,9 +30,11 @@ abbrev pub loopFrom : Bool → List Field → Form Loop
 loopFrom true fs = with (sheetLoop fs) (λ a. sectionLoop fs .Ok a)
 loopFrom false fs = sectionLoop fs
 
+-- the items of a head or an entry
 abbrev pub itemsFrom : Bool → List Item → Form Fields
 itemsFrom b = each (itemFrom b)
 
+-- a whole entry
 abbrev pub entryFrom : Bool → ℕ → Form Entry
 entryFrom b row = itemsFrom b (entryOf row) then loopFrom b (sideOf row)
 
@@ -40,12 +42,15 @@ entryFrom b row = itemsFrom b (entryOf row) then loopFrom b (sideOf row)
 abbrev pub itemTo : Bool → Item → Form (List ℕ)
 itemTo b = itemFrom (not b)
 
+-- the items
 abbrev pub itemsTo : Bool → List Item → Form Fields
 itemsTo b = itemsFrom (not b)
 
+-- the loop
 abbrev pub loopTo : Bool → List Field → Form Loop
 loopTo b = loopFrom (not b)
 
+-- the entry
 abbrev pub entryTo : Bool → ℕ → Form Entry
 entryTo b = entryFrom (not b)
 
@@ -99,6 +104,7 @@ putNumber o to n = put (put o to (n / 256 % 256 ∷ [])) (sum to 1) (n % 256 ∷
 
 -- ---- top loop and entries
 
+-- the top loop that is read, where the table has one
 abbrev pub topIf : Bool → Bool → Form Loop
 topIf b true = loopFrom b bare
 topIf b false = mute ([], [])
@@ -119,6 +125,7 @@ pub record EntriesForth (top : Bool) (row : ℕ) (s : List ℕ) (p : Place) (end
       → Part s (p .at) (countedShow (sheetEntry row) es) → p .to + length (entriesShown top row vs es) ≡ end → end ≤ 4096 → end ≤ length o
       → Done p (countedShow (sheetEntry row) es) (entriesShown top row vs es) o q o'
 
+-- the fields beside that length, as a section has them
 abbrev pub BesideFit : Bool → List ℕ → Type 0
 BesideFit true vs = Fit bare vs
 BesideFit false vs = vs ≡ []

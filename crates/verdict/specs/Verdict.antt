@@ -23,14 +23,17 @@ told (LoopPast p) = refused 8 p
 told (DescriptorPast p) = refused 9 p
 told (BytesLeft p) = refused 10 p
 
+-- whether it is accepted
 abbrev pub isAccepted : Said → Bool
 isAccepted accepted = true
 isAccepted (refused k p) = false
 
+-- the refusal's number; 0 where it is accepted
 abbrev pub numberOf : Said → ℕ
 numberOf accepted = 0
 numberOf (refused k p) = k
 
+-- the refusal's place
 abbrev pub placeOf : Said → ℕ
 placeOf accepted = 0
 placeOf (refused k p) = p

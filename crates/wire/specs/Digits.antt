@@ -19,6 +19,7 @@ bcdAfter a (suc k) v = if ltb 9 (digit k v) then refused 63 else bcdAfter (a * 1
 unfoldable pub bcdOf : ℕ → ℕ → Reading ℕ
 bcdOf n v = bcdAfter 0 n v
 
+-- document 01's number for every answer
 abbrev pub told : Digits → Reading ℕ
 told (Value a) = value a
 told Bad = refused 63

@@ -1,6 +1,7 @@
 -- One of two values, by a test.
 use mathlib.Core.Bool.{Bool, true, false}
 
+-- the first value where the test holds
 infix 1 if_then_else_
 abbrev pub if_then_else_ {ℓ} : {A : Type ℓ} → Bool → A → A → A
 if true then a else b = a

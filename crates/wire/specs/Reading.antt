@@ -3,6 +3,7 @@ use mathlib.Core.Path.{_≡_, refl, sym}
 use Prim.Native.Nat.{ℕ}
 use native.Mathlib.Omega.{arith}
 
+-- the reading of a value of A
 pub data Reading (A : Type 0) : Type 0 where
   value : A → Reading A
   refused : ℕ → Reading A

@@ -3,10 +3,12 @@
 use mathlib.Core.List.{List, [], _∷_}
 use Prim.Native.Nat.{ℕ, zero, suc}
 
+-- a turn: an item and the next state, or the answer
 pub data Turn (S A R : Type 0) : Type 0 where
   on : A → S → Turn S A R
   stop : R → Turn S A R
 
+-- the items, and the answer at the end
 pub record Trail (A R : Type 0) : Type 0 where
   pub items : List A
   pub ends : R

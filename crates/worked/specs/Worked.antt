@@ -39,6 +39,7 @@ pub data Case : Type 0 where
   -- a loop: its descriptors, the verdict, and what a walk gives, call after call
   loop : List ℕ → List Placed → Said → List Gives → Case
 
+-- a clock
 abbrev pub clock : ℕ → ℕ → ℕ → Hms
 clock h m s = record { hour = h; minute = m; second = s }
 
@@ -61,6 +62,7 @@ abbrev pub Gave : List ℕ → ℕ → List Gives → Type 0
 Gave l at [] = Unit {0}
 Gave l at (g ∷ gs) = (stepAt l at ≡ g) × Gave l (placeAfter at g) gs
 
+-- what a case claims
 abbrev pub holds : Case → Type 0
 holds (judge s v) = judged s ≡ v
 holds (time s d t) = (judged s ≡ accepted) × Told (numberAt 2 s 3) (getD s 5 0) (getD s 6 0) (getD s 7 0) d t
@@ -79,6 +81,7 @@ pub data All : List Case → Type 0 where
   none : All []
   _and_ : {c : Case} {cs : List Case} → holds c → All cs → All (c ∷ cs)
 
+-- "70 70 05 C0 79 12 45 00"
 abbrev pub tdt : List ℕ
 tdt = 0x70 ∷ 0x70 ∷ 0x05 ∷ 0xC0 ∷ 0x79 ∷ 0x12 ∷ 0x45 ∷ 0x00 ∷ []
 
