@@ -16,7 +16,7 @@ use Rattle.collector.specs.Refusals.{lastOf, cannotStand, Judged, refuse, carri
 use Rattle.collector.specs.Refusals as Refusals
 use Rattle.collector.specs.Answer as collector
 use Rattle.collector.specs.Collected.{freshRecord, outcomeOf, collected}
-use Rattle.collector.specs.Run as beneath
+use Rattle.history.specs.Run as beneath
 use Rattle.collector.specs.declared.Last.{Last}
 use Rattle.collector.specs.declared.Last.the-variants.{None, Counter}
 use Rattle.collector.specs.declared.Record as of

@@ -4,7 +4,7 @@ use mathlib.Core.Path.{_≡_}
 use mathlib.Core.List.{List, [], _∷_, map}
 use Prim.Native.Nat.{ℕ}
 use Rattle.collector.specs.Collected.{freshRecord}
-use Rattle.collector.specs.Run as beneath
+use Rattle.history.specs.Run as beneath
 use Rattle.collector.specs.declared.Record as of
 use Rattle.cabinet.specs.Collect.{recordSays, collectSays, Outcome, leaves, collecting}
 use Rattle.cabinet.specs.declared.collect.Record.{Record}

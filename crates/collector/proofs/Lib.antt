@@ -1,4 +1,4 @@
--- Laws that several proofs cite, and the theorems.
+-- Laws that several proofs cite, and those of stories that `history` rests on.
 pub mod Marks
 pub mod Runs
 pub mod Seam
@@ -11,10 +11,4 @@ pub mod Keeps
 pub mod Kept
 pub mod Payloads
 pub mod Outcomes
-pub mod Stands
-pub mod Agrees
-pub mod NoSpan
-pub mod Demand3
-pub mod WrongCollectors
-pub mod Promise
 pub mod Table

@@ -8,12 +8,12 @@ use native.Mathlib.Omega.{arith}
 use lib.ListN.{length, take, drop, getD, length-drop, take-append-drop}
 use lib.Seq.{length-take-le}
 use lib.Dec.{ltb, leb, eqb}
-use borrow.Author.Tests.{ltb-false, leb-false, eqb-true, eqb-false, not-false, lt-ltb, le-ltb, le-leb, eq-eqb, ne-eqb}
+use borrow.Author.Tests.{ltb-false, leb-false, eqb-true, eqb-false, not-false, lt-ltb, le-ltb, le-leb, lt-leb, eq-eqb, ne-eqb}
 use Rattle.wire.specs.If.{if_then_else_}
 use Rattle.collector.specs.Each.{Each}
-use Rattle.collector.specs.Packet.{startFlag, control, counterOf, adaptation, payloadFrom, payloadOf, pointerOf}
+use Rattle.collector.specs.Packet.{startFlag, pidOf, scrambling, control, counterOf, adaptation, payloadFrom, payloadOf, pointerOf}
 use Rattle.collector.specs.Rules.{totalOf}
-use Rattle.collector.specs.Refusals.{isNone, counterPast, heldUnfit, cannotStand, Row, pointerRefusal, shapeRefusals, refusals, firstOf, Judged, refuse, bare, carries, judgedBy, judged}
+use Rattle.collector.specs.Refusals.{isNone, counterPast, heldUnfit, cannotStand, Row, pointerRefusal, shapeRefusals, headerRefusals, refusals, firstOf, Judged, refuse, bare, carries, judgedBy, judged}
 use Rattle.collector.specs.Inside.{PayloadAt, CanStand, Fit}
 use Rattle.collector.specs.declared.Record.{Record}
 use Rattle.collector.proofs.Runs.{total-prefix}
@@ -79,6 +79,30 @@ module _ (p : List ℕ) where
 
     pub payload-after : length p ≡ 188 → adaptation p ≤ 182 → PayloadAt p (5 + adaptation p)
     payload-after l k = let e = both in record { long = l; at = simp (e); within = omega arith; has = λ w. omega arith }
+
+-- ---- refusals 44 to 47, each where those before it do not hold
+
+module _ (pid : ℕ) (p : List ℕ) where
+  abbrev header : Judged
+  header = judgedBy (firstOf (headerRefusals pid p)) p
+
+  pub no-sync : (getD p 0 0 ≡ 0x47 → ⊥) → header ≡ refuse 44
+  no-sync n = simp (ne-eqb _ _ n)
+
+  module _ (sync : getD p 0 0 ≡ 0x47) where
+    pub in-error : 128 ≤ getD p 1 0 → header ≡ refuse 45
+    in-error e = simp (sync, le-leb _ _ e)
+
+    module _ (good : getD p 1 0 < 128) where
+      pub other-pid : (pidOf p ≡ pid → ⊥) → header ≡ refuse 46
+      other-pid n = simp (sync, lt-leb _ _ good, ne-eqb _ _ n)
+
+      module _ (ours : pidOf p ≡ pid) where
+        pub scrambled : (scrambling p ≡ 0 → ⊥) → header ≡ refuse 47
+        scrambled n = simp (sync, lt-leb _ _ good, eq-eqb _ _ ours, ne-eqb _ _ n)
+
+        pub header-passed : scrambling p ≡ 0 → header ≡ judgedBy (firstOf (shapeRefusals p)) p
+        header-passed e = simp (sync, lt-leb _ _ good, eq-eqb _ _ ours, e)
 
 -- ---- what is known where no row applies
 

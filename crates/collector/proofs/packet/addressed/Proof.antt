@@ -1,7 +1,7 @@
 -- `collector::packet::addressed` meets its contract: the tests are rows 44 to 47 of the table, in their order.
 use mathlib.Core.Path.{sym, _∙_}
 use borrow.Author.Needs.{needs}
-use borrow.Author.Tests.{le-leb, lt-leb, eq-eqb, ne-eqb}
+use Rattle.collector.proofs.Table.{no-sync, in-error, other-pid, scrambled, header-passed}
 use Rattle.collector.proofs.packet.addressed.Statement.{statement}
 use Rattle.collector.proofs.packet.addressed.Tie as tie
 
@@ -9,13 +9,18 @@ shared-slice-read-if1 : tie.Need-shared-slice-read-if1
 shared-slice-read-if1 c = search needs
 
 returns : tie.Need-returns
-returns c = simp (ne-eqb _ _ (c .if1 .taken))
+returns c =
+    let a = c .before .before .before .args in
+    sym (no-sync (a .pid) (a .packet .now) (c .if1 .taken))
 
 shared-slice-read-if2 : tie.Need-shared-slice-read-if2
 shared-slice-read-if2 c = search needs
 
 returns-2 : tie.Need-returns-2
-returns-2 c = simp (eq-eqb _ _ (c .before .before .if1 .left), le-leb _ _ (c .if2 .taken))
+returns-2 c =
+    let k = c .before .before in
+    let a = k .before .before .before .args in
+    sym (in-error (a .pid) (a .packet .now) (k .if1 .left) (c .if2 .taken))
 
 pid-of-requires : tie.Need-pid-of-requires
 pid-of-requires c κs = search needs
@@ -23,7 +28,9 @@ pid-of-requires c κs = search needs
 returns-3 : tie.Need-returns-3
 returns-3 c =
     let k = c .before .before in
-    simp (eq-eqb _ _ (k .before .before .if1 .left), lt-leb _ _ (k .if2 .left), ← c .before .pid-of .ensures, ne-eqb _ _ (c .if3 .taken))
+    let s = k .before .before in
+    let a = s .before .before .before .args in
+    sym (other-pid (a .pid) (a .packet .now) (s .if1 .left) (k .if2 .left) (λ e. c .if3 .taken (c .before .pid-of .ensures ∙ e)))
 
 shared-slice-read-if4 : tie.Need-shared-slice-read-if4
 shared-slice-read-if4 c = search needs
@@ -32,7 +39,9 @@ returns-4 : tie.Need-returns-4
 returns-4 c =
     let t = c .before .before in
     let k = t .before .before in
-    simp (eq-eqb _ _ (k .before .before .if1 .left), lt-leb _ _ (k .if2 .left), ← t .before .pid-of .ensures, eq-eqb _ _ (t .if3 .left), ne-eqb _ _ (c .if4 .taken))
+    let s = k .before .before in
+    let a = s .before .before .before .args in
+    sym (scrambled (a .pid) (a .packet .now) (s .if1 .left) (k .if2 .left) (sym (t .before .pid-of .ensures) ∙ t .if3 .left) (c .if4 .taken))
 
 shaped-requires : tie.Need-shaped-requires
 shaped-requires c κs = search needs
@@ -41,7 +50,9 @@ returns-5 : tie.Need-returns-5
 returns-5 c =
     let t = c .before .before .before in
     let k = t .before .before in
-    c .shaped .ensures ∙ sym (simp (eq-eqb _ _ (k .before .before .if1 .left), lt-leb _ _ (k .if2 .left), ← t .before .pid-of .ensures, eq-eqb _ _ (t .if3 .left), eq-eqb _ _ (c .before .if4 .left)))
+    let s = k .before .before in
+    let a = s .before .before .before .args in
+    c .shaped .ensures ∙ sym (header-passed (a .pid) (a .packet .now) (s .if1 .left) (k .if2 .left) (sym (t .before .pid-of .ensures) ∙ t .if3 .left) (c .before .if4 .left))
 
 pub addressed-spec : {M : Type 1} → statement M
 addressed-spec =

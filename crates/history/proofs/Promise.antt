@@ -5,14 +5,14 @@ use mathlib.Core.List.{List, [], _∷_, map}
 use Prim.Native.Nat.{ℕ}
 use lib.Dec.{eqb}
 use Rattle.wire.specs.If.{if_then_else_}
 use Rattle.collector.specs.Answer.{numberOf, Told, refused, repeated, taken, told, Outcome, came}
 use Rattle.collector.specs.Collected.{collected}
-use Rattle.collector.specs.Run.{Promised, Call, Run, no-call, one-call}
 use Rattle.collector.specs.declared.Record.{Record}
 use Rattle.collector.specs.declared.Refusal.{Refusal}
 use Rattle.collector.specs.declared.Refusal.the-variants.{NotAPacket, Room, Unfit, Sync, Error, OtherPid, Scrambled, Adaptation, Pointer}
 use Rattle.collector.specs.declared.Answer.{Answer}
 use Rattle.collector.specs.declared.Answer.the-variants.{Refused, Repeated, Taken}
+use Rattle.history.specs.Run.{Promised, Call, Run, no-call, one-call}
 
 -- ---- two answers that tell the same are equal
 

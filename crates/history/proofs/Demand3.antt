@@ -10,22 +10,22 @@ use lib.ListN.{length}
 use lib.Dec.{ltb, eqb}
 use borrow.Author.Tests.{le-ltb, eqb-true, eqb-false}
 use Rattle.wire.specs.If.{if_then_else_}
 use Rattle.collector.specs.Each.{Each}
 use Rattle.collector.specs.Packet.{startFlag, control, counterOf, payloadFrom}
 use Rattle.collector.specs.Rules.{pointer, delivered, broken, filler, skipped, Story, countOf, Carried}
 use Rattle.collector.specs.Refusals.{Row, refusals, firstOf, carries, judgedBy, judged, repeats, Ruling, takes, carriedIn, ruledBy}
 use Rattle.collector.specs.Refusals as Refusals
 use Rattle.collector.specs.Answer.{refused}
 use Rattle.collector.specs.Collected.{freshRecord}
-use Rattle.collector.specs.History.{Byte, valueOf, numbered, History, unbegun, numberedIn, after, historyFrom, historyOf, payloadsFrom}
-use Rattle.collector.specs.Run.{Promised, Call, Run, Fare, taken, fareOf, ruledFare, Lent, lentOf, rulingOn, lastAfter, faresFrom, NotRefused, NotRepeated}
-use Rattle.collector.specs.Run as R
-use Rattle.collector.specs.Demand3.{TakenIf, Counted, takenBy, storyBy, TakenExactlyIf, ByPacketsAlone, NeverUnfit, CountersAreFates, CountersMakeUp, DeliveredInOrder, OneFateEach}
 use Rattle.collector.specs.declared.Record.{Record}
 use Rattle.collector.proofs.Keeps.{each-of, keep-taken}
 use Rattle.collector.proofs.Kept.{Any, Kept, keeps-kept, points-kept, kept-holding, counts-in, sumOf}
 use Rattle.collector.proofs.Table.{none-of, all-passed}
-use Rattle.collector.proofs.Agrees.{Ran, ran, agrees-fresh}
+use Rattle.history.specs.History.{Byte, valueOf, numbered, History, unbegun, numberedIn, after, historyFrom, historyOf, payloadsFrom}
+use Rattle.history.specs.Run.{Promised, Call, Run, Fare, taken, fareOf, ruledFare, Lent, lentOf, rulingOn, lastAfter, faresFrom, NotRefused, NotRepeated}
+use Rattle.history.specs.Run as R
+use Rattle.history.specs.Demand3.{TakenIf, Counted, takenBy, storyBy, TakenExactlyIf, ByPacketsAlone, NeverUnfit, CountersAreFates, CountersMakeUp, DeliveredInOrder, OneFateEach}
+use Rattle.history.proofs.Agrees.{Ran, ran, agrees-fresh}
 
 -- ---- the fates themselves
 

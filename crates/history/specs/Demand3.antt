@@ -6,13 +6,13 @@ use mathlib.Core.List.{List, [], _∷_, map, flatten}
 use mathlib.Core.Option.{Option, none}
 use Prim.Native.Nat.{ℕ, _+_, _%_, _^_, _≤_}
 use lib.ListN.{length, take}
 use Rattle.collector.specs.Each.{Each}
 use Rattle.collector.specs.Rules.{pointer, delivered, broken, filler, skipped, in-hand, Story, bytesOf, countOf, handOf, Carried}
 use Rattle.collector.specs.Answer.{refused}
 use Rattle.collector.specs.Collected.{freshRecord}
-use Rattle.collector.specs.History.{Byte, valueOf, historyOf, payloadsFrom, Unbroken}
-use Rattle.collector.specs.Run.{Collector, Call, Run, taken, fareOf, lentOf, rulingOn, lastAfter, faresFrom, takenFrom, NotRefused, NotRepeated, handedBy, handed, bytesBy}
 use Rattle.collector.specs.declared.Record.{Record}
+use Rattle.history.specs.History.{Byte, valueOf, historyOf, payloadsFrom, Unbroken}
+use Rattle.history.specs.Run.{Collector, Call, Run, taken, fareOf, lentOf, rulingOn, lastAfter, faresFrom, takenFrom, NotRefused, NotRepeated, handedBy, handed, bytesBy}
 
 -- "A packet is taken exactly if it is neither refused nor, by document 01's rule, repeated." Each call is held against the packets before it.
 abbrev pub TakenIf : ℕ → ℕ → Option ℕ → List Call → Type 0

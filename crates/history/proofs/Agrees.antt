@@ -11,24 +11,24 @@ use lib.Seq.{take-append-seam, drop-append-seam}
 use lib.Dec.{ltb}
 use borrow.Author.Tests.{ltb-false}
 use Rattle.wire.specs.If.{if_then_else_}
 use Rattle.collector.specs.Each.{Each}
 use Rattle.collector.specs.Rules.{Fate, pointer, delivered, broken, filler, skipped, in-hand, Story, sameFate, countOf, handOf, marked, holding, totalOf, plain, Carried, takenIn}
 use Rattle.collector.specs.Refusals.{lastOf, cannotStand, Judged, refuse, carries, judged, repeats, Ruling, repeated, takes, carriedIn, ruledBy, ruling}
 use Rattle.collector.specs.Refusals as Refusals
 use Rattle.collector.specs.Answer.{Outcome}
 use Rattle.collector.specs.Collected.{freshRecord, recordAfter, over, takenTo, outcomeOf}
-use Rattle.collector.specs.History.{Byte, valueOf, numbered, History, unbegun, numberedIn, after, historyFrom}
-use Rattle.collector.specs.Run.{Promised, Call, Run, no-call, one-call, fareOf, ruledFare, lentOf, rulingOn, lastAfter, carriedBy, faresFrom, takenFrom, cut, handedBy, handed, bytesBy}
-use Rattle.collector.specs.Demand3.{Counted}
 use Rattle.collector.specs.declared.Record.{Record}
 use Rattle.collector.proofs.Marks.{bytesOf-marked}
 use Rattle.collector.proofs.Runs.{total-prefix}
 use Rattle.collector.proofs.Beside.{Beside, beside-taken}
 use Rattle.collector.proofs.Keeps.{keep-taken}
 use Rattle.collector.proofs.Kept.{Any, WholeSection, AllWhole, keeps-whole}
 use Rattle.collector.proofs.Payloads.{any}
 use Rattle.collector.proofs.Table.{or-false, carries-of}
-use Rattle.collector.proofs.Stands.{Standing, standing-none, stands-taken, few-standing, stands-after}
+use Rattle.history.specs.History.{Byte, valueOf, numbered, History, unbegun, numberedIn, after, historyFrom}
+use Rattle.history.specs.Run.{Promised, Call, Run, no-call, one-call, fareOf, ruledFare, lentOf, rulingOn, lastAfter, carriedBy, faresFrom, takenFrom, cut, handedBy, handed, bytesBy}
+use Rattle.history.specs.Demand3.{Counted}
+use Rattle.history.proofs.Stands.{Standing, standing-none, stands-taken, few-standing, stands-after}
 
 -- ---- sections cut by their own headers
 

@@ -6,14 +6,14 @@ use mathlib.Core.Option.{none}
 use Prim.Native.Nat.{ℕ}
 use native.Mathlib.Omega.{arith}
 use lib.ListN.{length}
 use Rattle.collector.specs.Rules.{sizeOf, follows}
 use Rattle.collector.specs.Refusals.{cannotStand, judged, repeats}
 use Rattle.collector.specs.Answer.{Outcome, refused, repeated, taken}
 use Rattle.collector.specs.Collected.{freshRecord, collected}
-use Rattle.collector.specs.Run.{Call, no-call, one-call, Fare, NotRefused, NotRepeated}
-use Rattle.collector.specs.Run as R
-use Rattle.collector.specs.Demand3.{TakenExactlyIf, CountersAreFates, DeliveredInOrder}
-use Rattle.collector.specs.WrongCollectors.{RefusesEvery, CallsRepeated, DoesNothing, Pretends, InventsCounters, invented, worked, short, hold₀, out₀}
+use Rattle.history.specs.Run.{Call, no-call, one-call, Fare, NotRefused, NotRepeated}
+use Rattle.history.specs.Run as R
+use Rattle.history.specs.Demand3.{TakenExactlyIf, CountersAreFates, DeliveredInOrder}
+use Rattle.history.specs.WrongCollectors.{RefusesEvery, CallsRepeated, DoesNothing, Pretends, InventsCounters, invented, worked, short, hold₀, out₀}
 
 -- a call with a packet, as an outcome tells it
 abbrev callOf : List ℕ → Outcome → Call

@@ -3,12 +3,12 @@ use mathlib.Core.Path.{_≡_}
 use mathlib.Core.List.{List, [], _∷_, _++_}
 use Prim.Native.Nat.{ℕ, _+_, _%_, _^_}
 use lib.ListN.{replicate}
 use Rattle.collector.specs.Answer.{Outcome, refused, repeated, taken}
 use Rattle.collector.specs.Collected.{unaltered, collected}
-use Rattle.collector.specs.Run.{Collector}
 use Rattle.collector.specs.declared.Record.{Record}
 use Rattle.collector.specs.declared.Last.{Last}
 use Rattle.collector.specs.declared.Last.the-variants.{None, Counter}
+use Rattle.history.specs.Run.{Collector}
 
 -- "one that refuses every packet"
 abbrev pub RefusesEvery : ℕ → Collector

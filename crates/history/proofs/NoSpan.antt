@@ -11,13 +11,13 @@ use lib.ListN.{length, getD, length-append}
 use lib.Seq.{getD-at}
 use borrow.Author.Tests.{eqb-true}
 use Rattle.wire.specs.If.{if_then_else_}
 use Rattle.collector.specs.Each.{Each}
 use Rattle.collector.specs.Rules.{Fate, pointer, delivered, broken, in-hand, Story, sameFate, handOf, given, settled, follows, joined, Carried}
-use Rattle.collector.specs.History.{Byte, valueOf, numbered, History, unbegun, after, historyFrom, counterAt, BreakAfter, Spans, Unbroken}
-use Rattle.collector.specs.Demand3.{NoSectionSpans}
 use Rattle.collector.proofs.Marks.{bytesOf-more, settled-hand}
 use Rattle.collector.proofs.Runs.{lt-or-ge}
 use Rattle.collector.proofs.Keeps.{each-append, each-map, Keeps, keep-payload}
+use Rattle.history.specs.History.{Byte, valueOf, numbered, History, unbegun, after, historyFrom, counterAt, BreakAfter, Spans, Unbroken}
+use Rattle.history.specs.Demand3.{NoSectionSpans}
 
 module _ (qs : List (Carried ℕ)) where
   -- a byte of one of the first n packets, from which no break leads to the last of them
