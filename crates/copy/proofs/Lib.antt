@@ -1,0 +1,3 @@
+-- Laws of copies.
+pub mod Blocks
+pub mod Copies

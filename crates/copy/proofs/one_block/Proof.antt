@@ -1,0 +1,31 @@
+use mathlib.Core.Path.{sym, ap, _∙_}
+use native.Mathlib.Omega.{arith}
+use lib.ListN.{drop}
+use lib.Seq.{paste}
+use Rattle.copy.specs.Copy.{block}
+use borrow.Author.Needs.{needs}
+use Rattle.copy.proofs.one_block.Statement.{statement}
+use Rattle.copy.proofs.one_block.Tie as tie
+
+thirty-two-requires : tie.Need-thirty-two-requires
+thirty-two-requires c κs = let e = ap block (c .before .if1 .taken) in (omega arith, omega arith)
+
+eight-requires : tie.Need-eight-requires
+eight-requires c κs = let e = ap block (c .before .if1 .left) in (omega arith, omega arith)
+
+same-length : tie.Need-same-length
+same-length c = search needs
+
+returns : tie.Need-returns
+returns c = c .before .before .thirty-two .ensures ∙ ap (paste (c .before .before .before .before .before .before .before .args .dst .now) (c .before .before .before .before .before .before .before .args .at) (drop (c .before .before .before .before .before .before .before .args .from) (c .before .before .before .before .before .before .before .args .src .now))) (sym (ap block (c .before .before .before .before .if1 .taken)))
+
+same-length-2 : tie.Need-same-length-2
+same-length-2 c = search needs
+
+returns-2 : tie.Need-returns-2
+returns-2 c = c .before .before .eight .ensures ∙ ap (paste (c .before .before .before .before .before .before .before .args .dst .now) (c .before .before .before .before .before .before .before .args .at) (drop (c .before .before .before .before .before .before .before .args .from) (c .before .before .before .before .before .before .before .args .src .now))) (sym (ap block (c .before .before .before .before .if1 .left)))
+
+pub one-block-spec : {M : Type 1} → statement M
+one-block-spec =
+    tie.close
+    (tie.spec thirty-two-requires eight-requires same-length returns same-length-2 returns-2)

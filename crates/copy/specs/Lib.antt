@@ -1,0 +1,2 @@
+-- What a copy of bytes leaves.
+pub mod Copy
