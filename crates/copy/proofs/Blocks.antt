@@ -9,7 +9,7 @@ use lib.ListN.{length, take, drop}
 use lib.Seq.{paste, take-paste, drop-paste, take-take, take-add, take-append-add, drop-drop, length-take-le}
 use lib.Dec.{leb}
 use borrow.Author.Tests.{leb-true}
-use Rattle.wire.specs.If.{if-case}
+use Rattle.wire.proofs.IfLaws.{if-case}
 use Rattle.copy.specs.Copy.{block}
 
 -- a block read into room of its own size, and written from there

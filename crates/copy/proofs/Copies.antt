@@ -4,10 +4,11 @@ use mathlib.Core.Path.{_≡_, refl, sym, _∙_}
 use mathlib.Core.List.{List}
 use mathlib.Core.Bool.{Bool, true, false}
 use native.Mathlib.Omega.{arith}
-use borrow.Author.Tests.{le-leb, lt-leb, lt-ltb, le-ltb, ltb-true, ltb-false}
+use borrow.Author.Tests.{le-leb, lt-leb, lt-ltb, le-ltb, ltb-true, ltb-false, leb-true}
 use lib.ListN.{length, drop}
 use lib.Seq.{paste}
-use lib.Dec.{ltb}
+use lib.Dec.{ltb, leb}
+use Rattle.wire.specs.If.{if_then_else_}
 use Rattle.copy.specs.Copy.{copies, copied}
 
 -- n bytes from a place on end past the end: compared without a sum that could be too large
@@ -36,6 +37,20 @@ module _ (s : List ℕ) (from n : ℕ) (d : List ℕ) (at : ℕ) where
     pub copied-yes : copied s from n d at ≡ paste d at (drop from s) n
     unfolding copied
     copied-yes = rw copies-yes
+
+  -- a copy that is not made: s has not the bytes, or d not the room
+  pub copies-not : {r : Bool} → r ≡ copies s from n d at → r ≡ false → from + n ≤ length s → at + n ≤ length d → ⊥
+  copies-not e f h g = let z : true ≡ false = sym (copies-yes h g) ∙ sym e ∙ f in let k : _≡_ {A = ℕ} 0 1 = cc in absurd (omega arith)
+
+  -- a copy that is made: s has the bytes and d the room
+  pub copies-fits : {r : Bool} → r ≡ copies s from n d at → r ≡ true → (from + n ≤ length s) × (at + n ≤ length d)
+  unfolding copies
+  copies-fits e f = go (leb (from + n) (length s)) (leb (at + n) (length d)) refl refl (sym e ∙ f)
+    where
+      go : (x y : Bool) → leb (from + n) (length s) ≡ x → leb (at + n) (length d) ≡ y → (if x then y else false) ≡ true → (from + n ≤ length s) × (at + n ≤ length d)
+      go true true ex ey z = (leb-true (from + n) (length s) ex, leb-true (at + n) (length d) ey)
+      go true false ex ey z = let k : _≡_ {A = ℕ} 0 1 = cc in (absurd (omega arith), absurd (omega arith))
+      go false y ex ey z = let k : _≡_ {A = ℕ} 0 1 = cc in (absurd (omega arith), absurd (omega arith))
 
   copied-not : copies s from n d at ≡ false → copied s from n d at ≡ d
   unfolding copied

@@ -5,7 +5,9 @@ use mathlib.Core.List.{List, [], _∷_, _++_, append-assoc}
 use native.Mathlib.Omega.{arith}
 use borrow.Author.Tests.{le-leb, lt-leb}
 use lib.ListN.{length, take, drop, set, length-append, length-drop, take-append-drop}
-use lib.Seq.{take-at, drop-at, drop-drop, length-take-le, set-split, paste, take-length}
+use lib.Seq.{take-at, drop-at, drop-drop, length-take-le, set-split}
+use Rattle.copy.specs.Copy.{copied}
+use Rattle.copy.proofs.Copies.{copied-yes}
 use Rattle.forms.specs.Room.{put, sum}
 
 -- ---- places
@@ -36,9 +38,14 @@ put-one o to b h =
 pub put-none : (o : List ℕ) (to : ℕ) → to ≤ length o → put o to [] ≡ o
 put-none o to h = let i : to + 0 ≡ to = omega arith in put-fits o to [] (omega arith) ∙ ap (λ k. take to o ++ drop k o) i ∙ take-append-drop to o
 
-pub paste-put : (o : List ℕ) (to : ℕ) (l : List ℕ) → to + length l ≤ length o → paste o to l (length l) ≡ put o to l
-paste-put o to l h =
-    ap (λ x. take to o ++ x ++ drop (to + length l) o) (take-length l) ∙ append-assoc (take to o) l (drop (to + length l) o) ∙ sym (put-fits o to l h)
+-- a copy that is made
+pub copied-put : (s : List ℕ) (at n : ℕ) (o : List ℕ) (to : ℕ) → at + n ≤ length s → to + n ≤ length o → copied s at n o to ≡ put o to (take n (drop at s))
+copied-put s at n o to h g =
+    let e : length (take n (drop at s)) ≡ n = length-take-le n (drop at s) (omega (arith, length-drop at s)) in
+    copied-yes s at n o to h g
+    ∙ append-assoc (take to o) (take n (drop at s)) (drop (to + n) o)
+    ∙ ap (λ k. take to o ++ (take n (drop at s) ++ drop (to + k) o)) (sym e)
+    ∙ sym (put-fits o to (take n (drop at s)) (omega arith))
 
 module _ (o : List ℕ) (to : ℕ) (l : List ℕ) (fits : to + length l ≤ length o) where
   abbrev front : List ℕ

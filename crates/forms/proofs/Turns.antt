@@ -28,6 +28,11 @@ done-both {p = p} {o = o} x y u v f g h =
 pub done-length : {p q : Place} {o o' : List ℕ} (x u : List ℕ) → p .to + length u ≤ length o → Done p x u o q o' → length o' ≡ length o
 done-length {p = p} {o = o} x u f g = ap length (g .room) ∙ length-put o (p .to) u f
 
+-- where no value stands there for which there is room
+pub turned-never : {A : Type 0} {c d : Form A} {s : List ℕ} {p q : Place} {o o' : List ℕ}
+    → ((a : A) → c .Ok a → Part s (p .at) (c .show a) → p .to + length (d .show a) ≤ length o → ⊥) → Turned c d s p o q o'
+turned-never h = record { turned = λ a k w f. absurd (h a k w f) }
+
 -- nothing stands there, and nothing is written
 pub turned-nothing : {A : Type 0} (c d : Form A) (s : List ℕ) (p : Place) (o : List ℕ) → ((a : A) → c .Ok a → (c .show a ≡ []) × (d .show a ≡ []))
     → Turned c d s p o p o

@@ -1,7 +1,8 @@
 -- Laws of entries, turned either way.
+use Prim.{tt}
 use Prim.Native.Nat.{ℕ, zero, suc, _+_, _-_, _*_, _/_, _%_, _^_, _<_, _≤_}
 use mathlib.Core.Path.{_≡_, refl, sym, ap, ap₂, _∙_, subst}
-use mathlib.Core.List.{List, [], _∷_, _++_}
+use mathlib.Core.List.{List, [], _∷_, _++_, append-nil}
 use mathlib.Core.Bool.{Bool, true, false, not}
 use native.Mathlib.Omega.{arith}
 use lib.ListN.{length, getD, take, drop, length-append}
@@ -15,7 +16,7 @@ use Rattle.forms.specs.Fields.{Field, reserved, room, pack, Fit, sheetFields}
 use Rattle.forms.specs.Lists.{all, All, none, one, times, countedShow, loopShow}
 use Rattle.forms.specs.Room.{put, sum, Done, Turned}
 use Rattle.forms.proofs.Puts.{sum-fits, put-none, put-put, length-put}
-use Rattle.forms.proofs.Turns.{turned-then, turned-nothing, turned-zero, turned-suc}
+use Rattle.forms.proofs.Turns.{turned-then, turned-as, turned-nothing, turned-zero, turned-suc}
 use Rattle.sheet.specs.Content.{Entry, Loop, bare, status, entryOf, sideOf}
 use Rattle.sheet.specs.Sheet.{sheetEntry}
 use Rattle.sheet.specs.Section.{sectionEntry}
@@ -29,21 +30,30 @@ use Rattle.forms.specs.declared.Place.{Place}
 
 -- ---- one entry
 
-pub side-status : (row : ℕ) → (row ≡ 1) → sideIf true ≡ sideOf row
-unfolding sideOf cell
-side-status row e = ap sideOf (sym e)
+pub side-bare : {row : ℕ} (k : ℕ) → row ≡ k → sideIf false ≡ sideOf k → sideIf false ≡ sideOf row
+side-bare k e h = h ∙ ap sideOf (sym e)
 
-pub side-status-eit : (row : ℕ) → (row ≡ 3) → sideIf true ≡ sideOf row
+pub bare-nit : sideIf false ≡ sideOf 0
 unfolding sideOf cell
-side-status-eit row e = ap sideOf (sym e)
+bare-nit = refl
 
-pub side-bare : (row : ℕ) → row < 4 → (row ≡ 1 → ⊥) → (row ≡ 3 → ⊥) → sideIf false ≡ sideOf row
+pub bare-bat : sideIf false ≡ sideOf 2
 unfolding sideOf cell
-side-bare zero h f g = refl
-side-bare (suc zero) h f g = absurd (f refl)
-side-bare (suc (suc zero)) h f g = refl
-side-bare (suc (suc (suc zero))) h f g = absurd (g refl)
-side-bare (suc (suc (suc (suc row)))) h f g = absurd (omega arith)
+bare-bat = refl
+
+pub bare-tot : sideIf false ≡ sideOf 5
+unfolding sideOf cell
+bare-tot = refl
+
+pub side-status : (row : ℕ) → (row ≡ 0 → ⊥) → (row ≡ 2 → ⊥) → (row ≡ 5 → ⊥) → sideIf true ≡ sideOf row
+unfolding sideOf cell
+side-status zero f g h = absurd (f refl)
+side-status (suc zero) f g h = refl
+side-status (suc (suc zero)) f g h = absurd (g refl)
+side-status (suc (suc (suc zero))) f g h = refl
+side-status (suc (suc (suc (suc zero)))) f g h = refl
+side-status (suc (suc (suc (suc (suc zero))))) f g h = absurd (h refl)
+side-status (suc (suc (suc (suc (suc (suc row)))))) f g h = refl
 
 pub turned-entry : {s o o' o'' : List ℕ} {p q r : Place} (b st : Bool) (row : ℕ) → sideIf st ≡ sideOf row
     → Turned (itemsFrom b (entryOf row)) (itemsTo b (entryOf row)) s p o q o' → Turned (loopFrom b (sideIf st)) (loopTo b (sideIf st)) s q o' r o''
@@ -131,11 +141,10 @@ module _ (row : ℕ) (s o : List ℕ) (ls : length s < 2 ^ 64) (lo : length o < 
         let none = sym (put-none o (p .to) (omega arith)) in
         let hx' : x ≡ putNumber o (p .to) v = hx ∙ ap (putNumber o (p .to)) iv in
         let pt = put-three o (p .to) [] v body lo (omega arith) o x (p .to) none zz hx' in
-        let lx : length x ≡ length o = number-length o x (p .to) v lo (omega arith) hx' in
+        let lx : length x ≡ length o = pt .0 in
         let d = entries-done es oe h w {z = z} {q = q} {x = x} {o' = o'} ha (omega arith) t in
-        let s2 : sum (p .to) 2 ≡ z .to = sym ht in
         record {
-          room = d .room ∙ ap (λ k. put x k body) (sym s2) ∙ pt ∙ ap₂ (λ i j. put o (p .to) (i ∷ j ∷ body)) hi hj;
+          room = d .room ∙ ap (λ k. put x k body) to ∙ pt .1 ∙ ap₂ (λ i j. put o (p .to) (i ∷ j ∷ body)) hi hj;
           read = d .read ∙ omega (arith, ha, sum-fits (p .at) 2 (omega arith));
           written = d .written ∙ omega arith;
         };
@@ -177,7 +186,7 @@ module _ (row : ℕ) (s o : List ℕ) (ls : length s < 2 ^ 64) (lo : length o < 
       let pt = put-three o (p .to) [] k body lo (omega arith) o x (p .to) none zz hx in
       let hi : k / 256 % 256 ≡ length es / 256 = omega arith in
       let hj : k % 256 ≡ length es % 256 = omega arith in
-      (d .room ∙ ap₂ (λ j l. put x j l) ht sh ∙ pt ∙ ap₂ (λ i j. put o (p .to) (i ∷ j ∷ body)) hi hj, d .read ∙ ap (λ j. j + length (all (sectionEntry row) es)) ha, d .written ∙ omega arith)
+      (d .room ∙ ap₂ (λ j l. put x j l) to sh ∙ pt .1 ∙ ap₂ (λ i j. put o (p .to) (i ∷ j ∷ body)) hi hj, d .read ∙ ap (λ j. j + length (all (sectionEntry row) es)) ha, d .written ∙ omega arith)
 
   pub back-top : (k n : ℕ) {z q : Place} {x o' : List ℕ} → n ≡ len12At s (p .at) → NumberIn (sectionEntry row) (take n (drop (sum (p .at) 2) s)) k → z .at ≡ sum (p .at) 2
       → z .to ≡ sum (p .to) 2 → x ≡ putNumber o (p .to) k → Turned (times (entryFrom false row) k) (times (entryTo false row) k) s z x q o' → EntriesBack true row s p end o q o'
@@ -213,8 +222,13 @@ module _ (row : ℕ) (s o : List ℕ) (ls : length s < 2 ^ 64) (lo : length o < 
 
 -- ---- the top loop
 
-pub top-turned : {s o o' : List ℕ} {p q : Place} (b t : Bool) → t ≡ true → Turned (loopFrom b bare) (loopFrom (not b) bare) s p o q o' → Turned (topIf b t) (topIf (not b) t) s p o q o'
-top-turned {s} {o} {o'} {p} {q} b t e u = subst (λ x. Turned (topIf b x) (topIf (not b) x) s p o q o') (sym e) u
+-- an entry without fields is its loop
+pub top-turned : {s o o' : List ℕ} {p q : Place} (b t : Bool) → t ≡ true → Turned (times (entryFrom b 5) 1) (times (entryTo b 5) 1) s p o q o'
+    → Turned (topIf b t) (topIf (not b) t) s p o q o'
+unfolding sideOf entryOf cell all eachShow EachOk
+top-turned {s} {o} {o'} {p} {q} b t e u =
+    subst (λ x. Turned (topIf b x) (topIf (not b) x) s p o q o') (sym e)
+    (turned-as (λ l k. (([], l) ∷ [], (refl, one (tt, k) none), sym (append-nil _), sym (append-nil _))) u)
 
 pub no-top-turned : {s o : List ℕ} {p : Place} (b t : Bool) → t ≡ false → Turned (topIf b t) (topIf (not b) t) s p o p o
 no-top-turned {s} {o} {p} b t e =

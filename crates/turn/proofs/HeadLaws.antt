@@ -65,6 +65,14 @@ nit-entry (suc (suc zero)) h f g = refl
 nit-entry (suc (suc (suc zero))) h f g = absurd (g refl)
 nit-entry (suc (suc (suc (suc row)))) h f g = absurd (omega arith)
 
+pub no-entry : (row : ℕ) → 4 ≤ row → [] ≡ entryOf row
+unfolding entryOf
+no-entry zero h = absurd (omega arith)
+no-entry (suc zero) h = absurd (omega arith)
+no-entry (suc (suc zero)) h = absurd (omega arith)
+no-entry (suc (suc (suc zero))) h = absurd (omega arith)
+no-entry (suc (suc (suc (suc row)))) h = refl
+
 -- ---- items one behind the other
 
 module _ (b : Bool) {s : List ℕ} where

@@ -12,7 +12,10 @@ use Rattle.wire.proofs.PartLaws.{part-taken}
 use Rattle.forms.specs.Form.{Form, raw, eachShow, EachOk}
 use Rattle.forms.specs.Fields.{Field, kept, reserved, room, pack, Fit, sheetFields}
 use Rattle.forms.specs.Room.{put, sum, Done, Turned}
-use Rattle.forms.proofs.Puts.{sum-fits, put-put, put-none}
+use Rattle.forms.proofs.Puts.{sum-fits, put-put, put-none, copied-put}
+use Rattle.forms.proofs.Turns.{turned-never}
+use Rattle.copy.specs.Copy.{copies, copied}
+use Rattle.copy.proofs.Copies.{copies-not}
 use Rattle.sheet.specs.Content.{version, flags, filler}
 use Rattle.sheet.specs.Sheet.{sheetItem}
 use Rattle.sheet.specs.Section.{sectionItem}
@@ -49,13 +52,17 @@ module _ (s o : List ℕ) (ls : length s < 2 ^ 64) (lo : length o < 2 ^ 64) (p :
       let n = part-within x w in
       record { room = e; read = a ∙ sum-fits (p .at) (length x) (omega arith); written = b ∙ sum-fits (p .to) (length u) (omega arith) }
 
-  pub turned-raw : (n : ℕ) {q : Place} {o' : List ℕ} → o' ≡ put o (p .to) (take n (drop (p .at) s)) → q .at ≡ sum (p .at) n → q .to ≡ sum (p .to) n
-      → Turned (raw n) (raw n) s p o q o'
+  pub turned-raw : (n : ℕ) {q : Place} {o' : List ℕ} → o' ≡ copied s (p .at) n o (p .to) → q .at ≡ p .at + n → q .to ≡ p .to + n → Turned (raw n) (raw n) s p o q o'
   turned-raw n e a b = record {
     turned = λ x k w f.
+        let h = part-within x w in
         let t : take n (drop (p .at) s) ≡ x = ap (λ m. take m (drop (p .at) s)) (sym k) ∙ part-taken w in
-        done x x w f (e ∙ ap (put o (p .to)) t) (a ∙ ap (sum (p .at)) (sym k)) (b ∙ ap (sum (p .to)) (sym k));
+        record { room = e ∙ copied-put s (p .at) n o (p .to) (omega arith) (omega arith) ∙ ap (put o (p .to)) t; read = omega (arith, a); written = omega (arith, b) };
   }
+
+  -- what is not copied is not there, or has no room
+  pub raw-not-there : (n : ℕ) {r : Bool} {q : Place} {o' : List ℕ} → r ≡ copies s (p .at) n o (p .to) → r ≡ false → Turned (raw n) (raw n) s p o q o'
+  raw-not-there n e g = turned-never (λ x k w f. let h = part-within x w in copies-not s (p .at) n o (p .to) e g (omega arith) (omega arith))
 
 -- ---- a byte of reserved bits, a value and a flag
 

@@ -6,8 +6,9 @@ ghost use Rattle.forms.specs.Room.{Turned, sum};
 ghost use Rattle.turn.specs.Ways.{sideIf, sideAt, sideSize, sideBack, putNumber, loopFrom, loopTo};
 use crate::counts::descriptors_in;
 use crate::counts::descriptors_size;
+use copy::copy;
+use copy::lacks;
 use forms::Place;
-use forms::copy;
 use forms::past;
 use forms::put_byte;
 use wire::length12_at;
@@ -50,29 +51,50 @@ fn side_back(status: bool, x: u8, room: &mut [u8], to: usize)
 fn loop_forth(status: bool, s: &[u8], p: Place, room: &mut [u8]) -> Place
     ensures { λ r. ⌜ Turned (loopFrom true (sideIf status)) (loopFrom false (sideIf status)) (now (s .entry)) p (now (room .entry)) r (now (room .exit)) ⌝ }
 {
-    let at = past(p.at, side_size(status));
+    let sides = side_size(status);
+    if lacks(s.len(), p.at, sides + 2) {
+        return p;
+    }
+    if lacks(room.len(), p.to, 2) {
+        return p;
+    }
+    let at = p.at + sides;
+    let from = at + 2;
+    let to = p.to + 2;
     let n = descriptors_size(s, at);
     put_number(room, p.to, past(side(status, s, p.at) * 256, n));
-    copy(s, past(at, 2), n, room, past(p.to, 2));
-    Place {
-        at: past(past(at, 2), n),
-        to: past(past(p.to, 2), n),
+    if copy(s, from, n, room, to) {
+        return Place {
+            at: from + n,
+            to: to + n,
+        };
     }
+    p
 }
 
 fn loop_back(status: bool, s: &[u8], p: Place, room: &mut [u8]) -> Place
     ensures { λ r. ⌜ Turned (loopFrom false (sideIf status)) (loopFrom true (sideIf status)) (now (s .entry)) p (now (room .entry)) r (now (room .exit)) ⌝ }
 {
-    let from = past(p.at, 2);
-    let n = length12_at(s, p.at);
-    let to = past(p.to, side_size(status));
-    side_back(status, byte_at(s, p.at), room, p.to);
-    put_number(room, to, descriptors_in(part(s, from, n)));
-    copy(s, from, n, room, past(to, 2));
-    Place {
-        at: past(from, n),
-        to: past(past(to, 2), n),
+    let sides = side_size(status);
+    if lacks(s.len(), p.at, 2) {
+        return p;
     }
+    if lacks(room.len(), p.to, sides + 2) {
+        return p;
+    }
+    let from = p.at + 2;
+    let at = p.to + sides;
+    let to = at + 2;
+    let n = length12_at(s, p.at);
+    side_back(status, byte_at(s, p.at), room, p.to);
+    put_number(room, at, descriptors_in(part(s, from, n)));
+    if copy(s, from, n, room, to) {
+        return Place {
+            at: from + n,
+            to: to + n,
+        };
+    }
+    p
 }
 
 pub fn turn_loop(forth: bool, status: bool, s: &[u8], p: Place, room: &mut [u8]) -> Place

@@ -17,22 +17,23 @@ use wire::less;
 use wire::numbers::number16_at;
 use wire::parts::part;
 
-// Entries of SDT and EIT have running_status and free_CA_mode beside their loop's length.
+// Entries of tables without a top loop have running_status and free_CA_mode beside their loop's length.
 fn has_status(row: usize) -> bool
-    requires { ⌜ row < 4 ⌝ }
     ensures { λ r. ⌜ sideIf r ≡ sideOf row ⌝ }
 {
-    if row == 1 {
-        return true;
+    if row == 0 {
+        return false;
     }
-    if row == 3 {
-        return true;
+    if row == 2 {
+        return false;
     }
-    false
+    if row == 5 {
+        return false;
+    }
+    true
 }
 
 fn entry(forth: bool, row: usize, s: &[u8], p: Place, room: &mut [u8]) -> Place
-    requires { ⌜ row < 4 ⌝ }
     ensures { λ r. ⌜ Turned (entryFrom forth row) (entryTo forth row) (now (s .entry)) p (now (room .entry)) r (now (room .exit)) ⌝ }
 {
     let q = entry_fields(forth, row, s, p, room);
@@ -40,7 +41,6 @@ fn entry(forth: bool, row: usize, s: &[u8], p: Place, room: &mut [u8]) -> Place
 }
 
 fn entries(forth: bool, row: usize, number: usize, s: &[u8], p: Place, room: &mut [u8]) -> Place
-    requires { ⌜ row < 4 ⌝ }
     ensures { λ r. ⌜ Turned (times (entryFrom forth row) number) (times (entryTo forth row) number) (now (s .entry)) p (now (room .entry)) r (now (room .exit)) ⌝ }
 {
     let mut q = p;
@@ -61,7 +61,6 @@ pub fn entries_forth(
     end: usize,
     room: &mut [u8],
 ) -> Place
-    requires { ⌜ row < 4 ⌝ }
     ensures { λ r. ⌜ EntriesForth top row (now (s .entry)) p end (now (room .entry)) r (now (room .exit)) ⌝ }
 {
     let number = number16_at(s, p.at) as usize;
@@ -99,11 +98,12 @@ pub fn entries_back(
     entries(false, row, number, s, Place { at: p.at, to }, room)
 }
 
+// The top loop is turned as an entry without fields, of which TOT's row has none.
 pub fn top_loop(forth: bool, top: bool, s: &[u8], p: Place, room: &mut [u8]) -> Place
     ensures { λ r. ⌜ Turned (topIf forth top) (topIf (not forth) top) (now (s .entry)) p (now (room .entry)) r (now (room .exit)) ⌝ }
 {
     if top {
-        return turn_loop(forth, false, s, p, room);
+        return entries(forth, 5, 1, s, p, room);
     }
     p
 }

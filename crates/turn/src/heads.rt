@@ -46,7 +46,6 @@ pub fn head(forth: bool, row: usize, s: &[u8], p: Place, room: &mut [u8]) -> Pla
 }
 
 pub fn entry_fields(forth: bool, row: usize, s: &[u8], p: Place, room: &mut [u8]) -> Place
-    requires { ⌜ row < 4 ⌝ }
     ensures { λ r. ⌜ Turned (itemsFrom forth (entryOf row)) (itemsTo forth (entryOf row)) (now (s .entry)) p (now (room .entry)) r (now (room .exit)) ⌝ }
 {
     if row == 1 {
@@ -56,5 +55,8 @@ pub fn entry_fields(forth: bool, row: usize, s: &[u8], p: Place, room: &mut [u8]
     if row == 3 {
         return plain(s, p, 10, room);
     }
-    plain(s, p, 4, room)
+    if row < 4 {
+        return plain(s, p, 4, room);
+    }
+    p
 }

@@ -8,8 +8,8 @@ ghost use Rattle.sheet.specs.Content.{filler};
 ghost use Rattle.sheet.specs.Sheet.{sheetItem};
 ghost use Rattle.sheet.specs.Section.{sectionItem};
 ghost use Rattle.turn.specs.Ways.{itemFrom, itemTo, special, spanOf};
+use copy::copy;
 use forms::Place;
-use forms::copy;
 use forms::past;
 use forms::put_byte;
 use wire::numbers::byte_at;
@@ -19,11 +19,13 @@ use wire::wide;
 pub fn plain(s: &[u8], p: Place, n: usize, room: &mut [u8]) -> Place
     ensures { λ r. ⌜ Turned (raw n) (raw n) (now (s .entry)) p (now (room .entry)) r (now (room .exit)) ⌝ }
 {
-    copy(s, p.at, n, room, p.to);
-    Place {
-        at: past(p.at, n),
-        to: past(p.to, n),
+    if copy(s, p.at, n, room, p.to) {
+        return Place {
+            at: p.at + n,
+            to: p.to + n,
+        };
     }
+    p
 }
 
 // One number more than the value in a byte of fields can be: version_number has five bits, EIT_schedule_flag one.

@@ -29,7 +29,7 @@ returns : tie.Need-returns
 returns c = body-forth-none (c .before .before .before .before .before .before .before .before .before .before .before .before .before .before .args .number) (c .before .before .before .before .before .before .before .before .before .before .is-one .result) (c .before .before .before .before .before .before .before .before .before .before .is-one .ensures ∙ ap (λ (r : Row). eqb (r .top) 1) (c .before .before .before .before .before .before .before .before .before .before .before .row-at .ensures)) (c .before .before .before .before .before .before .before .before .before .before .before .before .before .before .args .end) (eq-eqb (rowAt (c .before .before .before .before .before .before .before .before .before .before .before .before .before .before .args .number) .fixed) 0 (ap (λ (r : Row). r .fixed) (sym (c .before .before .before .before .before .before .before .before .before .before .before .row-at .ensures)) ∙ c .if1 .taken)) (c .before .before .before .before .before .before .before .before .head .ensures) (c .before .before .before .before .top-loop .ensures)
 
 entries-forth-requires : tie.Need-entries-forth-requires
-entries-forth-requires c κs = with-entries (c .before .before .before .before .before .before .before .before .before .before .before .before .before .before .before .args .number) (c .before .before .before .before .before .before .before .before .before .before .before .before .before .before .before .pre) (λ e. c .before .if1 .left (ap (λ (r : Row). r .fixed) (c .before .before .before .before .before .before .before .before .before .before .before .before .row-at .ensures) ∙ e))
+entries-forth-requires c κs = search needs
 
 same-length-2 : tie.Need-same-length-2
 same-length-2 c = search needs

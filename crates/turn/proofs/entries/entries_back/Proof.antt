@@ -28,7 +28,7 @@ put-number-requires : tie.Need-put-number-requires
 put-number-requires c κs = search needs
 
 entries-requires : tie.Need-entries-requires
-entries-requires c κs = c .before .before .before .before .before .before .before .before .before .before .before .before .before .pre .known
+entries-requires c κs = search needs
 
 same-length : tie.Need-same-length
 same-length c = search needs
@@ -53,7 +53,7 @@ put-number-requires-2 : tie.Need-put-number-requires-2
 put-number-requires-2 c κs = search needs
 
 entries-requires-2 : tie.Need-entries-requires-2
-entries-requires-2 c κs = c .before .before .before .before .before .before .before .before .before .before .before .before .pre .known
+entries-requires-2 c κs = search needs
 
 same-length-2 : tie.Need-same-length-2
 same-length-2 c = search needs

@@ -4,17 +4,17 @@ use borrow.Author.Needs.{needs}
 use Rattle.turn.proofs.entries.top_loop.Statement.{statement}
 use Rattle.turn.proofs.entries.top_loop.Tie as tie
 
-turn-loop-requires : tie.Need-turn-loop-requires
-turn-loop-requires c κs = search needs
+entries-requires : tie.Need-entries-requires
+entries-requires c κs = search needs
 
 same-length : tie.Need-same-length
 same-length c = search needs
 
 returns : tie.Need-returns
-returns c = top-turned (c .before .before .before .before .before .before .before .args .forth) (c .before .before .before .before .before .before .before .args .top) (c .before .before .before .before .if1 .taken) (c .before .before .turn-loop .ensures)
+returns c = top-turned (c .before .before .before .before .before .before .before .args .forth) (c .before .before .before .before .before .before .before .args .top) (c .before .before .before .before .if1 .taken) (c .before .before .entries .ensures)
 
 returns-2 : tie.Need-returns-2
 returns-2 c = no-top-turned (c .before .before .before .args .forth) (c .before .before .before .args .top) (c .if1 .left)
 
 pub top-loop-spec : {M : Type 1} → statement M
-top-loop-spec = tie.close (tie.spec turn-loop-requires same-length returns returns-2)
+top-loop-spec = tie.close (tie.spec entries-requires same-length returns returns-2)

@@ -1,7 +1,7 @@
 -- `turn::heads::entry_fields` meets its contract.
 use mathlib.Core.List.{[], _∷_}
 use Rattle.sheet.specs.Content.{plain, flags}
-use Rattle.turn.proofs.HeadLaws.{sdt-entry, eit-entry, nit-entry, an-item, last-item, plain-item, as-items}
+use Rattle.turn.proofs.HeadLaws.{sdt-entry, eit-entry, nit-entry, no-entry, no-items, an-item, last-item, plain-item, as-items}
 use borrow.Author.Needs.{needs}
 use Rattle.turn.proofs.heads.entry_fields.Statement.{statement}
 use Rattle.turn.proofs.heads.entry_fields.Tie as tie
@@ -34,7 +34,10 @@ same-length-3 : tie.Need-same-length-3
 same-length-3 c = search needs
 
 returns-3 : tie.Need-returns-3
-returns-3 c = as-items (c .before .before .before .before .before .before .before .before .args .forth) (nit-entry (c .before .before .before .before .before .before .before .before .args .row) (c .before .before .before .before .before .before .before .before .pre) (c .before .before .before .before .before .if1 .left) (c .before .before .before .before .if2 .left)) (last-item (c .before .before .before .before .before .before .before .before .args .forth) (plain 4) (plain-item (c .before .before .before .before .before .before .before .before .args .forth) 4 (c .before .before .plain3 .ensures)))
+returns-3 c = as-items (c .before .before .before .before .before .before .before .before .before .args .forth) (nit-entry (c .before .before .before .before .before .before .before .before .before .args .row) (c .before .before .before .before .if3 .taken) (c .before .before .before .before .before .before .if1 .left) (c .before .before .before .before .before .if2 .left)) (last-item (c .before .before .before .before .before .before .before .before .before .args .forth) (plain 4) (plain-item (c .before .before .before .before .before .before .before .before .before .args .forth) 4 (c .before .before .plain3 .ensures)))
+
+returns-4 : tie.Need-returns-4
+returns-4 c = as-items (c .before .before .before .before .before .args .forth) (no-entry (c .before .before .before .before .before .args .row) (c .if3 .left)) (no-items (c .before .before .before .before .before .args .forth))
 
 pub entry-fields-spec : {M : Type 1} → statement M
 entry-fields-spec =
@@ -49,4 +52,5 @@ entry-fields-spec =
     returns-2
     plain-requires-3
     same-length-3
-    returns-3)
+    returns-3
+    returns-4)

@@ -1,25 +1,40 @@
 -- `turn::pieces::plain` meets its contract.
+use native.Mathlib.Omega.{arith}
+use mathlib.Core.Path.{refl}
 use borrow.Author.Needs.{needs}
-use Rattle.turn.proofs.PieceLaws.{turned-raw}
+use Rattle.copy.proofs.Copies.{copies-fits}
+use Rattle.turn.proofs.PieceLaws.{turned-raw, raw-not-there}
 use Rattle.turn.proofs.pieces.plain.Statement.{statement}
 use Rattle.turn.proofs.pieces.plain.Tie as tie
 
 copy-requires : tie.Need-copy-requires
 copy-requires c κs = search needs
 
-past-requires : tie.Need-past-requires
-past-requires c κs = search needs
+add-t8 : tie.Need-add-t8
+add-t8 c =
+    let e = c .before .before .before .before .before .before .before .before .args in
+    omega (arith, copies-fits (e .s .now) (e .p .at) (e .n) (e .room .now) (e .p .to) (c .before .before .before .before .copy .ensures .0) (c .before .if1 .taken), c .before .before .before .before .before .before .before .before .good .0 .0)
 
-past-requires-2 : tie.Need-past-requires-2
-past-requires-2 c κs = search needs
+add-t9 : tie.Need-add-t9
+add-t9 c =
+    let e = c .before .before .before .before .before .before .before .before .before .args in
+    omega (arith, copies-fits (e .s .now) (e .p .at) (e .n) (e .room .now) (e .p .to) (c .before .before .before .before .before .copy .ensures .0) (c .before .before .if1 .taken), c .before .before .before .before .before .before .before .before .before .good .1 .1 .1 .0 .0)
 
 same-length : tie.Need-same-length
 same-length c = search needs
 
 returns : tie.Need-returns
 returns c =
-    let e = c .before .before .before .before .before .before .before .before in
-    turned-raw (e .args .s .now) (e .args .room .now) (e .good .0 .0) (e .good .1 .1 .1 .0 .0) (e .args .p) (e .args .n) (c .before .before .before .before .copy .ensures) (c .before .past .ensures) (c .past2 .ensures)
+    let e = c .before .before .before .before .before .before .before .before .before .args in
+    turned-raw (e .s .now) (e .room .now) (c .before .before .before .before .before .before .before .before .before .good .0 .0) (c .before .before .before .before .before .before .before .before .before .good .1 .1 .1 .0 .0) (e .p) (e .n) (c .before .before .before .before .before .copy .ensures .1) refl refl
+
+same-length-2 : tie.Need-same-length-2
+same-length-2 c = search needs
+
+returns-2 : tie.Need-returns-2
+returns-2 c =
+    let e = c .before .before .before .before .before .before .before .args in
+    raw-not-there (e .s .now) (e .room .now) (c .before .before .before .before .before .before .before .good .0 .0) (c .before .before .before .before .before .before .before .good .1 .1 .1 .0 .0) (e .p) (e .n) (c .before .before .before .copy .ensures .0) (c .if1 .left)
 
 pub plain-spec : {M : Type 1} → statement M
-plain-spec = tie.close (tie.spec copy-requires past-requires past-requires-2 same-length returns)
+plain-spec = tie.close (tie.spec copy-requires add-t8 add-t9 same-length returns same-length-2 returns-2)
