@@ -29,7 +29,7 @@ use Rattle.sheet.specs.Sheet.{sheetBody, sheetOf, SheetOk}
 use Rattle.sheet.specs.Section.{sectionBody, bodyBytes, sectionLength, front, seal, sectionOf, contentOf, readSheet}
 use Rattle.sheet.specs.Reads.{judgedSheet}
 use Rattle.turn.specs.Ways.{putNumber}
-use Rattle.turn.specs.Bodies.{BodyForth, BodyBack, SectionWritten, SheetWritten}
+use Rattle.turn.specs.Bodies.{BodyForth, BodyBack, SectionWritten, SheetWritten, AcceptedWritten}
 use Rattle.turn.specs.Turn as turn
 use Rattle.turn.specs.Answers.{toldRefusal}
 use Rattle.turn.proofs.SectionLaws.{Holds, numbers-of, front-is, front-length, second, first-byte, section-length, seal-length, frame-lt}
@@ -257,6 +257,21 @@ sheet-never s o number w h = record {
 pub section-no-room : (n : ℕ) (s : List ℕ) → n < 4096 → turn.toSection n s ≡ turn.refuses 21 0
 unfolding turn.toSection
 section-no-room n s h = rw (lt-ltb n 4096 h) refl
+
+-- written where it was accepted, and only there
+pub accepted-written : (x : Bool) (s : List ℕ) → x ≡ true → {row r : ℕ} {o o' : List ℕ} → row ≡ rowOf (getD s 0 0) → SheetWritten s row o r o' → AcceptedWritten x s o r o'
+accepted-written x s e {row} {r} {o} {o'} h w =
+    record {
+      written = λ f. subst (λ k. SheetWritten s k o r o') h w;
+      kept = λ f. let z : true ≡ false = sym e ∙ f in let k : _≡_ {A = ℕ} 0 1 = cc in absurd (omega arith);
+    }
+
+pub refused-kept : (x : Bool) (s : List ℕ) → x ≡ false → {r : ℕ} {o : List ℕ} → AcceptedWritten x s o r o
+refused-kept x s e =
+    record {
+      written = λ f. let z : true ≡ false = sym f ∙ e in let k : _≡_ {A = ℕ} 0 1 = cc in absurd (omega arith);
+      kept = λ f. refl;
+    }
 
 refused-through : {A B : Type 0} (r : reading.Reading A) (f : A → B) (k : ℕ) → (r >>= λ a. reading.value (f a)) ≡ reading.refused k → r ≡ reading.refused k
 refused-through (reading.value a) f k e = absurd (never e)

@@ -2,10 +2,12 @@
 use Prim.Native.Nat.{ℕ, _+_, _≤_, _<_}
 use mathlib.Core.Path.{_≡_}
 use mathlib.Core.List.{List}
-use lib.ListN.{length}
+use mathlib.Core.Bool.{Bool, true, false}
+use lib.ListN.{length, getD}
 use Rattle.wire.specs.Parts.{Part}
 use Rattle.wire.specs.Reading.{value}
-use Rattle.verdict.specs.Verdict.{accepted}
+use Rattle.tables.specs.Tables.{rowOf}
+use Rattle.verdict.specs.Verdict as verdict
 use Rattle.section.specs.Reading.{judged}
 use Rattle.forms.specs.Room.{put, Done}
 use Rattle.sheet.specs.Content.{Body, Content, rowIn}
@@ -33,4 +35,9 @@ pub record SectionWritten (s : List ℕ) (n row : ℕ) (o o' : List ℕ) : Type 
 
 -- a sheet is made of a section's content, at the room's start; r is its length
 pub record SheetWritten (s : List ℕ) (row : ℕ) (o : List ℕ) (r : ℕ) (o' : List ℕ) : Type 0 where
-  pub written : (c : Content) → judged s ≡ accepted → contentOf s ≡ value c → row ≡ rowIn c → 5120 ≤ length o → (o' ≡ put o 0 (sheetOf c)) × (r ≡ length (sheetOf c))
+  pub written : (c : Content) → judged s ≡ verdict.accepted → contentOf s ≡ value c → row ≡ rowIn c → 5120 ≤ length o → (o' ≡ put o 0 (sheetOf c)) × (r ≡ length (sheetOf c))
+
+-- the same of a section that was accepted; of another nothing is written
+pub record AcceptedWritten (accepted : Bool) (s o : List ℕ) (r : ℕ) (o' : List ℕ) : Type 0 where
+  pub written : accepted ≡ true → SheetWritten s (rowOf (getD s 0 0)) o r o'
+  pub kept : accepted ≡ false → o' ≡ o

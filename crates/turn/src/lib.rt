@@ -8,8 +8,8 @@ use sheet::Judged;
 use tables::row_of;
 use verdict::Verdict;
 use verdict::is_accepted;
+use whole::write_accepted;
 use whole::write_section;
-use whole::write_sheet;
 use wire::numbers::byte_at;
 
 mod bodies;
@@ -75,8 +75,9 @@ pub fn to_sheet(section: &[u8], room: &mut [u8]) -> SheetAnswer
         return SheetAnswer::Room;
     }
     let verdict = judge(section);
-    if is_accepted(verdict) {
-        let n = write_sheet(section, row_of(byte_at(section, 0)), room);
+    let accepted = is_accepted(verdict);
+    let n = write_accepted(accepted, section, room);
+    if accepted {
         return SheetAnswer::Wrote(n);
     }
     SheetAnswer::Refused(verdict)

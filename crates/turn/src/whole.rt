@@ -7,7 +7,7 @@ ghost use Rattle.wire.specs.If.{if_then_else_};
 ghost use Rattle.crc.specs.Crc.{crc};
 ghost use Rattle.forms.specs.Room.{sum};
 ghost use Rattle.turn.specs.Ways.{putNumber};
-ghost use Rattle.turn.specs.Bodies.{SectionWritten, SheetWritten};
+ghost use Rattle.turn.specs.Bodies.{SectionWritten, SheetWritten, AcceptedWritten};
 use crate::bodies::body_back;
 use crate::bodies::body_forth;
 use crate::bodies::is_one;
@@ -16,6 +16,7 @@ use forms::Place;
 use forms::past;
 use forms::put_byte;
 use tables::row_at;
+use tables::row_of;
 use wire::less;
 use wire::numbers::byte_at;
 use wire::parts::part;
@@ -67,7 +68,7 @@ pub fn write_section(sheet: &[u8], n: usize, number: usize, room: &mut [u8])
 }
 
 // The sheet of a section that was judged, and its length.
-pub fn write_sheet(section: &[u8], number: usize, room: &mut [u8]) -> usize
+fn write_sheet(section: &[u8], number: usize, room: &mut [u8]) -> usize
     ensures { λ r. ⌜ SheetWritten (now (section .entry)) number (now (room .entry)) r (now (room .exit)) ⌝ }
 {
     if 6 <= number {
@@ -78,4 +79,14 @@ pub fn write_sheet(section: &[u8], number: usize, room: &mut [u8]) -> usize
     put_byte(room, 0, byte_at(section, 0));
     let q = body_back(number, section, Place { at: 3, to: 1 }, end, room);
     q.to
+}
+
+// The same where the section was accepted; otherwise nothing is written.
+pub fn write_accepted(accepted: bool, section: &[u8], room: &mut [u8]) -> usize
+    ensures { λ r. ⌜ AcceptedWritten accepted (now (section .entry)) (now (room .entry)) r (now (room .exit)) ⌝ }
+{
+    if accepted {
+        return write_sheet(section, row_of(byte_at(section, 0)), room);
+    }
+    0
 }

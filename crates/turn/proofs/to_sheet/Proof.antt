@@ -1,10 +1,8 @@
 -- `turn::to_sheet` meets its contract.
-use mathlib.Core.Path.{_≡_, refl, sym, ap, ap₂, _∙_}
+use mathlib.Core.Path.{_≡_, refl, sym, ap, _∙_}
 use native.Mathlib.Omega.{arith}
-use Prim.Native.Nat.{ℕ, _≤_}
 use lib.ListN.{length}
-use Rattle.tables.specs.Tables.{rowOf}
-use Rattle.verdict.specs.Verdict.{told, isAccepted}
+use Rattle.verdict.specs.Verdict.{isAccepted}
 use Rattle.turn.specs.Turn.{wrote, answer, roomAfter}
 use Rattle.turn.specs.Answers.{toldRefusal}
 use Rattle.turn.proofs.WholeLaws.{sheet-no-room, sheet-refused, sheet-made, accepted-is}
@@ -24,32 +22,28 @@ judge-requires c κs = search needs
 is-accepted-requires : tie.Need-is-accepted-requires
 is-accepted-requires c κs = search needs
 
-byte-at-requires : tie.Need-byte-at-requires
-byte-at-requires c κs = search needs
-
-row-of-requires : tie.Need-row-of-requires
-row-of-requires c κs = search needs
-
-write-sheet-requires : tie.Need-write-sheet-requires
-write-sheet-requires c κs = search needs
+write-accepted-requires : tie.Need-write-accepted-requires
+write-accepted-requires c κs = search needs
 
 same-length : tie.Need-same-length
 same-length c = search needs
 
 returns-2 : tie.Need-returns-2
 returns-2 c =
-    let o = c .before .before .before .before .before .before .before .before .before .before .before .before .args .room .now in
-    let a = sym (c .before .before .before .before .before .before .before .before .judge .ensures) ∙ accepted-is _ (sym (c .before .before .before .before .before .before .before .is-accepted .ensures) ∙ c .before .before .before .before .before .before .if2 .taken) in
-    let m = sheet-made (length o) (c .before .before .before .before .before .before .before .before .before .before .before .before .args .section .now) (λ k. c .before .before .before .before .before .before .before .before .before .before .before .shared-slice-known .given k .fits) (c .before .before .before .before .before .before .before .before .before .if1 .left) a in
-    let r = c .before .before .before .before .row-of .ensures ∙ ap rowOf (c .before .before .before .before .before .byte-at .ensures) ∙ m .row in
-    let x = c .before .before .write-sheet .ensures .written (m .content) a (m .reads) r (c .before .before .before .before .before .before .before .before .before .if1 .left) in
+    let o = c .before .before .before .before .before .before .before .before .before .before .args .room .now in
+    let a = sym (c .before .before .before .before .before .before .judge .ensures) ∙ accepted-is _ (sym (c .before .before .before .before .before .is-accepted .ensures) ∙ c .if2 .taken) in
+    let m = sheet-made (length o) (c .before .before .before .before .before .before .before .before .before .before .args .section .now) (λ k. c .before .before .before .before .before .before .before .before .before .shared-slice-known .given k .fits) (c .before .before .before .before .before .before .before .if1 .left) a in
+    let x = c .before .before .before .write-accepted .ensures .written (c .if2 .taken) .written (m .content) a (m .reads) (m .row) (c .before .before .before .before .before .before .before .if1 .left) in
     (ap wrote (x .1) ∙ ap answer (sym (m .gives)), x .0 ∙ ap (roomAfter o) (sym (m .gives)))
+
+same-length-2 : tie.Need-same-length-2
+same-length-2 c = search needs
 
 returns-3 : tie.Need-returns-3
 returns-3 c =
-    let o = c .before .before .before .before .before .before .args .room .now in
-    let x = sheet-refused (length o) (c .before .before .before .before .before .before .args .section .now) o (c .before .before .before .if1 .left) (ap isAccepted (sym (c .before .before .judge .ensures)) ∙ sym (c .before .is-accepted .ensures) ∙ c .if2 .left) in
-    (ap toldRefusal (c .before .before .judge .ensures) ∙ x .0, x .1)
+    let o = c .before .before .before .before .before .before .before .before .before .before .args .room .now in
+    let x = sheet-refused (length o) (c .before .before .before .before .before .before .before .before .before .before .args .section .now) o (c .before .before .before .before .before .before .before .if1 .left) (ap isAccepted (sym (c .before .before .before .before .before .before .judge .ensures)) ∙ sym (c .before .before .before .before .before .is-accepted .ensures) ∙ c .if2 .left) in
+    (ap toldRefusal (c .before .before .before .before .before .before .judge .ensures) ∙ x .0, c .before .before .before .write-accepted .ensures .kept (c .if2 .left) ∙ x .1)
 
 pub to-sheet-spec : {M : Type 1} → statement M
-to-sheet-spec = tie.close (tie.spec returns judge-requires is-accepted-requires byte-at-requires row-of-requires write-sheet-requires same-length returns-2 returns-3)
+to-sheet-spec = tie.close (tie.spec returns judge-requires is-accepted-requires write-accepted-requires same-length returns-2 same-length-2 returns-3)
