@@ -3,7 +3,6 @@ pub mod Marks
 pub mod Runs
 pub mod Seam
 pub mod Rooms
-pub mod Blocks
 pub mod Turns
 pub mod Goes
 pub mod Beside
