@@ -16,7 +16,7 @@
  * - Of the C library they call memcpy and memset.
  *
  * The stack that a call needs at most, in bytes below the caller's stack pointer, its return address included and that of memcpy and memset left out:
- *   lohitunga_roll_take            2,168
+ *   lohitunga_roll_take            2,184
  *   lohitunga_to_sheet             1,976
  *   lohitunga_search               1,832
  *   lohitunga_to_section           1,384
