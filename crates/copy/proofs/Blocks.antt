@@ -7,9 +7,6 @@ use native.Mathlib.Nat.{add-assoc}
 use native.Mathlib.Omega.{arith}
 use lib.ListN.{length, take, drop}
 use lib.Seq.{paste, take-paste, drop-paste, take-take, take-add, take-append-add, drop-drop, length-take-le}
-use lib.Dec.{leb}
-use borrow.Author.Tests.{leb-true}
-use Rattle.wire.proofs.IfLaws.{if-case}
 use Rattle.copy.specs.Copy.{block}
 
 -- a block read into room of its own size, and written from there
@@ -57,7 +54,3 @@ more d dst src from at i j k hd hs low high e =
 pub block-large : (long : Bool) → 8 ≤ block long
 block-large true = omega arith
 block-large false = omega arith
-
--- long blocks are taken where there are as many bytes
-pub block-fits : (n : ℕ) → 8 ≤ n → block (leb 32 n) ≤ n
-block-fits n h = if-case (λ m. m ≤ n) (leb 32 n) (λ e. leb-true 32 n e) (λ e. h)

@@ -79,7 +79,7 @@ fn in_blocks(long: bool, src: &[u8], from: usize, n: usize, dst: &mut [u8], at: 
 }
 
 // Where src has the bytes and dst has room for them; otherwise dst stays. It tells which.
-pub fn copy(src: &[u8], from: usize, n: usize, dst: &mut [u8], at: usize) -> bool
+fn copy_by(long: bool, src: &[u8], from: usize, n: usize, dst: &mut [u8], at: usize) -> bool
     ensures { λ r. ⌜ (r ≡ copies (now (src .entry)) from n (now (dst .entry)) at) × (now (dst .exit) ≡ copied (now (src .entry)) from n (now (dst .entry)) at) ⌝ }
 {
     if lacks(src.len(), from, n) {
@@ -88,10 +88,24 @@ pub fn copy(src: &[u8], from: usize, n: usize, dst: &mut [u8], at: usize) -> boo
     if lacks(dst.len(), at, n) {
         return false;
     }
-    if n < 8 {
+    if n < size_of(long) {
         singly(src, from, n, dst, at);
         return true;
     }
-    in_blocks(32 <= n, src, from, n, dst, at);
+    in_blocks(long, src, from, n, dst, at);
     true
+}
+
+// For runs that are mostly long.
+pub fn copy(src: &[u8], from: usize, n: usize, dst: &mut [u8], at: usize) -> bool
+    ensures { λ r. ⌜ (r ≡ copies (now (src .entry)) from n (now (dst .entry)) at) × (now (dst .exit) ≡ copied (now (src .entry)) from n (now (dst .entry)) at) ⌝ }
+{
+    copy_by(true, src, from, n, dst, at)
+}
+
+// The same, for runs that are mostly under 32 bytes.
+pub fn copy_few(src: &[u8], from: usize, n: usize, dst: &mut [u8], at: usize) -> bool
+    ensures { λ r. ⌜ (r ≡ copies (now (src .entry)) from n (now (dst .entry)) at) × (now (dst .exit) ≡ copied (now (src .entry)) from n (now (dst .entry)) at) ⌝ }
+{
+    copy_by(false, src, from, n, dst, at)
 }

@@ -6,7 +6,7 @@ ghost use Rattle.forms.specs.Room.{Turned, sum};
 ghost use Rattle.turn.specs.Ways.{sideIf, sideAt, sideSize, sideBack, putNumber, loopFrom, loopTo};
 use crate::counts::descriptors_in;
 use crate::counts::descriptors_size;
-use copy::copy;
+use copy::copy_few;
 use copy::lacks;
 use forms::Place;
 use forms::past;
@@ -63,7 +63,7 @@ fn loop_forth(status: bool, s: &[u8], p: Place, room: &mut [u8]) -> Place
     let to = p.to + 2;
     let n = descriptors_size(s, at);
     put_number(room, p.to, past(side(status, s, p.at) * 256, n));
-    if copy(s, from, n, room, to) {
+    if copy_few(s, from, n, room, to) {
         return Place {
             at: from + n,
             to: to + n,
@@ -88,7 +88,7 @@ fn loop_back(status: bool, s: &[u8], p: Place, room: &mut [u8]) -> Place
     let n = length12_at(s, p.at);
     side_back(status, byte_at(s, p.at), room, p.to);
     put_number(room, at, descriptors_in(part(s, from, n)));
-    if copy(s, from, n, room, to) {
+    if copy_few(s, from, n, room, to) {
         return Place {
             at: from + n,
             to: to + n,

@@ -8,7 +8,7 @@ ghost use Rattle.sheet.specs.Content.{filler};
 ghost use Rattle.sheet.specs.Sheet.{sheetItem};
 ghost use Rattle.sheet.specs.Section.{sectionItem};
 ghost use Rattle.turn.specs.Ways.{itemFrom, itemTo, special, spanOf};
-use copy::copy;
+use copy::copy_few;
 use forms::Place;
 use forms::past;
 use forms::put_byte;
@@ -19,7 +19,7 @@ use wire::wide;
 pub fn plain(s: &[u8], p: Place, n: usize, room: &mut [u8]) -> Place
     ensures { λ r. ⌜ Turned (raw n) (raw n) (now (s .entry)) p (now (room .entry)) r (now (room .exit)) ⌝ }
 {
-    if copy(s, p.at, n, room, p.to) {
+    if copy_few(s, p.at, n, room, p.to) {
         return Place {
             at: p.at + n,
             to: p.to + n,

@@ -67,18 +67,18 @@ descriptors-in-requires c κs = search needs
 put-number-requires : tie.Need-put-number-requires
 put-number-requires c κs = search needs
 
-copy-requires : tie.Need-copy-requires
-copy-requires c κs = search needs
+copy-few-requires : tie.Need-copy-few-requires
+copy-few-requires c κs = search needs
 
 add-t24 : tie.Need-add-t24
 add-t24 c =
     let a = c .before .before .before .before .before .before .before .before .before .before .before .before .before .before .before .before .before .before .before .before .before .before .before .before .before .before .args in
-    omega (arith, copies-fits (a .s .now) (a .p .at + 2) (c .before .before .before .before .before .before .before .before .before .before .before .before .before .before .before .before .length12-at .result) _ (a .p .to + c .before .before .before .before .before .before .before .before .before .before .before .before .before .before .before .before .before .before .before .before .before .before .before .side-size .result + 2) (c .before .before .before .copy .ensures .0) (c .if3 .taken), c .before .before .before .before .before .before .before .before .before .before .before .before .before .before .before .before .before .before .before .before .before .before .before .before .before .before .good .1 .0 .0)
+    omega (arith, copies-fits (a .s .now) (a .p .at + 2) (c .before .before .before .before .before .before .before .before .before .before .before .before .before .before .before .before .length12-at .result) _ (a .p .to + c .before .before .before .before .before .before .before .before .before .before .before .before .before .before .before .before .before .before .before .before .before .before .before .side-size .result + 2) (c .before .before .before .copy-few .ensures .0) (c .if3 .taken), c .before .before .before .before .before .before .before .before .before .before .before .before .before .before .before .before .before .before .before .before .before .before .before .before .before .before .good .1 .0 .0)
 
 add-t25 : tie.Need-add-t25
 add-t25 c =
     let a = c .before .before .before .before .before .before .before .before .before .before .before .before .before .before .before .before .before .before .before .before .before .before .before .before .before .before .args in
-    omega (arith, copies-fits (a .s .now) (a .p .at + 2) (c .before .before .before .before .before .before .before .before .before .before .before .before .before .before .before .before .length12-at .result) _ (a .p .to + c .before .before .before .before .before .before .before .before .before .before .before .before .before .before .before .before .before .before .before .before .before .before .before .side-size .result + 2) (c .before .before .before .copy .ensures .0) (c .if3 .taken), c .before .before .before .before .before .before .before .before .before .before .before .before .before .before .before .before .before .before .before .before .before .before .before .before .before .before .good .1 .1 .1 .0 .0)
+    omega (arith, copies-fits (a .s .now) (a .p .at + 2) (c .before .before .before .before .before .before .before .before .before .before .before .before .before .before .before .before .length12-at .result) _ (a .p .to + c .before .before .before .before .before .before .before .before .before .before .before .before .before .before .before .before .before .before .before .before .before .before .before .side-size .result + 2) (c .before .before .before .copy-few .ensures .0) (c .if3 .taken), c .before .before .before .before .before .before .before .before .before .before .before .before .before .before .before .before .before .before .before .before .before .before .before .before .before .before .good .1 .1 .1 .0 .0)
 
 same-length : tie.Need-same-length
 same-length c = search needs
@@ -88,7 +88,7 @@ returns-3 c =
     let a = c .before .before .before .before .before .before .before .before .before .before .before .before .before .before .before .before .before .before .before .before .before .before .before .before .before .before .args in
     turned-loop-back (a .s .now) (a .room .now) (c .before .before .before .before .before .before .before .before .before .before .before .before .before .before .before .before .before .before .before .before .before .before .before .before .before .before .good .1 .0 .0) (c .before .before .before .before .before .before .before .before .before .before .before .before .before .before .before .before .before .before .before .before .before .before .before .before .before .before .good .1 .1 .1 .0 .0) (a .p) (a .status) (c .before .before .before .before .before .before .before .before .before .before .before .before .before .before .before .before .length12-at .result) (c .before .before .before .before .before .before .before .before .descriptors-in .result) (a .p .to + c .before .before .before .before .before .before .before .before .before .before .before .before .before .before .before .before .before .before .before .before .before .before .before .side-size .result) _ _
     (c .before .before .before .before .before .before .before .before .before .before .before .before .before .before .before .before .length12-at .ensures .same) (subst (λ l. NumberIn descriptor l (c .before .before .before .before .before .before .before .before .descriptors-in .result)) (c .before .before .before .before .before .before .before .before .before .part .ensures) (c .before .before .before .before .before .before .before .before .descriptors-in .ensures)) (ap (λ k. a .p .to + k) (c .before .before .before .before .before .before .before .before .before .before .before .before .before .before .before .before .before .before .before .before .before .before .before .side-size .ensures))
-    (c .before .before .before .before .before .before .before .before .before .before .before .before .before .side-back .ensures ∙ cc (c .before .before .before .before .before .before .before .before .before .before .before .before .before .before .before .byte-at .ensures)) (c .before .before .before .before .before .before .before .put-number .ensures) (c .before .before .before .copy .ensures .1) refl refl
+    (c .before .before .before .before .before .before .before .before .before .before .before .before .before .side-back .ensures ∙ cc (c .before .before .before .before .before .before .before .before .before .before .before .before .before .before .before .byte-at .ensures)) (c .before .before .before .before .before .before .before .put-number .ensures) (c .before .before .before .copy-few .ensures .1) refl refl
 
 same-length-2 : tie.Need-same-length-2
 same-length-2 c = search needs
@@ -98,7 +98,7 @@ returns-4 c =
     let a = c .before .before .before .before .before .before .before .before .before .before .before .before .before .before .before .before .before .before .before .before .before .before .before .before .before .before .args in
     loop-back-not-there (a .s .now) (a .room .now) (c .before .before .before .before .before .before .before .before .before .before .before .before .before .before .before .before .before .before .before .before .before .before .before .before .before .before .good .1 .0 .0) (c .before .before .before .before .before .before .before .before .before .before .before .before .before .before .before .before .before .before .before .before .before .before .before .before .before .before .good .1 .1 .1 .0 .0) (a .p) (a .status) (c .before .before .before .before .before .before .before .before .before .before .before .before .before .before .before .before .length12-at .result) (c .before .before .before .before .before .before .before .before .descriptors-in .result) (a .p .to + c .before .before .before .before .before .before .before .before .before .before .before .before .before .before .before .before .before .before .before .before .before .before .before .side-size .result) _ _
     (c .before .before .before .before .before .before .before .before .before .before .before .before .before .before .before .before .length12-at .ensures .same) (subst (λ l. NumberIn descriptor l (c .before .before .before .before .before .before .before .before .descriptors-in .result)) (c .before .before .before .before .before .before .before .before .before .part .ensures) (c .before .before .before .before .before .before .before .before .descriptors-in .ensures)) (ap (λ k. a .p .to + k) (c .before .before .before .before .before .before .before .before .before .before .before .before .before .before .before .before .before .before .before .before .before .before .before .side-size .ensures))
-    (c .before .before .before .before .before .before .before .before .before .before .before .before .before .side-back .ensures ∙ cc (c .before .before .before .before .before .before .before .before .before .before .before .before .before .before .before .byte-at .ensures)) (c .before .before .before .before .before .before .before .put-number .ensures) (c .before .before .before .copy .ensures .0) (c .if3 .left)
+    (c .before .before .before .before .before .before .before .before .before .before .before .before .before .side-back .ensures ∙ cc (c .before .before .before .before .before .before .before .before .before .before .before .before .before .before .before .byte-at .ensures)) (c .before .before .before .before .before .before .before .put-number .ensures) (c .before .before .before .copy-few .ensures .0) (c .if3 .left)
 
 pub loop-back-spec : {M : Type 1} → statement M
 loop-back-spec =
@@ -119,7 +119,7 @@ loop-back-spec =
     part-requires
     descriptors-in-requires
     put-number-requires
-    copy-requires
+    copy-few-requires
     add-t24
     add-t25
     same-length

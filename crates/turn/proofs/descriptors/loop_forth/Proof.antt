@@ -62,18 +62,18 @@ past-requires c κs = search needs
 put-number-requires : tie.Need-put-number-requires
 put-number-requires c κs = search needs
 
-copy-requires : tie.Need-copy-requires
-copy-requires c κs = search needs
+copy-few-requires : tie.Need-copy-few-requires
+copy-few-requires c κs = search needs
 
 add-t21 : tie.Need-add-t21
 add-t21 c =
     let a = c .before .before .before .before .before .before .before .before .before .before .before .before .before .before .before .before .before .before .before .before .before .args in
-    omega (arith, copies-fits (a .s .now) (a .p .at + c .before .before .before .before .before .before .before .before .before .before .before .before .before .before .before .before .before .before .side-size .result + 2) (c .before .before .before .before .before .before .before .before .before .before .before .descriptors-size .result) _ (a .p .to + 2) (c .before .before .before .copy .ensures .0) (c .if3 .taken), c .before .before .before .before .before .before .before .before .before .before .before .before .before .before .before .before .before .before .before .before .before .good .1 .0 .0)
+    omega (arith, copies-fits (a .s .now) (a .p .at + c .before .before .before .before .before .before .before .before .before .before .before .before .before .before .before .before .before .before .side-size .result + 2) (c .before .before .before .before .before .before .before .before .before .before .before .descriptors-size .result) _ (a .p .to + 2) (c .before .before .before .copy-few .ensures .0) (c .if3 .taken), c .before .before .before .before .before .before .before .before .before .before .before .before .before .before .before .before .before .before .before .before .before .good .1 .0 .0)
 
 add-t22 : tie.Need-add-t22
 add-t22 c =
     let a = c .before .before .before .before .before .before .before .before .before .before .before .before .before .before .before .before .before .before .before .before .before .args in
-    omega (arith, copies-fits (a .s .now) (a .p .at + c .before .before .before .before .before .before .before .before .before .before .before .before .before .before .before .before .before .before .side-size .result + 2) (c .before .before .before .before .before .before .before .before .before .before .before .descriptors-size .result) _ (a .p .to + 2) (c .before .before .before .copy .ensures .0) (c .if3 .taken), c .before .before .before .before .before .before .before .before .before .before .before .before .before .before .before .before .before .before .before .before .before .good .1 .1 .1 .0 .0)
+    omega (arith, copies-fits (a .s .now) (a .p .at + c .before .before .before .before .before .before .before .before .before .before .before .before .before .before .before .before .before .before .side-size .result + 2) (c .before .before .before .before .before .before .before .before .before .before .before .descriptors-size .result) _ (a .p .to + 2) (c .before .before .before .copy-few .ensures .0) (c .if3 .taken), c .before .before .before .before .before .before .before .before .before .before .before .before .before .before .before .before .before .before .before .before .before .good .1 .1 .1 .0 .0)
 
 same-length : tie.Need-same-length
 same-length c = search needs
@@ -82,7 +82,7 @@ returns-3 : tie.Need-returns-3
 returns-3 c =
     let a = c .before .before .before .before .before .before .before .before .before .before .before .before .before .before .before .before .before .before .before .before .before .args in
     turned-loop-forth (a .s .now) (a .room .now) (c .before .before .before .before .before .before .before .before .before .before .before .before .before .before .before .before .before .before .before .before .before .good .1 .0 .0) (c .before .before .before .before .before .before .before .before .before .before .before .before .before .before .before .before .before .before .before .before .before .good .1 .1 .1 .0 .0) (a .p) (a .status) (a .p .at + c .before .before .before .before .before .before .before .before .before .before .before .before .before .before .before .before .before .before .side-size .result) (c .before .before .before .before .before .before .before .before .before .before .before .descriptors-size .result) _
-    (ap (λ k. a .p .at + k) (c .before .before .before .before .before .before .before .before .before .before .before .before .before .before .before .before .before .before .side-size .ensures)) (c .before .before .before .before .before .before .before .before .before .before .before .descriptors-size .ensures) (c .before .before .before .before .before .before .before .put-number .ensures ∙ cc (c .before .before .before .before .before .before .before .before .past .ensures, c .before .before .before .before .before .before .before .before .before .side .ensures)) (c .before .before .before .copy .ensures .1) refl refl
+    (ap (λ k. a .p .at + k) (c .before .before .before .before .before .before .before .before .before .before .before .before .before .before .before .before .before .before .side-size .ensures)) (c .before .before .before .before .before .before .before .before .before .before .before .descriptors-size .ensures) (c .before .before .before .before .before .before .before .put-number .ensures ∙ cc (c .before .before .before .before .before .before .before .before .past .ensures, c .before .before .before .before .before .before .before .before .before .side .ensures)) (c .before .before .before .copy-few .ensures .1) refl refl
 
 same-length-2 : tie.Need-same-length-2
 same-length-2 c = search needs
@@ -91,7 +91,7 @@ returns-4 : tie.Need-returns-4
 returns-4 c =
     let a = c .before .before .before .before .before .before .before .before .before .before .before .before .before .before .before .before .before .before .before .before .before .args in
     loop-forth-not-there (a .s .now) (a .room .now) (c .before .before .before .before .before .before .before .before .before .before .before .before .before .before .before .before .before .before .before .before .before .good .1 .0 .0) (c .before .before .before .before .before .before .before .before .before .before .before .before .before .before .before .before .before .before .before .before .before .good .1 .1 .1 .0 .0) (a .p) (a .status) (a .p .at + c .before .before .before .before .before .before .before .before .before .before .before .before .before .before .before .before .before .before .side-size .result) (c .before .before .before .before .before .before .before .before .before .before .before .descriptors-size .result) _
-    (ap (λ k. a .p .at + k) (c .before .before .before .before .before .before .before .before .before .before .before .before .before .before .before .before .before .before .side-size .ensures)) (c .before .before .before .before .before .before .before .before .before .before .before .descriptors-size .ensures) (c .before .before .before .before .before .before .before .put-number .ensures ∙ cc (c .before .before .before .before .before .before .before .before .past .ensures, c .before .before .before .before .before .before .before .before .before .side .ensures)) (c .before .before .before .copy .ensures .0) (c .if3 .left)
+    (ap (λ k. a .p .at + k) (c .before .before .before .before .before .before .before .before .before .before .before .before .before .before .before .before .before .before .side-size .ensures)) (c .before .before .before .before .before .before .before .before .before .before .before .descriptors-size .ensures) (c .before .before .before .before .before .before .before .put-number .ensures ∙ cc (c .before .before .before .before .before .before .before .before .past .ensures, c .before .before .before .before .before .before .before .before .before .side .ensures)) (c .before .before .before .copy-few .ensures .0) (c .if3 .left)
 
 pub loop-forth-spec : {M : Type 1} → statement M
 loop-forth-spec =
@@ -111,7 +111,7 @@ loop-forth-spec =
     mul-past
     past-requires
     put-number-requires
-    copy-requires
+    copy-few-requires
     add-t21
     add-t22
     same-length

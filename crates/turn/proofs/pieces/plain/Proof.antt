@@ -7,18 +7,18 @@ use Rattle.turn.proofs.PieceLaws.{turned-raw, raw-not-there}
 use Rattle.turn.proofs.pieces.plain.Statement.{statement}
 use Rattle.turn.proofs.pieces.plain.Tie as tie
 
-copy-requires : tie.Need-copy-requires
-copy-requires c κs = search needs
+copy-few-requires : tie.Need-copy-few-requires
+copy-few-requires c κs = search needs
 
 add-t8 : tie.Need-add-t8
 add-t8 c =
     let e = c .before .before .before .before .before .before .before .before .args in
-    omega (arith, copies-fits (e .s .now) (e .p .at) (e .n) (e .room .now) (e .p .to) (c .before .before .before .before .copy .ensures .0) (c .before .if1 .taken), c .before .before .before .before .before .before .before .before .good .0 .0)
+    omega (arith, copies-fits (e .s .now) (e .p .at) (e .n) (e .room .now) (e .p .to) (c .before .before .before .before .copy-few .ensures .0) (c .before .if1 .taken), c .before .before .before .before .before .before .before .before .good .0 .0)
 
 add-t9 : tie.Need-add-t9
 add-t9 c =
     let e = c .before .before .before .before .before .before .before .before .before .args in
-    omega (arith, copies-fits (e .s .now) (e .p .at) (e .n) (e .room .now) (e .p .to) (c .before .before .before .before .before .copy .ensures .0) (c .before .before .if1 .taken), c .before .before .before .before .before .before .before .before .before .good .1 .1 .1 .0 .0)
+    omega (arith, copies-fits (e .s .now) (e .p .at) (e .n) (e .room .now) (e .p .to) (c .before .before .before .before .before .copy-few .ensures .0) (c .before .before .if1 .taken), c .before .before .before .before .before .before .before .before .before .good .1 .1 .1 .0 .0)
 
 same-length : tie.Need-same-length
 same-length c = search needs
@@ -26,7 +26,7 @@ same-length c = search needs
 returns : tie.Need-returns
 returns c =
     let e = c .before .before .before .before .before .before .before .before .before .args in
-    turned-raw (e .s .now) (e .room .now) (c .before .before .before .before .before .before .before .before .before .good .0 .0) (c .before .before .before .before .before .before .before .before .before .good .1 .1 .1 .0 .0) (e .p) (e .n) (c .before .before .before .before .before .copy .ensures .1) refl refl
+    turned-raw (e .s .now) (e .room .now) (c .before .before .before .before .before .before .before .before .before .good .0 .0) (c .before .before .before .before .before .before .before .before .before .good .1 .1 .1 .0 .0) (e .p) (e .n) (c .before .before .before .before .before .copy-few .ensures .1) refl refl
 
 same-length-2 : tie.Need-same-length-2
 same-length-2 c = search needs
@@ -34,7 +34,7 @@ same-length-2 c = search needs
 returns-2 : tie.Need-returns-2
 returns-2 c =
     let e = c .before .before .before .before .before .before .before .args in
-    raw-not-there (e .s .now) (e .room .now) (c .before .before .before .before .before .before .before .good .0 .0) (c .before .before .before .before .before .before .before .good .1 .1 .1 .0 .0) (e .p) (e .n) (c .before .before .before .copy .ensures .0) (c .if1 .left)
+    raw-not-there (e .s .now) (e .room .now) (c .before .before .before .before .before .before .before .good .0 .0) (c .before .before .before .before .before .before .before .good .1 .1 .1 .0 .0) (e .p) (e .n) (c .before .before .before .copy-few .ensures .0) (c .if1 .left)
 
 pub plain-spec : {M : Type 1} → statement M
-plain-spec = tie.close (tie.spec copy-requires add-t8 add-t9 same-length returns same-length-2 returns-2)
+plain-spec = tie.close (tie.spec copy-few-requires add-t8 add-t9 same-length returns same-length-2 returns-2)
