@@ -2,7 +2,7 @@
 use mathlib.Core.Path.{_≡_, refl, sym, ap, _∙_, subst}
 use mathlib.Core.Bool.{Bool, true, false}
 use mathlib.Core.List.{List, [], _∷_, _++_, map, map-id, flatten}
-use Prim.Native.Nat.{ℕ, _+_, _%_, _^_, _≤_, _<_}
+use Prim.Native.Nat.{ℕ, _+_, _-_, _%_, _^_, _≤_, _<_}
 use native.Mathlib.Nat.{zero-add, add-zero}
 use native.Mathlib.Omega.{arith}
 use lib.ListN.{length, take, drop, length-append}
@@ -10,7 +10,7 @@ use Rattle.collector.specs.Rules.{Fate, pointer, delivered, broken, fill
 use Rattle.collector.specs.Answer as Answer
 use Rattle.collector.specs.Answer.{came}
 use Rattle.collector.specs.Collected.{over, recordAfter, takenTo}
-use Rattle.collector.specs.Inside.{Fit, Ends, Small, pointCount, countedOf}
+use Rattle.collector.specs.Inside.{Fit, Ends, Small, keptOf, pointCount, countedOf}
 use Rattle.collector.specs.declared.Record.{Record}
 use Rattle.collector.specs.declared.Last.the-variants.{Counter}
 use Rattle.collector.specs.declared.Answer.the-variants.{Taken}
@@ -116,12 +116,28 @@ module _ (r : Record) (hold out : List ℕ) (counter : ℕ) (start : Bool) (bs :
   abbrev Comes : Bool → Type 0
   Comes next = came r′ hold′ out′ (Taken (e .sections) (e .bytes)) ≡ takenTo r hold out counter (payload plain start (joined next (holding hand)) bs)
 
-  pub comes-next : Ends (payload plain start (holding hand) bs) hold out 0 hold′ out′ e → r′ ≡ countedOf r counter e 0 start → Comes true
+  comes-next : Ends (payload plain start (holding hand) bs) hold out 0 hold′ out′ e → r′ ≡ countedOf r counter e 0 start → Comes true
   comes-next x w = taken-to r hold out counter start hand bs some e hold′ out′ x 0 _ (beside-itself _) r′ w
 
-  pub comes-broken : r .in_hand ≡ length hand → Ends (payload plain start (holding []) bs) hold out 0 hold′ out′ e → r′ ≡ countedOf r counter e (r .in_hand) start → Comes false
+  comes-broken : r .in_hand ≡ length hand → Ends (payload plain start (holding []) bs) hold out 0 hold′ out′ e → r′ ≡ countedOf r counter e (r .in_hand) start → Comes false
   comes-broken l x w = taken-to r hold out counter start [] bs some e hold′ out′ x (length hand) _ (beside-break start hand bs) r′ (w ∙ ap (λ (z : ℕ). countedOf r counter e z start) l)
 
+  pub comes : (next : Bool) (n : ℕ) → n ≡ keptOf next (r .in_hand) → r .in_hand ≡ length hand → Ends (payload plain start (holding (take n hold)) bs) hold out 0 hold′ out′ e → r′ ≡ countedOf r counter e (r .in_hand - n) start → Comes next
+  comes true n k l x w =
+      let none : r .in_hand - n ≡ 0 = omega arith in
+      comes-next (subst (λ (z : ℕ). Ends (payload plain start (holding (take z hold)) bs) hold out 0 hold′ out′ e) k x) (w ∙ ap (λ (z : ℕ). countedOf r counter e z start) none)
+  comes false n k l x w =
+      let all : r .in_hand - n ≡ r .in_hand = omega arith in
+      comes-broken l (subst (λ (z : ℕ). Ends (payload plain start (holding (take z hold)) bs) hold out 0 hold′ out′ e) k x) (w ∙ ap (λ (z : ℕ). countedOf r counter e z start) all)
+
+pub kept-most : (next : Bool) (held : ℕ) → keptOf next held ≤ held
+kept-most true held = omega arith
+kept-most false held = omega arith
+
 -- with nothing in hand a packet fits too
-pub fit-none : (n : ℕ) (hold out packet : List ℕ) (from : ℕ) (start : Bool) → Fit n hold out packet from start → Fit 0 hold out packet from start
+fit-none : (n : ℕ) (hold out packet : List ℕ) (from : ℕ) (start : Bool) → Fit n hold out packet from start → Fit 0 hold out packet from start
 fit-none n hold out packet from start f = record { few = omega arith; hold-big = f .hold-big; out-big = f .out-big; from-past = f .from-past; from-within = f .from-within; long = f .long; stands = record { more = λ m. absurd (omega arith) }; points = f .points }
+
+pub fit-kept : (next : Bool) (held n : ℕ) → n ≡ keptOf next held → {hold out packet : List ℕ} {from : ℕ} {start : Bool} → Fit held hold out packet from start → Fit n hold out packet from start
+fit-kept true held n k {hold} {out} {packet} {from} {start} f = subst (λ (z : ℕ). Fit z hold out packet from start) (sym k) f
+fit-kept false held n k {hold} {out} {packet} {from} {start} f = subst (λ (z : ℕ). Fit z hold out packet from start) (sym k) (fit-none held hold out packet from start f)

@@ -1,6 +1,6 @@
 -- A packet's payload, from the code's answers for its stretches to its story, and from there to the record.
 use mathlib.Core.Path.{_≡_, refl, sym, ap, _∙_, subst}
-use mathlib.Core.Bool.{Bool, true, false}
+use mathlib.Core.Bool.{Bool, true, false, not, false≢true}
 use mathlib.Core.List.{List, [], _∷_, _++_, append-assoc, append-nil, map, map-id, flatten}
 use Prim.Native.Nat.{ℕ, _+_, _-_, _≤_, _<_}
 use native.Mathlib.Nat.{add-zero}
@@ -10,10 +10,11 @@ use lib.ListN.{length, take, drop, getD, length-append, length-drop}
 use lib.Seq.{take-all, take-append-seam, drop-append-add, drop-drop, drop-cons}
 use Rattle.wire.specs.If.{if_then_else_}
 use Rattle.collector.specs.Each.{Each}
-use Rattle.collector.specs.Rules.{Fate, pointer, broken, filler, skipped, in-hand, Story, sameFate, bytesOf, countOf, handOf, marked, given, brokenOff, holding, plain, goesOn, sectionsIn, started, payload}
+use Rattle.collector.specs.Rules.{Fate, pointer, broken, filler, skipped, in-hand, Story, sameFate, bytesOf, countOf, handOf, marked, given, brokenOff, holding, joined, plain, goesOn, sectionsIn, started, payload}
 use Rattle.collector.specs.Collected.{over}
-use Rattle.collector.specs.Inside.{Ends, Small, bothOf}
+use Rattle.collector.specs.Inside.{Ends, Fit, Small, frontOf, bothOf}
 use Rattle.collector.specs.declared.stretch.Came.{Came}
+use Rattle.collector.specs.declared.payload.Front.{Front}
 use Rattle.collector.proofs.Marks.{flatten-append, bytesOf-more, settled-hand}
 use Rattle.collector.proofs.Rooms.{ends-as}
 use Rattle.collector.proofs.Beside.{Beside, beside-broken, beside-goes, beside-sections}
@@ -49,11 +50,28 @@ small-of l s k w e =
     let f = few-in plain l s k in
     record { sections = omega (arith, e .sections); bytes = omega (arith, e .bytes); broken = omega (arith, e .broken); filler = omega (arith, e .filler); skipped = omega (arith, e .skipped) }
 
+-- ---- the stretch that goes to the section in hand
+
+-- keep says whether a section that is still unfinished stays in hand
+abbrev pub gone : Bool → List ℕ → List ℕ → Story ℕ
+gone keep h l = joined keep (goesOn plain (holding h) l)
+
+kept-on : (h l : List ℕ) → Kept plain (h ++ l) (goesOn plain (holding h) l)
+kept-on h l = keep-goes plain Any (Kept plain) (keeps-kept plain) h (holding h) l (any l) (kept-holding plain h)
+
+pub kept-gone : (keep : Bool) (h l : List ℕ) → Kept plain (h ++ l) (gone keep h l)
+kept-gone true h l = kept-on h l
+kept-gone false h l = keeps-kept plain .breaks (h ++ l) (goesOn plain (holding h) l) (kept-on h l)
+
+-- what comes out of it is no more than was in hand and came
+pub gone-bytes : (keep : Bool) (h l : List ℕ) → length (flatten (gone keep h l .sections)) ≤ length h + length l
+gone-bytes keep h l = omega (arith, counts-in plain (h ++ l) (gone keep h l) (kept-gone keep h l), delivered-in plain (h ++ l) (gone keep h l) (kept-gone keep h l), length-append h l)
+
 -- ---- a packet with the start flag
 
 -- what comes before the target, where nothing unfinished is kept
-abbrev pub front : List ℕ → List ℕ → Story ℕ
-front h l = brokenOff (goesOn plain (holding h) l)
+abbrev front : List ℕ → List ℕ → Story ℕ
+front h l = gone false h l
 
 -- the same with the pointer byte before it
 abbrev pointed : ℕ → List ℕ → List ℕ → Story ℕ
@@ -65,15 +83,8 @@ back l = sectionsIn plain (holding []) l
 abbrev one : ℕ → Fate → ℕ
 one p f = length (if sameFate f pointer then p ∷ [] else [])
 
-pub kept-front : (h l : List ℕ) → Kept plain (h ++ l) (front h l)
-kept-front h l = keeps-kept plain .breaks (h ++ l) (goesOn plain (holding h) l) (keep-goes plain Any (Kept plain) (keeps-kept plain) h (holding h) l (any l) (kept-holding plain h))
-
 pub kept-back : (l : List ℕ) → Kept plain l (back l)
 kept-back l = keep-sections plain Any (Kept plain) (keeps-kept plain) [] (holding []) l (any l) (kept-holding plain [])
-
--- what comes out before the target is no more than was in hand and came
-pub front-bytes : (h l : List ℕ) → length (flatten (front h l .sections)) ≤ length h + length l
-front-bytes h l = omega (arith, counts-in plain (h ++ l) (front h l) (kept-front h l), delivered-in plain (h ++ l) (front h l) (kept-front h l), length-append h l)
 
 -- the pointer byte stays apart from the stretch after it
 beside-front : (p : ℕ) (h l : List ℕ) → Beside plain (one p) [] (front h l) (pointed p h l)
@@ -130,11 +141,22 @@ module _ (p : ℕ) (h l l₂ : List ℕ) where
 
 -- ---- the payload in the packet
 
+-- the stretch that goes to the section in hand is in the packet
+pub front-in : (start : Bool) {n : ℕ} {hold out packet : List ℕ} {from : ℕ} → Fit n hold out packet from start → (f : Front) → f ≡ frontOf start packet from → (from ≤ f .from) × (f .from + f .bytes ≤ length packet)
+front-in true x f e =
+    let at = ap (λ (z : Front). z .from) e in
+    let long = ap (λ (z : Front). z .bytes) e in
+    (omega arith, omega (arith, x .points refl))
+front-in false x f e =
+    let at = ap (λ (z : Front). z .from) e in
+    let long = ap (λ (z : Front). z .bytes) e in
+    (omega arith, omega (arith, x .from-within))
+
 module _ (hold out packet : List ℕ) (n from : ℕ) where
   abbrev taken : Bool → Story ℕ
   taken start = payload plain start (holding (take n hold)) (drop from packet)
 
-  pub ends-start : from < length packet → (p : ℕ) → p ≡ getD packet from 0 → (hold₁ out₁ hold₂ out₂ : List ℕ) (a b : Came)
+  ends-start : from < length packet → (p : ℕ) → p ≡ getD packet from 0 → (hold₁ out₁ hold₂ out₂ : List ℕ) (a b : Came)
       → Ends (front (take n hold) (take p (drop (from + 1) packet))) hold out 0 hold₁ out₁ a → Ends (back (drop (from + 1 + p) packet)) hold₁ out₁ (a .bytes) hold₂ out₂ b
       → (r : Came) → r ≡ bothOf a b → Ends (taken true) hold out 0 hold₂ out₂ r
   ends-start k p e hold₁ out₁ hold₂ out₂ a b x y r w =
@@ -145,7 +167,27 @@ module _ (hold out packet : List ℕ) (n from : ℕ) where
       (ends-as (whole p (take n hold) (take p bs) (drop p bs)) (ap (started plain (holding (take n hold))) cons)
       (ends-both p (take n hold) (take p bs) (drop p bs) hold out hold₁ out₁ hold₂ out₂ a b x y′))
 
-  pub ends-on : (hold₁ out₁ : List ℕ) (a : Came) → Ends (goesOn plain (holding (take n hold)) (take (length packet - from) (drop from packet))) hold out 0 hold₁ out₁ a → Ends (taken false) hold out 0 hold₁ out₁ a
+  ends-on : (hold₁ out₁ : List ℕ) (a : Came) → Ends (goesOn plain (holding (take n hold)) (take (length packet - from) (drop from packet))) hold out 0 hold₁ out₁ a → Ends (taken false) hold out 0 hold₁ out₁ a
   ends-on hold₁ out₁ a x =
       let all : take (length packet - from) (drop from packet) ≡ drop from packet = take-all (length packet - from) (drop from packet) (omega (arith, length-drop from packet)) in
       ends-as (goesOn plain (holding (take n hold)) (take (length packet - from) (drop from packet))) (ap (goesOn plain (holding (take n hold))) (sym all)) x
+
+  abbrev first : Bool → Front → Story ℕ
+  first start f = gone (not start) (take n hold) (take (f .bytes) (drop (f .from) packet))
+
+  first-as : (start : Bool) (f : Front) → f ≡ frontOf start packet from → {hold₁ out₁ : List ℕ} {a : Came} → Ends (first start f) hold out 0 hold₁ out₁ a → Ends (first start (frontOf start packet from)) hold out 0 hold₁ out₁ a
+  first-as start f e x = ends-as (first start f) (ap (first start) (sym e)) x
+
+  -- with the start flag sections follow where that stretch ends
+  pub carry-start : (start : Bool) → start ≡ true → from < length packet → (f : Front) → f ≡ frontOf start packet from → (hold₁ out₁ hold₂ out₂ : List ℕ) (a b : Came)
+      → Ends (first start f) hold out 0 hold₁ out₁ a → Ends (back (drop (f .from + f .bytes) packet)) hold₁ out₁ (a .bytes) hold₂ out₂ b
+      → (r : Came) → r ≡ bothOf a b → Ends (taken start) hold out 0 hold₂ out₂ r
+  carry-start true t k f e hold₁ out₁ hold₂ out₂ a b x y r w =
+      ends-start k (getD packet from 0) refl hold₁ out₁ hold₂ out₂ a b (first-as true f e x)
+      (subst (λ (z : Front). Ends (back (drop (z .from + z .bytes) packet)) hold₁ out₁ (a .bytes) hold₂ out₂ b) e y) r w
+  carry-start false t k f e hold₁ out₁ hold₂ out₂ a b x y r w = absurd (false≢true t)
+
+  -- without it that stretch is all
+  pub carry-on : (start : Bool) → start ≡ false → (f : Front) → f ≡ frontOf start packet from → (hold₁ out₁ : List ℕ) (a : Came) → Ends (first start f) hold out 0 hold₁ out₁ a → Ends (taken start) hold out 0 hold₁ out₁ a
+  carry-on true t f e hold₁ out₁ a x = absurd (false≢true (sym t))
+  carry-on false t f e hold₁ out₁ a x = ends-on hold₁ out₁ a (first-as false f e x)

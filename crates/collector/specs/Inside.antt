@@ -3,7 +3,7 @@ use mathlib.Core.Path.{_≡_}
 use mathlib.Core.Logic.{_⊎_}
 use mathlib.Core.Bool.{Bool, true, false}
 use mathlib.Core.List.{List, _++_, flatten}
-use Prim.Native.Nat.{ℕ, _+_, _%_, _^_, _≤_, _<_}
+use Prim.Native.Nat.{ℕ, _+_, _-_, _%_, _^_, _≤_, _<_}
 use lib.ListN.{length, take, drop, getD}
 use Rattle.collector.specs.Packet.{control, payloadFrom}
 use Rattle.collector.specs.Rules.{broken, filler, skipped, Story, countOf, handOf, totalOf}
@@ -17,6 +17,7 @@ use Rattle.collector.specs.declared.packet.Verdict.the-variants.{Refuse,
 use Rattle.collector.specs.declared.stretch.Look.{Look}
 use Rattle.collector.specs.declared.stretch.Look.the-variants.{Going, Over, Whole}
 use Rattle.collector.specs.declared.stretch.Came.{Came}
+use Rattle.collector.specs.declared.payload.Front.{Front}
 
 -- ---- packet.rt
 
@@ -70,6 +71,11 @@ pub record Fit (n : ℕ) (hold out packet : List ℕ) (from : ℕ) (start : Bool
   pub stands : CanStand (take n hold)
   pub points : start ≡ true → from + 1 + getD packet from 0 < length packet
 
+-- the stretch that goes to the section in hand: before the pointer's target, or all of the payload
+abbrev pub frontOf : Bool → List ℕ → ℕ → Front
+frontOf true packet from = record { from = from + 1; bytes = getD packet from 0 }
+frontOf false packet from = record { from = from; bytes = length packet - from }
+
 -- one stretch after another
 abbrev pub bothOf : Came → Came → Came
 bothOf a b = record {
@@ -89,7 +95,12 @@ pub record Small (a : Came) : Type 0 where
   pub filler : a .filler ≤ 5000
   pub skipped : a .skipped ≤ 5000
 
--- ---- record.rt
+-- ---- taking.rt
+
+-- what a break in the counter leaves of n bytes in hand
+abbrev pub keptOf : Bool → ℕ → ℕ
+keptOf true n = n
+keptOf false n = 0
 
 abbrev pub pointCount : Bool → ℕ
 pointCount true = 1

@@ -2,10 +2,16 @@
 use crate::stretch;
 use crate::stretch::Came;
 ghost use mathlib.Core.Path.{_≡_};
-ghost use mathlib.Core.Bool.{true};
-ghost use lib.ListN.{take, drop, getD};
+ghost use Prim.Native.Nat.{_<_};
+ghost use lib.ListN.{length, take, drop};
 ghost use Rattle.collector.specs.Rules.{holding, payload, plain};
-ghost use Rattle.collector.specs.Inside.{Ends, Fit, Small, bothOf};
+ghost use Rattle.collector.specs.Inside.{Ends, Fit, Small, frontOf, bothOf};
+
+// The stretch that goes to the section in hand: so many bytes of the packet, from index from on.
+struct Front {
+    from: usize,
+    bytes: usize,
+}
 
 // One stretch after another.
 fn both(a: Came, b: Came) -> Came
@@ -22,19 +28,26 @@ fn both(a: Came, b: Came) -> Came
     }
 }
 
-// "Start flag: one pointer byte p. The next p bytes go as above; a section still unfinished after them is broken off. Then sections follow end
-// to end". The pointer byte itself is not in the answer.
-fn started(hold: &mut [u8], n: usize, packet: &[u8], from: usize, p: usize, out: &mut [u8]) -> Came
-    requires { ⌜ Fit n (now hold) (now out) (now packet) from true × (p ≡ getD (now packet) from 0) ⌝ }
-    ensures { λ r. ⌜ Ends (payload plain true (holding (take n (now (hold .entry)))) (drop from (now (packet .entry)))) (now (hold .entry)) (now (out .entry)) 0 (now (hold .exit)) (now (out .exit)) r ⌝ }
+// "one pointer byte p. The next p bytes go as above"; without the start flag, all of the payload.
+fn front_of(packet: &[u8], from: usize, start: bool) -> Front
+    requires { ⌜ from < length (now packet) ⌝ }
+    ensures { λ r. ⌜ r ≡ frontOf start (now (packet .entry)) from ⌝ }
 {
-    let a = stretch::go_on(hold, n, packet, from + 1, p, out, false);
-    let at = a.bytes;
-    let b = stretch::sections(packet, from + 1 + p, hold, out, at);
-    both(a, b)
+    if start {
+        return Front {
+            from: from + 1,
+            bytes: wire::wide(packet[from]),
+        };
+    }
+    Front {
+        from,
+        bytes: packet.len() - from,
+    }
 }
 
-// The payload is the packet's bytes from index from on, and n bytes are in hand.
+// The payload is the packet's bytes from index from on, and n bytes are in hand. "Start flag: one pointer byte p. The next p bytes go as above;
+// a section still unfinished after them is broken off. Then sections follow end to end". The pointer byte itself is not in the answer.
+// go_on, sections and carry are each called at one place alone, so that the compiler makes them part of their caller.
 pub fn carry(
     hold: &mut [u8],
     n: usize,
@@ -46,9 +59,12 @@ pub fn carry(
     requires { ⌜ Fit n (now hold) (now out) (now packet) from start ⌝ }
     ensures { λ r. ⌜ Ends (payload plain start (holding (take n (now (hold .entry)))) (drop from (now (packet .entry)))) (now (hold .entry)) (now (out .entry)) 0 (now (hold .exit)) (now (out .exit)) r ⌝ }
 {
+    let front = front_of(packet, from, start);
+    let a = stretch::go_on(hold, n, packet, front.from, front.bytes, out, !start);
     if start {
-        return started(hold, n, packet, from, wire::wide(packet[from]), out);
+        let at = a.bytes;
+        let b = stretch::sections(packet, front.from + front.bytes, hold, out, at);
+        return both(a, b);
     }
-    let m = packet.len() - from;
-    stretch::go_on(hold, n, packet, from, m, out, true)
+    a
 }

@@ -12,7 +12,7 @@ ghost use Rattle.collector.specs.Rules.{follows, holding, joined, plain,
 ghost use Rattle.collector.specs.Refusals.{lastOf, repeats, carriedIn, ruledOn};
 ghost use Rattle.collector.specs.Answer.{came};
 ghost use Rattle.collector.specs.Collected.{takenTo, outcomeOf};
-ghost use Rattle.collector.specs.Inside.{Fit, Small, pointCount, countedOf};
+ghost use Rattle.collector.specs.Inside.{Fit, Small, keptOf, pointCount, countedOf};
 
 // "a counter equal to the last"
 fn is_repeat(last: Last, counter: u8) -> bool
@@ -62,6 +62,13 @@ fn counted(rec: Record, counter: u8, e: Came, broken: usize, start: bool) -> Rec
     }
 }
 
+// The bytes that stay in hand of those held: "If the counter isn't the last plus 1 modulo 16, what is in hand is broken off".
+fn kept(next: bool, held: usize) -> usize
+    ensures { λ r. ⌜ r ≡ keptOf next held ⌝ }
+{
+    if next { held } else { 0 }
+}
+
 // A packet that is taken and has payload, from index from on; next says that its counter follows the last one.
 fn taken(
     rec: Record,
@@ -77,19 +84,11 @@ fn taken(
     ensures { λ r. ⌜ came (r .record) (now (hold .exit)) (now (out .exit)) (r .answer) ≡ takenTo rec (now (hold .entry)) (now (out .entry)) counter (payload plain start (joined next (holding (take (rec .in_hand) (now (hold .entry))))) (drop from (now (packet .entry)))) ⌝ }
 {
     let held = rec.in_hand;
-    if next {
-        let e = payload::carry(hold, held, packet, from, start, out);
-        return Stepped {
-            record: counted(rec, counter, e, 0, start),
-            answer: Answer::Taken {
-                sections: e.sections,
-                bytes: e.bytes,
-            },
-        };
-    }
-    let e = payload::carry(hold, 0, packet, from, start, out);
+    let n = kept(next, held);
+    let broken = held - n;
+    let e = payload::carry(hold, n, packet, from, start, out);
     Stepped {
-        record: counted(rec, counter, e, held, start),
+        record: counted(rec, counter, e, broken, start),
         answer: Answer::Taken {
             sections: e.sections,
             bytes: e.bytes,

@@ -1,33 +1,68 @@
 -- `collector::payload::carry` meets its contract.
-use mathlib.Core.Path.{ap, subst}
-use mathlib.Core.Bool.{Bool}
-use Prim.Native.Nat.{ℕ}
+use mathlib.Core.Path.{_≡_}
+use mathlib.Core.Bool.{not}
+use mathlib.Core.List.{List}
+use Prim.Native.Nat.{ℕ, _+_, _≤_}
 use native.Mathlib.Omega.{arith}
 use borrow.Author.Needs.{needs}
-use lib.ListN.{take, drop}
-use Rattle.collector.specs.Rules.{Story, holding, plain, payload}
-use Rattle.collector.specs.Inside.{Fit}
-use Rattle.collector.proofs.Rooms.{ends-as}
-use Rattle.collector.proofs.Payloads.{ends-on}
+use lib.ListN.{length, take, drop, length-append, length-take, length-drop}
+use lib.Seq.{length-take-le}
+use Rattle.collector.specs.declared.payload.Front.{Front}
+use Rattle.collector.proofs.Payloads.{kept-gone, kept-back, gone-bytes, small-of, front-in, carry-start, carry-on}
 use Rattle.collector.proofs.payload.carry.Statement.{statement}
 use Rattle.collector.proofs.payload.carry.Tie as tie
 
--- the packet's story, with the start flag as given
-abbrev taken : tie.Start → Bool → Story ℕ
-taken s start = payload plain start (holding (take (s .args .n) (s .args .hold .now))) (drop (s .args .from) (s .args .packet .now))
+-- from where the stretch is known that goes to the section in hand
+module _ (k : tie.After-front-of) where
+  abbrev s : tie.Start
+  s = k .before .before .before .before
 
-shared-slice-read-wide : tie.Need-shared-slice-read-wide
-shared-slice-read-wide c = search needs
+  abbrev front : Front
+  front = k .front-of .result
 
-wide-requires : tie.Need-wide-requires
-wide-requires c κs = search needs
+  abbrev h : List ℕ
+  h = take (s .args .n) (s .args .hold .now)
 
-started-requires : tie.Need-started-requires
-started-requires c κs =
-    let k = c .before .before .before .before in
-    let s = k .before .before .before .before in
-    let a = s .args in
-    (subst (Fit (a .n) (a .hold .now) (a .out .now) (a .packet .now) (a .from)) (k .if1 .taken) (s .pre), c .before .wide .ensures .same)
+  abbrev l : List ℕ
+  l = take (front .bytes) (drop (front .from) (s .args .packet .now))
+
+  abbrev l₂ : List ℕ
+  l₂ = drop (front .from + front .bytes) (s .args .packet .now)
+
+  inside : (s .args .from ≤ front .from) × (front .from + front .bytes ≤ length (s .args .packet .now))
+  inside = front-in (s .args .start) (s .pre) front (k .front-of .ensures)
+
+  h-long : length h ≡ s .args .n
+  h-long = length-take-le (s .args .n) (s .args .hold .now) (omega arith)
+
+  l-long : length l ≤ front .bytes
+  l-long = omega (arith, length-take (front .bytes) (drop (front .from) (s .args .packet .now)))
+
+front-of-requires : tie.Need-front-of-requires
+front-of-requires c κs = search needs
+
+go-on-requires : tie.Need-go-on-requires
+go-on-requires c κs =
+    let k = c .before .before in
+    ((omega arith, omega arith, omega (arith, inside k), omega arith, omega arith), s k .pre .stands)
+
+add-sections : tie.Need-add-sections
+add-sections c = omega (arith, inside (c .before .before .before .before .before .before .before .before .before))
+
+sections-requires : tie.Need-sections-requires
+sections-requires c κs =
+    let g = c .before .before .before .before .before .before .before .before in
+    let k = g .before .before .before in
+    (omega (arith, inside k), omega arith, omega arith, omega (arith, inside k, g .go-on .ensures .bytes, gone-bytes (not (s k .args .start)) (h k) (l k), h-long k, l-long k))
+
+both-requires : tie.Need-both-requires
+both-requires c κs =
+    let t = c .before .before .before .before in
+    let g = t .before .before .before .before .before .before .before .before .before in
+    let k = g .before .before .before in (
+      small-of _ _ (kept-gone (not (s k .args .start)) (h k) (l k)) (omega (arith, inside k, length-append (h k) (l k), h-long k, l-long k)) (g .go-on .ensures),
+      small-of _ _ (kept-back (l₂ k)) (omega (arith, length-drop (front k .from + front k .bytes) (s k .args .packet .now))) (t .sections .ensures),
+    )
 
 same-length : tie.Need-same-length
 same-length c = search needs
@@ -37,17 +72,12 @@ same-length-2 c = search needs
 
 returns : tie.Need-returns
 returns c =
-    let g = c .before .before .before .before in
-    let k = g .before .before .before .before .before in
-    ends-as _ (ap (taken (k .before .before .before .before)) (k .if1 .taken)) (g .started .ensures)
-
-sub-m : tie.Need-sub-m
-sub-m c = search needs
-
-go-on-requires : tie.Need-go-on-requires
-go-on-requires c κs =
-    let s = c .before .before .before .before .before .before in
-    ((omega arith, omega arith, omega arith, omega arith, omega arith), s .pre .stands)
+    let t = c .before .before .before .before .before in
+    let i = t .before .before .before .before in
+    let g = i .before .before .before .before .before in
+    let k = g .before .before .before in
+    let a = s k .args in
+    carry-start (a .hold .now) (a .out .now) (a .packet .now) (a .n) (a .from) (a .start) (i .if1 .taken) (s k .pre .from-within) (front k) (k .front-of .ensures) _ _ _ _ _ _ (g .go-on .ensures) (t .sections .ensures) _ (c .both .ensures)
 
 same-length-3 : tie.Need-same-length-3
 same-length-3 c = search needs
@@ -57,11 +87,10 @@ same-length-4 c = search needs
 
 returns-2 : tie.Need-returns-2
 returns-2 c =
-    let g = c .before .before .before .before in
+    let g = c .before .before .before .before .before in
     let k = g .before .before .before in
-    let s = k .before .before .before .before in
-    let a = s .args in
-    ends-as _ (ap (taken s) (k .if1 .left)) (ends-on (a .hold .now) (a .out .now) (a .packet .now) (a .n) (a .from) _ _ _ (g .go-on .ensures))
+    let a = s k .args in
+    carry-on (a .hold .now) (a .out .now) (a .packet .now) (a .n) (a .from) (a .start) (c .if1 .left) (front k) (k .front-of .ensures) _ _ _ (g .go-on .ensures)
 
 pub carry-spec : {M : Type 1} → statement M
-carry-spec = tie.close (tie.spec shared-slice-read-wide wide-requires started-requires same-length same-length-2 returns sub-m go-on-requires same-length-3 same-length-4 returns-2)
+carry-spec = tie.close (tie.spec front-of-requires go-on-requires add-sections sections-requires both-requires same-length same-length-2 returns same-length-3 same-length-4 returns-2)

@@ -1,16 +1,12 @@
 -- `collector::taking::taken` meets its contract.
-use mathlib.Core.Path.{_≡_, sym, ap, _∙_}
-use mathlib.Core.Bool.{Bool}
-use mathlib.Core.List.{List, []}
+use mathlib.Core.Path.{_≡_, sym}
+use mathlib.Core.List.{List}
 use Prim.Native.Nat.{ℕ, _≤_, _<_}
 use native.Mathlib.Omega.{arith}
 use borrow.Author.Needs.{needs}
-use lib.ListN.{length, take, drop, length-drop}
+use lib.ListN.{length, take, drop, length-take, length-drop}
 use lib.Seq.{length-take-le}
-use Rattle.collector.specs.Rules.{holding, joined, plain, payload}
-use Rattle.collector.specs.Answer.{Outcome}
-use Rattle.collector.specs.Collected.{takenTo}
-use Rattle.collector.proofs.Outcomes.{small, comes-next, comes-broken, fit-none}
+use Rattle.collector.proofs.Outcomes.{small, comes, kept-most, fit-kept}
 use Rattle.collector.proofs.taking.taken.Statement.{statement}
 use Rattle.collector.proofs.taking.taken.Tie as tie
 
@@ -27,19 +23,31 @@ module _ (s : tie.Start) where
   bytes-long : (0 < length bytes) × (length bytes ≤ 188)
   bytes-long = (omega (arith, s .pre .from-within, length-drop (s .args .from) (s .args .packet .now)), omega (arith, s .pre .long, length-drop (s .args .from) (s .args .packet .now)))
 
-  -- the outcome, as the counter follows or not
-  abbrev outcome : Bool → Outcome
-  outcome next = takenTo (s .args .rec) (s .args .hold .now) (s .args .out .now) (s .args .counter) (payload plain (s .args .start) (joined next (holding hand)) bytes)
+kept-requires : tie.Need-kept-requires
+kept-requires c κs = search needs
+
+sub-broken : tie.Need-sub-broken
+sub-broken c =
+    let a = c .before .before .before .before .args in
+    omega (arith, c .kept .ensures, kept-most (a .next) (a .rec .in_hand))
 
 carry-requires : tie.Need-carry-requires
-carry-requires c κs = c .before .before .before .before .before .before .pre
+carry-requires c κs =
+    let k = c .before .before in
+    let s = k .before .before .before .before in
+    fit-kept (s .args .next) (s .args .rec .in_hand) _ (k .kept .ensures) (s .pre)
 
 counted-requires : tie.Need-counted-requires
 counted-requires c κs =
-    let k = c .before .before .before .before in
-    let s = k .before .before .before .before .before .before .before in
+    let g = c .before .before .before .before in
+    let k = g .before .before .before in
+    let s = k .before .before .before .before in
     let a = s .args in
-    (small (a .rec) (a .hold .now) (a .out .now) (a .counter) (a .start) (hand s) (bytes s) (bytes-long s .0) (k .carry .result) _ _ (k .carry .ensures) (omega (arith, hand-long s, bytes-long s, s .pre .few)), omega arith)
+    let n = k .kept .result in (
+      small (a .rec) (a .hold .now) (a .out .now) (a .counter) (a .start) (take n (a .hold .now)) (bytes s) (bytes-long s .0) (g .carry .result) _ _ (g .carry .ensures)
+          (omega (arith, length-take n (a .hold .now), k .kept .ensures, kept-most (a .next) (a .rec .in_hand), bytes-long s, s .pre .few)),
+      omega arith,
+    )
 
 same-length : tie.Need-same-length
 same-length c = search needs
@@ -49,40 +57,11 @@ same-length-2 c = search needs
 
 returns : tie.Need-returns
 returns c =
-    let k = c .before .before .before .before .before in
-    let t = k .before .before .before in
-    let s = t .before .before .before .before in
+    let g = c .before .before .before .before .before in
+    let k = g .before .before .before in
+    let s = k .before .before .before .before in
     let a = s .args in
-    comes-next (a .rec) (a .hold .now) (a .out .now) (a .counter) (a .start) (bytes s) (bytes-long s .0) (k .carry .result) _ _ _ (k .carry .ensures) (c .counted .ensures)
-    ∙ ap (outcome s) (sym (t .if1 .taken))
-
-carry-requires-2 : tie.Need-carry-requires-2
-carry-requires-2 c κs =
-    let s = c .before .before .before .before .before .before in
-    let a = s .args in
-    fit-none (a .rec .in_hand) (a .hold .now) (a .out .now) (a .packet .now) (a .from) (a .start) (s .pre)
-
-counted-requires-2 : tie.Need-counted-requires-2
-counted-requires-2 c κs =
-    let k = c .before .before .before .before in
-    let s = k .before .before .before .before .before .before .before in
-    let a = s .args in
-    (small (a .rec) (a .hold .now) (a .out .now) (a .counter) (a .start) [] (bytes s) (bytes-long s .0) (k .carry2 .result) _ _ (k .carry2 .ensures) (omega (arith, bytes-long s)), s .pre .few)
-
-same-length-3 : tie.Need-same-length-3
-same-length-3 c = search needs
-
-same-length-4 : tie.Need-same-length-4
-same-length-4 c = search needs
-
-returns-2 : tie.Need-returns-2
-returns-2 c =
-    let k = c .before .before .before .before .before in
-    let t = k .before .before .before in
-    let s = t .before .before .before .before in
-    let a = s .args in
-    comes-broken (a .rec) (a .hold .now) (a .out .now) (a .counter) (a .start) (bytes s) (bytes-long s .0) (k .carry2 .result) _ _ _ (hand-long s) (k .carry2 .ensures) (c .counted2 .ensures)
-    ∙ ap (outcome s) (sym (t .if1 .left))
+    comes (a .rec) (a .hold .now) (a .out .now) (a .counter) (a .start) (bytes s) (bytes-long s .0) (g .carry .result) _ _ _ (a .next) (k .kept .result) (k .kept .ensures) (hand-long s) (g .carry .ensures) (c .counted .ensures)
 
 pub taken-spec : {M : Type 1} → statement M
-taken-spec = tie.close (tie.spec carry-requires counted-requires same-length same-length-2 returns carry-requires-2 counted-requires-2 same-length-3 same-length-4 returns-2)
+taken-spec = tie.close (tie.spec kept-requires sub-broken carry-requires counted-requires same-length same-length-2 returns)
