@@ -19,7 +19,7 @@
  *   lohitunga_roll_take            2,184
  *   lohitunga_to_sheet             1,976
  *   lohitunga_search               1,832
- *   lohitunga_to_section           1,384
+ *   lohitunga_to_section           1,368
  *   lohitunga_judge                1,272
  *   lohitunga_crc32                  664
  *   lohitunga_roll_ask               304
