@@ -9,6 +9,7 @@ use lib.Seq.{length-take-le, take-take, take-add, drop-at, drop-drop}
 use lib.Dec.{leb, eqb}
 use borrow.Author.Tests.{leb-true, leb-false, le-leb, lt-leb, eq-eqb, ne-eqb}
 use Rattle.wire.specs.If.{if_then_else_}
+use Rattle.wire.proofs.IfLaws.{true-not-false}
 use Rattle.account.specs.Entered.{firstPid, freshAccount, Kept, keptAs, entered, enteredAll, pieces}
 use Rattle.account.specs.Reads.{accountOf, Reads, GotIn, GotSays, Moved, accountFor, EndedAs}
 use Rattle.account.specs.declared.tally.Account.{Account}
@@ -17,9 +18,6 @@ use Rattle.account.specs.declared.input.Got.{Got}
 use Rattle.account.specs.declared.input.Got.the-variants.{Bytes, Again, End, Failed}
 use Rattle.account.specs.declared.input.Ended.the-variants as Ended
 use Rattle.account.proofs.Cuts.{pieces-front, pid-front, restOf, rest-more, account-more, account-none}
-
-false-not : false ≡ true → ⊥
-false-not e = let z : _≡_ {A = ℕ} 0 1 = cc in omega arith
 
 -- a test that two numbers pass alike
 same-leb : (k a b : ℕ) → (k ≤ a → k ≤ b) → (k ≤ b → k ≤ a) → leb k a ≡ leb k b
@@ -30,7 +28,7 @@ same-leb k a b f g = by (leb k a) refl
     by false e = e ∙ sym (lt-leb k b (below (leb k b) refl))
       where
         below : (t : Bool) → leb k b ≡ t → b < k
-        below true w = absurd (false-not (sym e ∙ le-leb k a (g (leb-true k b w))))
+        below true w = absurd (true-not-false (sym (sym e ∙ le-leb k a (g (leb-true k b w)))))
         below false w = leb-false k b w
 
 -- n bytes of which l were left past the packets of i bytes leave what all of them leave
@@ -183,7 +181,7 @@ module _ {input hold₀ out₀ : List ℕ} {p : Place} {buf hold out : List ℕ}
 
 -- before the first read
 pub reads-none : (hold out buf : List ℕ) (a : Account) → Reads [] hold out (record { begun = false; left = 0; account = a }) buf hold out
-reads-none hold out buf a = record { begun = refl; left = refl; rest = refl; the-hold = refl; the-out = refl; the-account = λ e. absurd (false-not e) }
+reads-none hold out buf a = record { begun = refl; left = refl; rest = refl; the-hold = refl; the-out = refl; the-account = λ e. absurd (true-not-false (sym e)) }
 
 -- a read into the room behind what is left
 pub got-behind : (left size : ℕ) (buf buf′ : List ℕ) → left + size ≤ length buf → take left buf′ ≡ take left buf → (g : Got) → GotIn size g → GotSays left buf buf′ g

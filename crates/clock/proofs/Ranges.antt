@@ -7,7 +7,8 @@ use native.Mathlib.Omega.{arith}
 use borrow.Author.Tests.{ltb-true, ltb-false}
 use lib.Dec.{eqb, ltb}
 use lib.IntN.{ℤ, natAbs}
-use Rattle.wire.specs.Reading.{value, _>>=_, value-is, never, through}
+use Rattle.wire.specs.Reading.{value, _>>=_}
+use Rattle.wire.proofs.ReadingLaws.{value-is, never, through}
 use Rattle.wire.specs.Number.{number}
 use Rattle.wire.specs.Digits.{bcdOf}
 use Rattle.wire.proofs.IfLaws.{if-case}

@@ -10,6 +10,7 @@ use lib.Seq.{length-take-le}
 use lib.Dec.{ltb, leb, eqb}
 use borrow.Author.Tests.{ltb-false, leb-false, eqb-true, eqb-false, not-false, lt-ltb, le-ltb, le-leb, lt-leb, eq-eqb, ne-eqb}
 use Rattle.wire.specs.If.{if_then_else_}
+use Rattle.wire.proofs.IfLaws.{true-not-false}
 use Rattle.collector.specs.Each.{Each}
 use Rattle.collector.specs.Packet.{startFlag, pidOf, scrambling, control, counterOf, adaptation, payloadFrom, payloadOf, pointerOf}
 use Rattle.collector.specs.Rules.{totalOf}
@@ -106,16 +107,13 @@ module _ (pid : ℕ) (p : List ℕ) where
 
 -- ---- what is known where no row applies
 
-false-not : false ≡ true → ⊥
-false-not e = let z : _≡_ {A = ℕ} 0 1 = cc in omega arith
-
 pub or-false : (a b : Bool) → (a || b) ≡ false → (a ≡ false) × (b ≡ false)
-or-false true b e = absurd (false-not (sym e))
+or-false true b e = absurd (true-not-false e)
 or-false false b e = (refl, e)
 
 and-false : (a b : Bool) → (a && b) ≡ false → a ≡ true → b ≡ false
 and-false true b e h = e
-and-false false b e h = absurd (false-not h)
+and-false false b e h = absurd (true-not-false (sym h))
 
 -- a row that does not apply
 abbrev pub Passed : Row → Type 0

@@ -9,6 +9,7 @@ use lib.ListN.{length, drop}
 use lib.Seq.{paste}
 use lib.Dec.{ltb, leb}
 use Rattle.wire.specs.If.{if_then_else_}
+use Rattle.wire.proofs.IfLaws.{true-not-false}
 use Rattle.copy.specs.Copy.{copies, copied}
 
 -- n bytes from a place on end past the end: compared without a sum that could be too large
@@ -40,7 +41,7 @@ module _ (s : List ℕ) (from n : ℕ) (d : List ℕ) (at : ℕ) where
 
   -- a copy that is not made: s has not the bytes, or d not the room
   pub copies-not : {r : Bool} → r ≡ copies s from n d at → r ≡ false → from + n ≤ length s → at + n ≤ length d → ⊥
-  copies-not e f h g = let z : true ≡ false = sym (copies-yes h g) ∙ sym e ∙ f in let k : _≡_ {A = ℕ} 0 1 = cc in absurd (omega arith)
+  copies-not e f h g = true-not-false (sym (copies-yes h g) ∙ sym e ∙ f)
 
   -- a copy that is made: s has the bytes and d the room
   pub copies-fits : {r : Bool} → r ≡ copies s from n d at → r ≡ true → (from + n ≤ length s) × (at + n ≤ length d)
@@ -49,8 +50,8 @@ module _ (s : List ℕ) (from n : ℕ) (d : List ℕ) (at : ℕ) where
     where
       go : (x y : Bool) → leb (from + n) (length s) ≡ x → leb (at + n) (length d) ≡ y → (if x then y else false) ≡ true → (from + n ≤ length s) × (at + n ≤ length d)
       go true true ex ey z = (leb-true (from + n) (length s) ex, leb-true (at + n) (length d) ey)
-      go true false ex ey z = let k : _≡_ {A = ℕ} 0 1 = cc in (absurd (omega arith), absurd (omega arith))
-      go false y ex ey z = let k : _≡_ {A = ℕ} 0 1 = cc in (absurd (omega arith), absurd (omega arith))
+      go true false ex ey z = absurd (true-not-false (sym z))
+      go false y ex ey z = absurd (true-not-false (sym z))
 
   copied-not : copies s from n d at ≡ false → copied s from n d at ≡ d
   unfolding copied

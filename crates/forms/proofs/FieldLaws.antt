@@ -11,7 +11,8 @@ use lib.ListN.{length, getD}
 use lib.Dec.{ltb}
 use Rattle.wire.specs.If.{if_then_else_}
 use Rattle.wire.specs.Bytes.{Bytes}
-use Rattle.wire.specs.Reading.{Reading, value, refused, _>>=_, value-is, never, through}
+use Rattle.wire.specs.Reading.{Reading, value, refused, _>>=_}
+use Rattle.wire.proofs.ReadingLaws.{value-is, never, through}
 use Rattle.wire.proofs.IfLaws.{if-case}
 use Rattle.forms.specs.Form.{Front, Form, rawRead, EachOk}
 use Rattle.forms.specs.Fields.{Field, kept, reserved, width, belowRead, below, sheetField, sheetFields, room, pack, unpack, Fit, byteRead, byteOf}

@@ -11,7 +11,8 @@ use lib.Seq.{take-at, drop-at, getD-append-add, length-take-le}
 use lib.Dec.{leb}
 use Rattle.wire.specs.If.{if_then_else_}
 use Rattle.wire.specs.Bytes.{Bytes}
-use Rattle.wire.specs.Reading.{Reading, value, refused, _>>=_, value-is, never, through}
+use Rattle.wire.specs.Reading.{Reading, value, refused, _>>=_}
+use Rattle.wire.proofs.ReadingLaws.{value-is, never, through}
 use Rattle.wire.proofs.IfLaws.{if-case}
 use Rattle.forms.specs.Form.{Front, Form, mute, rawRead, raw, bothRead, _then_, suchRead, such, eachRead, eachShow, EachOk, each}
 

@@ -6,7 +6,8 @@ use native.Mathlib.Omega.{arith}
 use lib.ListN.{length, getD, length-append}
 use Rattle.wire.specs.Bytes.{Bytes, len12At}
 use Rattle.wire.specs.Number.{number}
-use Rattle.wire.specs.Reading.{Reading, value, refused, _>>=_, value-is, never, through}
+use Rattle.wire.specs.Reading.{Reading, value, refused, _>>=_}
+use Rattle.wire.proofs.ReadingLaws.{value-is, never, through}
 use Rattle.forms.specs.Form.{Front, Form, rawRead}
 use Rattle.forms.specs.Fields.{Field, room, pack, unpack, Fit}
 use Rattle.forms.specs.Lists.{timesRead, all, All, none, one, times, countedRead, countedShow, counted, untilRead, fillingRead, filling, loopRead, loopShow, loop}

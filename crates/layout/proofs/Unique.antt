@@ -4,7 +4,7 @@ use mathlib.Core.List.{List}
 use Prim.Native.Nat.{ℕ, _<_}
 use native.Mathlib.Omega.{arith}
 use Rattle.wire.proofs.Unique.{answer-once}
-use Rattle.wire.specs.Reading.{value-is, refused-is, never}
+use Rattle.wire.proofs.ReadingLaws.{value-is, refused-is, never}
 use Rattle.clock.specs.Fault as fault
 use Rattle.clock.specs.declared.Fault.{Fault}
 use Rattle.clock.specs.declared.Fault.the-variants.{BadDigit, OutOfRange, TooEarly}

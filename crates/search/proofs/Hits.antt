@@ -10,6 +10,7 @@ use lib.ListN.{length, take, drop, length-drop}
 use lib.Seq.{length-take-le}
 use lib.Dec.{eqb}
 use Rattle.wire.specs.Trail.{Trail, answer}
+use Rattle.wire.proofs.IfLaws.{true-not-false}
 use Rattle.verdict.specs.Verdict.{Said, accepted, refused, isAccepted}
 use Rattle.loops.specs.Descriptors.{Placed, descriptors, stepAt, toldStep}
 use Rattle.section.specs.Entries.{entries}
@@ -69,9 +70,7 @@ entry-here {l} {fixed} {p} {n} at ok = headed (decLe (p + fixed) (length l))
     looped h g false q =
         let f = at-fault at h g q in
         let x : descriptors (p + fixed) (drop (p + fixed) (take (p + fixed + n) l)) .ends ≡ accepted = sym (ap answer f) ∙ ok in
-        let z : true ≡ false = sym (ap isAccepted x) ∙ q in
-        let w : _≡_ {A = ℕ} 0 1 = cc in
-        absurd (omega arith)
+        absurd (true-not-false (sym (ap isAccepted x) ∙ q))
 
     sized : p + fixed ≤ length l → Dec (p + fixed + n ≤ length l) → Entry l fixed p n
     sized h (yes g) = looped h g _ refl

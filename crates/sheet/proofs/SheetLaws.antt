@@ -9,7 +9,8 @@ use lib.ListN.{length, getD}
 use lib.Dec.{ltb, eqb}
 use Rattle.wire.specs.If.{if_then_else_}
 use Rattle.wire.specs.Bytes.{Bytes}
-use Rattle.wire.specs.Reading.{Reading, value, _>>=_, value-is, through}
+use Rattle.wire.specs.Reading.{Reading, value, _>>=_}
+use Rattle.wire.proofs.ReadingLaws.{value-is, through}
 use Rattle.tables.specs.Tables.{rowOf, rowAt}
 use Rattle.forms.specs.Form.{Form, mute, rawRead, raw, _then_, such, each}
 use Rattle.forms.specs.Fields.{Field, sheetFields}

@@ -10,6 +10,7 @@ use borrow.Author.Tests.{leb-true, eqb-true, le-leb}
 use lib.ListN.{getD}
 use lib.Dec.{leb, eqb}
 use Rattle.wire.specs.If.{if_then_else_}
+use Rattle.wire.proofs.IfLaws.{true-not-false}
 use Rattle.tables.specs.Tables.{rows, cell, rowAt, between, holds, first, rowOf, InRow, FixedTwo}
 
 -- ---- sizes
@@ -90,7 +91,7 @@ first-le zero i j p h g e = absurd (omega arith)
 first-le (suc k) i j p h g e = go (λ f. first-le k (i + 1) j p f (omega arith) e) (p i) refl
   where
     later : p i ≡ false → Dec (i ≡ j) → i + 1 ≤ j
-    later q (yes r) = let z : true ≡ false = sym e ∙ ap p (sym r) ∙ q in let w : _≡_ {A = ℕ} 0 1 = cc in absurd (omega arith)
+    later q (yes r) = absurd (true-not-false (sym e ∙ ap p (sym r) ∙ q))
     later q (no r) = omega arith
 
     go : (i + 1 ≤ j → first k (i + 1) p ≤ j) → (b : Bool) → p i ≡ b → (if b then i else first k (i + 1) p) ≤ j

@@ -3,7 +3,8 @@ use mathlib.Core.Path.{_≡_, ap, _∙_, sym, subst}
 use mathlib.Core.List.{List}
 use Prim.Native.Nat.{ℕ}
 use lib.ListN.{drop}
-use Rattle.wire.specs.Reading.{value, value-is, through}
+use Rattle.wire.specs.Reading.{value}
+use Rattle.wire.proofs.ReadingLaws.{value-is, through}
 use Rattle.layout.specs.Refusal.{bytesOf}
 use Rattle.layout.specs.Body.{framed}
 use Rattle.layout.specs.Texts.{twoTexts}

@@ -67,10 +67,10 @@ top-ok row p = go (eqb (rowAt row .top) 1)
     go true o u = loop-ok bare p o u
     go false o u = o
 
-no-fields : (vs : List ℕ) → vs ≡ [] → sheetFields [] .Ok vs
+without-fields : (vs : List ℕ) → vs ≡ [] → sheetFields [] .Ok vs
 unfolding EachOk
-no-fields [] e = tt
-no-fields (v ∷ vs) e = let n = ap length e in absurd (omega arith)
+without-fields [] e = tt
+without-fields (v ∷ vs) e = let n = ap length e in absurd (omega arith)
 
 entries-ok : (row n : ℕ) (p : Entries) → sectionEntries row n .Ok p → n < 65536 → Ones (lengthBits row) (p .0) → EntriesOnes row (p .1) → sheetEntries row .Ok p
 unfolding sectionEntries sheetEntries
@@ -87,7 +87,7 @@ entries-ok row n p = go (eqb (rowAt row .fixed) 0) (eqb (rowAt row .top) 1)
     go false false o h u v =
         let m = no-more (sectionEntry row) (entry-full row) (p .1) (o .1 .1) in
         let k = o .1 .0 in
-        (no-fields (p .0) (o .0), (omega arith, all-ok row (p .1) (o .1 .1) v))
+        (without-fields (p .0) (o .0), (omega arith, all-ok row (p .1) (o .1 .1) v))
 
 pub sheet-ok : (c : Content) → Holds c → ReservedOnes c → length (entriesBytes c) < 65536 → SheetOk c
 unfolding SheetOk

@@ -22,6 +22,7 @@ use Rattle.sheet.specs.Sheet.{sheetItem, sheetLoop, sheetEntry, sheetTop, sheet
 use Rattle.sheet.specs.Section.{sectionItem, sectionLoop, sectionEntry, sectionTop, sectionEntries, sectionBody}
 use Rattle.turn.specs.Ways.{itemsFrom, itemsTo, loopFrom, entryFrom, topIf, entriesShown, BesideOk, BesideFit, EntriesForth, EntriesBack, EntrySizes}
 use Rattle.turn.specs.Bodies.{SectionOk, BodyForth, BodyBack}
+use Rattle.turn.proofs.Held.{no-fields}
 use Rattle.forms.specs.declared.Place.{Place}
 
 -- ---- rows
@@ -86,11 +87,6 @@ none-shown vs = refl
 both-ok : (row : ℕ) (es : List Entry) → All (sheetEntry row) es → All (sectionEntry row) es → All (entryFrom true row) es
 both-ok row [] none none = none
 both-ok row (e ∷ es) (one o os) (one u us) = one (o .0, (o .1, u .1)) (both-ok row es os us)
-
-no-fields : (vs : List ℕ) → EachOk sheetField [] vs → vs ≡ []
-unfolding EachOk
-no-fields [] o = refl
-no-fields (v ∷ vs) o = absurd o
 
 module _ (row : ℕ) (t : Bool) (ht : t ≡ eqb (rowAt row .top) 1) (hf : eqb (rowAt row .fixed) 0 ≡ false) (e : Entries) where
   pub record InBoth : Type 0 where

@@ -9,7 +9,8 @@ use lib.ListN.{length, length-append}
 use lib.Dec.{ltb, eqb}
 use Rattle.wire.specs.If.{if_then_else_}
 use Rattle.wire.specs.Bytes.{Bytes}
-use Rattle.wire.specs.Reading.{Reading, value, refused, _>>=_, value-is, never, through}
+use Rattle.wire.specs.Reading.{Reading, value, refused, _>>=_}
+use Rattle.wire.proofs.ReadingLaws.{value-is, never, through}
 use Rattle.wire.proofs.IfLaws.{if-case}
 use Rattle.tables.specs.Tables.{rowOf, rowAt}
 use Rattle.forms.specs.Form.{Form, mute, _then_, each, eachShow, EachOk}
@@ -56,7 +57,7 @@ top-ok row p = go (eqb (rowAt row .top) 1)
     go true o h = loop-ok bare p o h
     go false o h = o
 
-no-fields : (vs : List ℕ) → EachOk sheetField [] vs → vs ≡ []
+pub no-fields : (vs : List ℕ) → EachOk sheetField [] vs → vs ≡ []
 unfolding EachOk
 no-fields [] o = refl
 no-fields (v ∷ vs) o = absurd o

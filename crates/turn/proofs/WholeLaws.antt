@@ -13,6 +13,8 @@ use Rattle.wire.specs.If.{if_then_else_}
 use Rattle.wire.specs.Bytes.{Bytes}
 use Rattle.wire.specs.Parts.{Part}
 use Rattle.wire.specs.Reading as reading
+use Rattle.wire.proofs.IfLaws.{true-not-false}
+use Rattle.wire.proofs.ReadingLaws.{value-is, refused-is, never, through}
 use Rattle.wire.specs.Reading.{_>>=_}
 use Rattle.crc.specs.Crc.{crc, bytesOf}
 use Rattle.crc.proofs.Bytes.{bytes-lt}
@@ -213,7 +215,7 @@ module _ (s o : List ℕ) (w : Bytes s) (number : ℕ) (o₁ o₂ : List ℕ) (q
   sheet-written = record {
     written = λ c acc r hr big.
         let x = of-accepted s w acc in
-        let cc' : x .content ≡ c = reading.value-is (sym (x .reads) ∙ r) in
+        let cc' : x .content ≡ c = value-is (sym (x .reads) ∙ r) in
         let k : Holds c = subst Holds cc' (x .holds) in
         let is : sectionOf c ≡ s = ap sectionOf (sym cc') ∙ x .is in
         let m = numbers-of (rowIn c) (k .known) in
@@ -246,7 +248,7 @@ pub sheet-never : (s o : List ℕ) (number : ℕ) → Bytes s → 6 ≤ number �
 sheet-never s o number w h = record {
   written = λ c acc r hr big.
       let x = of-accepted s w acc in
-      let cc' : x .content ≡ c = reading.value-is (sym (x .reads) ∙ r) in
+      let cc' : x .content ≡ c = value-is (sym (x .reads) ∙ r) in
       let k = subst Holds cc' (x .holds) .known in
       absurd (omega arith);
 }
@@ -262,19 +264,19 @@ pub accepted-written : (x : Bool) (s : List ℕ) → x ≡ true → {row r : ℕ
 accepted-written x s e {row} {r} {o} {o'} h w =
     record {
       written = λ f. subst (λ k. SheetWritten s k o r o') h w;
-      kept = λ f. let z : true ≡ false = sym e ∙ f in let k : _≡_ {A = ℕ} 0 1 = cc in absurd (omega arith);
+      kept = λ f. absurd (true-not-false (sym e ∙ f));
     }
 
 pub refused-kept : (x : Bool) (s : List ℕ) → x ≡ false → {r : ℕ} {o : List ℕ} → AcceptedWritten x s o r o
 refused-kept x s e =
     record {
-      written = λ f. let z : true ≡ false = sym f ∙ e in let k : _≡_ {A = ℕ} 0 1 = cc in absurd (omega arith);
+      written = λ f. absurd (true-not-false (sym f ∙ e));
       kept = λ f. refl;
     }
 
 refused-through : {A B : Type 0} (r : reading.Reading A) (f : A → B) (k : ℕ) → (r >>= λ a. reading.value (f a)) ≡ reading.refused k → r ≡ reading.refused k
-refused-through (reading.value a) f k e = absurd (reading.never e)
-refused-through (reading.refused j) f k e = ap reading.refused (reading.refused-is e)
+refused-through (reading.value a) f k e = absurd (never e)
+refused-through (reading.refused j) f k e = ap reading.refused (refused-is e)
 
 pub section-refused : (n : ℕ) (s : List ℕ) (k : ℕ) → 4096 ≤ n → judgedSheet s ≡ reading.refused k → turn.toSection n s ≡ turn.refuses k 0
 unfolding turn.toSection judgedSheet
@@ -292,11 +294,11 @@ pub record Made (n : ℕ) (s : List ℕ) (k : ℕ) : Type 0 where
 pub section-made : (n : ℕ) (s : List ℕ) (k : ℕ) → Bytes s → 4096 ≤ n → judgedSheet s ≡ reading.value k → Made n s k
 unfolding judgedSheet
 section-made n s k w h e =
-    let x = reading.through (readSheet s) _ k e in
+    let x = through (readSheet s) _ k e in
     let c = x .0 in
     let y = held s c w (x .1) in
     let l = section-length c (y .holds) in
-    let hk : k ≡ sectionLength c = sym (reading.value-is (x .2)) in
+    let hk : k ≡ sectionLength c = sym (value-is (x .2)) in
     let m = y .holds .most in
     let mm = numbers-of (rowIn c) (y .holds .known) .most in
     let si = y .shows ∙ sheet-is c (y .holds .frame-fits) in
@@ -320,7 +322,7 @@ sheet-refused n s o h e = go (judged s) refl
   where
     go : (v : verdict.Said) → judged s ≡ v → (toldRefusal (judged s) ≡ turn.answer (if ltb n 5120 then turn.refuses 21 0 else turn.sheetIf (judged s) (turn.sheetFrom (contentOf s))))
         × (o ≡ turn.roomAfter o (if ltb n 5120 then turn.refuses 21 0 else turn.sheetIf (judged s) (turn.sheetFrom (contentOf s))))
-    go verdict.accepted q = let z : true ≡ false = ap verdict.isAccepted (sym q) ∙ e in let k : _≡_ {A = ℕ} 0 1 = cc in absurd (omega arith)
+    go verdict.accepted q = absurd (true-not-false (ap verdict.isAccepted (sym q) ∙ e))
     go (verdict.refused k p) q = (rw (le-ltb n 5120 h, q) refl, rw (le-ltb n 5120 h, q) refl)
 
 pub accepted-is : (v : verdict.Said) → verdict.isAccepted v ≡ true → v ≡ verdict.accepted

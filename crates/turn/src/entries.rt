@@ -98,7 +98,7 @@ pub fn entries_back(
     entries(false, row, number, s, Place { at: p.at, to }, room)
 }
 
-// The top loop is turned as an entry without fields, of which TOT's row has none.
+// The top loop is turned as one entry of row 5: TOT has no entries, so that row gives them no fields.
 pub fn top_loop(forth: bool, top: bool, s: &[u8], p: Place, room: &mut [u8]) -> Place
     ensures { λ r. ⌜ Turned (topIf forth top) (topIf (not forth) top) (now (s .entry)) p (now (room .entry)) r (now (room .exit)) ⌝ }
 {

@@ -2,6 +2,7 @@
 pub mod IfLaws
 pub mod TrailLaws
 pub mod NumberLaws
+pub mod ReadingLaws
 pub mod PartLaws
 pub mod Decimal
 pub mod NextDigit

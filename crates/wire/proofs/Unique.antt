@@ -1,7 +1,8 @@
 -- Two answers that tell the same are the same.
 use mathlib.Core.Path.{_≡_, refl, sym, ap, _∙_}
 use Prim.Native.Nat.{ℕ}
-use Rattle.wire.specs.Reading.{Reading, value, refused, value-is, refused-is, never}
+use Rattle.wire.specs.Reading.{Reading, value, refused}
+use Rattle.wire.proofs.ReadingLaws.{value-is, refused-is, never}
 use Rattle.wire.specs.Digits.{told}
 use Rattle.wire.specs.declared.digits.Digits.{Digits}
 use Rattle.wire.specs.declared.digits.Digits.the-variants.{Value, Bad}

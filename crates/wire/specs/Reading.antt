@@ -1,7 +1,5 @@
 -- What a reading tells: the value it found, or the number of the refusal.
-use mathlib.Core.Path.{_≡_, refl, sym}
 use Prim.Native.Nat.{ℕ}
-use native.Mathlib.Omega.{arith}
 
 -- the reading of a value of A
 pub data Reading (A : Type 0) : Type 0 where
@@ -13,20 +11,3 @@ infixl 1 _>>=_
 abbrev pub _>>=_ : {A B : Type 0} → Reading A → (A → Reading B) → Reading B
 value a >>= f = f a
 refused n >>= f = refused n
-
--- ---- laws
-
-module _ {A : Type 0} where
-  pub value-is : {a b : A} → value a ≡ value b → a ≡ b
-  value-is e = cc
-
-  pub refused-is : {m n : ℕ} → _≡_ {A = Reading A} (refused m) (refused n) → m ≡ n
-  refused-is e = cc
-
-  pub never : {a : A} {n : ℕ} → value a ≡ refused n → ⊥
-  never e = let z : _≡_ {A = ℕ} 0 1 = cc in omega arith
-
--- a value read through two readings was read through the first
-pub through : {A B : Type 0} (r : Reading A) (f : A → Reading B) (b : B) → (r >>= f) ≡ value b → (a : A) × (r ≡ value a) × (f a ≡ value b)
-through (value a) f b e = (a, refl, e)
-through (refused n) f b e = absurd (never (sym e))
