@@ -5,15 +5,20 @@ use mathlib.Core.Bool.{Bool, true, false}
 use Prim.Native.Nat.{ℕ, _+_, _-_, _≤_}
 use native.Mathlib.Nat.{add-assoc}
 use native.Mathlib.Omega.{arith}
-use lib.ListN.{length, take, drop}
+use lib.ListN.{length, take, drop, replicate, length-drop}
 use lib.Seq.{paste, take-paste, drop-paste, take-take, take-add, take-append-add, drop-drop, length-take-le}
 use Rattle.copy.specs.Copy.{block}
 
--- a block read into room of its own size, and written from there
-pub through : (d room s : List ℕ) (at n : ℕ) → n ≤ length s → paste d at (drop 0 (paste room 0 s n)) n ≡ paste d at s n
-through d room s at n fits =
-    let e : 0 + n ≡ n = omega arith in
-    ap (λ (l : List ℕ). take at d ++ l ++ drop (at + n) d) (ap (λ (k : ℕ). take k (paste room 0 s n)) (sym e) ∙ take-paste room 0 s n (omega arith) fits)
+-- a block of n, read into b and written from there
+pub through : (src d b o : List ℕ) (from at n : ℕ) → from + n ≤ length src → b ≡ paste (replicate n 0) 0 (drop from src) n → o ≡ paste d at (drop 0 b) n
+    → o ≡ paste d at (drop from src) n
+through src d b o from at n fits e f =
+    let s = drop from src in
+    let long : n ≤ length s = omega (arith, length-drop from src) in
+    let z : 0 + n ≡ n = omega arith in
+    f
+    ∙ ap (λ (l : List ℕ). paste d at (drop 0 l) n) e
+    ∙ ap (λ (l : List ℕ). take at d ++ l ++ drop (at + n) d) (ap (λ (k : ℕ). take k (paste (replicate n 0) 0 s n)) (sym z) ∙ take-paste (replicate n 0) 0 s n (omega arith) long)
 
 -- of a copy of i bytes, what stands before its byte j
 front : (d s : List ℕ) (at i j : ℕ) → at ≤ length d → i ≤ length s → j ≤ i → take (at + j) (paste d at s i) ≡ take at d ++ take j s

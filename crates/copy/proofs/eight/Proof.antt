@@ -1,10 +1,4 @@
-use mathlib.Core.Path.{_≡_, ap, _∙_}
-use mathlib.Core.List.{List}
-use Prim.Native.Nat.{ℕ, _+_, _≤_}
-use native.Mathlib.Omega.{arith}
 use borrow.Author.Needs.{needs}
-use lib.ListN.{length, drop, replicate, length-drop}
-use lib.Seq.{paste}
 use Rattle.copy.proofs.Blocks.{through}
 use Rattle.copy.proofs.eight.Statement.{statement}
 use Rattle.copy.proofs.eight.Tie as tie
@@ -25,21 +19,7 @@ same-length : tie.Need-same-length
 same-length c = search needs
 
 returns : tie.Need-returns
-returns c =
-    let k = c .before .before .before .before .before .before .before .before .before .before in
-    let s = drop (k .args .from) (k .args .src .now) in
-    let long : 8 ≤ length s = omega (arith, length-drop (k .args .from) (k .args .src .now)) in
-    c .before .before .singly2 .ensures
-    ∙ ap (λ (l : List ℕ). paste (k .args .dst .now) (k .args .at) (drop 0 l) 8) (c .before .before .before .before .before .before .singly .ensures)
-    ∙ through (k .args .dst .now) (replicate 8 0) s (k .args .at) 8 long
+returns c = let a = c .before .before .before .before .before .before .before .before .before .before .args in through (a .src .now) (a .dst .now) _ _ (a .from) (a .at) 8 (c .before .before .before .before .before .before .before .before .before .before .pre .0) (c .before .before .before .before .before .before .singly .ensures) (c .before .before .singly2 .ensures)
 
 pub eight-spec : {M : Type 1} → statement M
-eight-spec =
-    tie.close
-    (tie.spec
-    slice-aggregate-singly
-    singly-requires
-    slice-aggregate-singly-2
-    singly-requires-2
-    same-length
-    returns)
+eight-spec = tie.close (tie.spec slice-aggregate-singly singly-requires slice-aggregate-singly-2 singly-requires-2 same-length returns)
