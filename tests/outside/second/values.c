@@ -71,9 +71,44 @@ static void times(void)
     is("document 01: clock 12 4A 00: 63", lohitunga_time(0xC079, 0x12, 0x4A, 0).number, 63);
     is("document 01: an offset of 1 with 0000 is zero", lohitunga_offset(1, 0, 0).minutes, 0);
     is("document 01: a duration's hours go to 99", lohitunga_duration(0x99, 0x59, 0x59).hour, 99);
+    is("MJD 15,020 is below 15,079: 65", lohitunga_date(15020).number, 65);
+
+    what = "the first fault, left to right: MJD, hour, minute, second";
+    is(what, lohitunga_time(0xC079, 0x2A, 0x00, 0x00).number, 63);
+    is(what, lohitunga_time(0xC079, 0x24, 0x6A, 0x00).number, 64);
+    is(what, lohitunga_time(0x0000, 0xFF, 0x00, 0x00).number, 65);
+    is(what, lohitunga_time(0xC079, 0x23, 0x59, 0x60).number, 64);
+    t = lohitunga_time(0xC079, 0x23, 0x59, 0x59);
+    is("the last second of a day", t.number, 0);
+    is("the last second of a day", t.time.hour * 10000 + t.time.minute * 100 + t.time.second, 235959);
+    is("a duration of 99 60 00: 64", lohitunga_duration(0x99, 0x60, 0x00).number, 64);
+    is("a duration of FF FF FF: 63", lohitunga_duration(0xFF, 0xFF, 0xFF).number, 63);
+    is("an offset of 01 00 ahead", lohitunga_offset(0, 0x01, 0x00).minutes, 60);
+    is("an offset of 23 59 behind", lohitunga_offset(1, 0x23, 0x59).minutes, -1439);
+    is("an offset of 24 00: 64", lohitunga_offset(0, 0x24, 0x00).number, 64);
+    is("an offset of 00 0A: 63", lohitunga_offset(0, 0x00, 0x0A).number, 63);
 }
 
 /* Descriptors */
+
+/* "0100 0111 .." as it is printed. */
+static long long bits(const char *text)
+{
+    long long value = 0;
+    for (; *text; text++)
+        if (*text != ' ')
+            value = value * 2 + (*text == '1');
+    return value;
+}
+
+/* Bandwidth, priority, time slicing and MPE-FEC; the other fields in order. */
+static void is_terrestrial(const char *what, lohitunga_terrestrial_answer t, const char *first, const char *other)
+{
+    is(what, t.number, 0);
+    is(what, t.bandwidth * 8 + t.priority * 4 + t.time_slicing_indicator * 2 + t.mpe_fec_indicator, bits(first));
+    long long rates = t.constellation * 512 + t.hierarchy_information * 64 + t.code_rate_hp_stream * 8 + t.code_rate_lp_stream;
+    is(what, ((rates * 4 + t.guard_interval) * 4 + t.transmission_mode) * 2 + t.other_frequency_flag, bits(other));
+}
 
 static void delivery(void)
 {
@@ -85,6 +120,19 @@ static void delivery(void)
     what = "EN 300 468, 6.2.13.1: symbol_rate 027,4500 Msymbol/s";
     is(what, c.symbol_rate, 274500);
     is("FEC_inner behind the seventh digit", c.fec_inner, 15);
+    is("FEC_outer behind twelve reserved bits", c.fec_outer, 2);
+    is("modulation", c.modulation, 3);
+    c = lohitunga_cable(BYTES(0x44, 11, 0x03, 0x12, 0x00, 0x00, 0x00, 0x02, 0x03, 0x02, 0x74, 0x50, 0x0F));
+    is("reserved bits of zeros: the same fields", c.number, 0);
+    is("reserved bits of zeros: the same fields", c.fec_outer, 2);
+    is("reserved bits of zeros: the same fields", c.symbol_rate, 274500);
+    is("a frequency's last digit A: 63",
+       lohitunga_cable(BYTES(0x44, 11, 0x03, 0x12, 0x00, 0x0A, 0xFF, 0xF2, 0x03, 0x02, 0x74, 0x50, 0x0F)).number, 63);
+    is("a digit A of the symbol_rate: 63",
+       lohitunga_cable(BYTES(0x44, 11, 0x03, 0x12, 0x00, 0x00, 0xFF, 0xF2, 0x03, 0x02, 0x74, 0x5A, 0x0F)).number, 63);
+    is("a body of ten bytes: 62", lohitunga_cable(BYTES(0x44, 10, 0x03, 0x12, 0x00, 0x00, 0xFF, 0xF2, 0x03, 0x02, 0x74, 0x50)).number, 62);
+    is("a satellite descriptor read as a cable one: 61",
+       lohitunga_cable(BYTES(0x43, 11, 0x01, 0x17, 0x57, 0x25, 0x01, 0x92, 0x81, 0x02, 0x74, 0x50, 0x03)).number, 61);
 
     lohitunga_satellite_answer s = lohitunga_satellite(BYTES(0x43, 11, 0x01, 0x17, 0x57, 0x25, 0x01, 0x92, 0x81, 0x02, 0x74, 0x50, 0x03));
     what = "EN 300 468, 6.2.13.2: satellite frequency 011,75725 GHz; document 01: 1,175,725 steps";
@@ -94,6 +142,18 @@ static void delivery(void)
     is("EN 300 468, 6.2.13.2: orbital position 019,2 degrees", s.orbital_position, 192);
     is("EN 300 468, 6.2.13.2: symbol_rate 027,4500 Msymbol/s", s.symbol_rate, 274500);
     is("EN 300 468, 6.2.13.2: west_east_flag 1 is east", s.west_east_flag, 1);
+    is("DVB-S", s.polarization * 1000 + s.modulation_system * 100 + s.modulation_type * 10 + s.roll_off, 10);
+    is("FEC_inner", s.fec_inner, 3);
+    s = lohitunga_satellite(BYTES(0x43, 11, 0x01, 0x17, 0x57, 0x25, 0x01, 0x92, 0x99, 0x02, 0x74, 0x50, 0x03));
+    is("DVB-S: the two bits of the roll-off are reserved", s.number, 0);
+    is("DVB-S: the two bits of the roll-off are reserved", s.modulation_system * 10 + s.roll_off, 0);
+    s = lohitunga_satellite(BYTES(0x43, 11, 0x01, 0x17, 0x57, 0x25, 0x01, 0x92, 0x75, 0x02, 0x74, 0x50, 0x03));
+    what = "DVB-S2, west, polarization 3, roll-off 2";
+    is(what, s.number, 0);
+    is(what, s.west_east_flag, 0);
+    is(what, s.polarization * 1000 + s.modulation_system * 100 + s.modulation_type * 10 + s.roll_off, 3112);
+    is("a digit F of the orbital position: 63",
+       lohitunga_satellite(BYTES(0x43, 11, 0x01, 0x17, 0x57, 0x25, 0x0F, 0x92, 0x81, 0x02, 0x74, 0x50, 0x03)).number, 63);
 
     what = "EN 300 468, 6.2.13.4: centre_frequency from 10 Hz to 42 949 672 950 Hz";
     lohitunga_terrestrial_answer t = lohitunga_terrestrial(BYTES(0x5A, 11, 0, 0, 0, 1, 0, 0, 0, 0, 0, 0, 0));
@@ -101,16 +161,10 @@ static void delivery(void)
     is(what, (long long)lohitunga_terrestrial_hertz(t.centre_frequency), 10);
     t = lohitunga_terrestrial(BYTES(0x5A, 11, 0xFF, 0xFF, 0xFF, 0xFF, 0, 0, 0, 0, 0, 0, 0));
     is(what, (long long)lohitunga_terrestrial_hertz(t.centre_frequency), 42949672950LL);
-}
-
-/* "0100 0111 .." as it is printed. */
-static long long bits(const char *text)
-{
-    long long value = 0;
-    for (; *text; text++)
-        if (*text != ' ')
-            value = value * 2 + (*text == '1');
-    return value;
+    is_terrestrial("each field apart", lohitunga_terrestrial(BYTES(0x5A, 11, 0, 0, 0, 1, 0x57, 0x9D, 0xCD, 0xFF, 0xFF, 0xFF, 0xFF)),
+                   "010 1 0 1", "10 011 101 110 01 10 1");
+    is_terrestrial("each field apart, other values", lohitunga_terrestrial(BYTES(0x5A, 11, 0xFF, 0xFF, 0xFF, 0xFF, 0xA8, 0x62, 0x32, 0, 0, 0, 0)),
+                   "101 0 1 0", "01 100 010 001 10 01 0");
 }
 
 static void codes(void)
@@ -139,6 +193,89 @@ static void codes(void)
     what = "NBR 15603-2: service_ids 0001000000100000 and 0001000000111000";
     is(what, lohitunga_service_list(BYTES(0x41, 6, 0x10, 0x20, 1, 0x10, 0x38, 2), 0).service_id, bits("0001000000100000"));
     is(what, lohitunga_service_list(BYTES(0x41, 6, 0x10, 0x20, 1, 0x10, 0x38, 2), 1).service_id, bits("0001000000111000"));
+}
+
+/* Texts and lists: the parts, the number of items, and each way not to fit. */
+
+static void is_text(const char *what, const uint8_t *descriptor, lohitunga_part part, const char *text)
+{
+    is(what, (long long)part.size, (long long)strlen(text));
+    is(what, memcmp(descriptor + part.start, text, part.size), 0);
+}
+
+static void texts(void)
+{
+    const uint8_t name[] = {0x40, 3, 'B', 'R', 'A'};
+    lohitunga_text_answer n = lohitunga_network_name(name, sizeof name);
+    is("network name", n.number, 0);
+    is_text("network name", name, n.text, "BRA");
+    n = lohitunga_network_name(BYTES(0x40, 0));
+    is("network name of no byte", n.number + n.text.size, 0);
+    is("no byte: 61", lohitunga_network_name(name, 0).number, 61);
+    is("another tag: 61", lohitunga_network_name(BYTES(0x41, 3, 'B', 'R', 'A')).number, 61);
+    is("no length byte: 62", lohitunga_network_name(BYTES(0x40)).number, 62);
+    is("a byte behind the body: 62", lohitunga_network_name(BYTES(0x40, 2, 'B', 'R', 'A')).number, 62);
+    n = lohitunga_stuffing(BYTES(0x42, 2, 0xFF, 0x00));
+    is("stuffing", n.number, 0);
+    is("stuffing", (long long)n.text.size, 2);
+
+    const uint8_t service[] = {0x48, 9, 1, 3, 'G', 'B', 'R', 3, 'p', 'o', 'r'};
+    lohitunga_service_answer s = lohitunga_service(service, sizeof service);
+    is("service", s.number, 0);
+    is("service", s.service_type, 1);
+    is_text("service: provider", service, s.service_provider_name, "GBR");
+    is_text("service: name", service, s.service_name, "por");
+    s = lohitunga_service(BYTES(0x48, 3, 1, 0, 0));
+    is("service without names", s.number + s.service_provider_name.size + s.service_name.size, 0);
+    is("service of two bytes: 62", lohitunga_service(BYTES(0x48, 2, 1, 0)).number, 62);
+
+    const uint8_t event[] = {0x4D, 11, 'p', 'o', 'r', 3, 'B', 'R', 'A', 3, 'G', 'B', 'R'};
+    lohitunga_short_event_answer e = lohitunga_short_event(event, sizeof event);
+    is("short event", e.number, 0);
+    is_text("short event: name", event, e.event_name, "BRA");
+    is_text("short event: text", event, e.text, "GBR");
+    is("a byte behind the text: 62", lohitunga_short_event(BYTES(0x4D, 6, 'f', 'r', 'e', 0, 0, 0)).number, 62);
+    is("a text longer than the body: 62", lohitunga_short_event(BYTES(0x4D, 5, 'f', 'r', 'e', 0, 1)).number, 62);
+}
+
+static void lists(void)
+{
+    const uint8_t services[] = {0x41, 6, 0x10, 0x20, 1, 0x10, 0x38, 2};
+    is("service list: items", (long long)lohitunga_service_list_count(services, sizeof services).count, 2);
+    is("service list: types", lohitunga_service_list(services, sizeof services, 0).service_type, 1);
+    is("service list: types", lohitunga_service_list(services, sizeof services, 1).service_type, 2);
+    is("index past the end: 66", lohitunga_service_list(services, sizeof services, 2).number, 66);
+    is("two bytes are no item: 62", lohitunga_service_list(BYTES(0x41, 2, 0x10, 0x20), 0).number, 62);
+    is("an empty list has no item 0: 66", lohitunga_service_list(BYTES(0x41, 0), 0).number, 66);
+
+    is("content: items", (long long)lohitunga_content_count(BYTES(0x54, 2, 0x51, 0xA0)).count, 1);
+    lohitunga_content_answer c = lohitunga_content(BYTES(0x54, 2, 0x51, 0xA0), 0);
+    is("content", c.number, 0);
+    is("content", c.content_nibble_level_1 * 100000 + c.content_nibble_level_2 * 1000 + c.user_byte, 501160);
+    is("three bytes are no item: 62", lohitunga_content(BYTES(0x54, 3, 0x51, 0xA0, 0), 0).number, 62);
+
+    is("parental rating: items", (long long)lohitunga_parental_rating_count(BYTES(0x55, 8, 'G', 'B', 'R', 4, 'B', 'R', 'A', 1)).count, 2);
+    is("parental rating", lohitunga_parental_rating(BYTES(0x55, 8, 'G', 'B', 'R', 4, 'B', 'R', 'A', 1), 1).rating, 1);
+}
+
+static void offsets(void)
+{
+    const uint8_t one[] = {0x58, 13, 'G', 'B', 'R', 0x02, 0, 0, 0xC0, 0x79, 0x12, 0x45, 0, 0x01, 0};
+    is("local time offset: items", (long long)lohitunga_local_time_offset_count(one, sizeof one).count, 1);
+    lohitunga_local_time_offset_answer l = lohitunga_local_time_offset(one, sizeof one, 0);
+    is("local time offset", l.country_region_id + l.local_time_offset, 0);
+    is("local time offset: time of change", l.time_of_change.hour * 10000 + l.time_of_change.minute * 100 + l.time_of_change.second, 124500);
+    is_date("local time offset: time of change", l.time_of_change.mjd, 1993, 10, 13);
+    is("index past the end: 66", lohitunga_local_time_offset(one, sizeof one, 1).number, 66);
+    l = lohitunga_local_time_offset(BYTES(0x58, 13, 'G', 'B', 'R', 0xFF, 0, 0, 0xFF, 0xFF, 0xFF, 0xFF, 0xFF, 0x01, 0), 0);
+    is("region 63, polarity 1", l.country_region_id, 63);
+    is("region 63, polarity 1: zero is zero", l.local_time_offset, 0);
+    is("region 63, polarity 1", l.next_time_offset, -60);
+    is("region 63: undefined", l.time_of_change.undefined, 1);
+    const char *what = "the first fault, left to right: offset, time of change, next offset";
+    is(what, lohitunga_local_time_offset(BYTES(0x58, 13, 'G', 'B', 'R', 0x02, 0, 0x60, 0, 0, 0x12, 0x45, 0, 0x01, 0x0A), 0).number, 64);
+    is(what, lohitunga_local_time_offset(BYTES(0x58, 13, 'G', 'B', 'R', 0x02, 0, 0, 0, 0, 0x12, 0x45, 0, 0x01, 0x0A), 0).number, 65);
+    is(what, lohitunga_local_time_offset(BYTES(0x58, 13, 'G', 'B', 'R', 0x02, 0, 0, 0xC0, 0x79, 0x12, 0x45, 0, 0x01, 0x0A), 0).number, 63);
 }
 
 /* Sections */
@@ -271,6 +408,9 @@ int main(void)
     times();
     delivery();
     codes();
+    texts();
+    lists();
+    offsets();
     worked_sections();
     crc();
     ids();
