@@ -1,0 +1,17 @@
+#!/bin/sh
+# What the documents show is what the library says: the sheets and sections of docs/SHEETS.md, each turned into the other.
+set -eu
+cd "$(dirname "$0")/../.."
+before=$(tests/outside/second/build)
+out=target/second
+gcc=gcc static=
+[ "$(uname -m)" = x86_64 ] || { gcc=x86_64-linux-gnu-gcc static=-static; }
+$gcc -std=c11 -O2 -Wall -Wextra -Werror -Iinclude $static tests/outside/documents/turn.c target/staticlib/libcabinet.a -o "$out/turn"
+grep -E '^(sheet|section) ' docs/SHEETS.md | tr -s ' ' >"$out/shown"
+sheets=$(grep -c '^sheet ' "$out/shown")
+[ "$sheets" -ge 6 ] || { echo "documents: docs/SHEETS.md shows $sheets sheets"; exit 1; }
+# every sheet is followed by its section: turned, the lines change places two by two
+awk 'NR % 2 { held = $0; next } { print; print held }' "$out/shown" >"$out/wanted"
+$before "$out/turn" <"$out/shown" >"$out/turned"
+cmp -s "$out/turned" "$out/wanted" || { echo "documents: docs/SHEETS.md shows what the library does not say:"; diff "$out/wanted" "$out/turned"; exit 1; }
+echo "documents: the $sheets sheets of docs/SHEETS.md and their sections are turned into each other"
