@@ -5,3 +5,4 @@ pub mod NoSpan
 pub mod Demand3
 pub mod WrongCollectors
 pub mod Promise
+pub mod Tied
