@@ -1,8 +1,11 @@
--- That the promise of `collector::collect` gives each statement, and that each wrong collector breaks one.
+-- That the promise of `collector::collect` gives each statement, that the statements fix the collector, and that each wrong collector breaks one.
 pub mod Stands
 pub mod Agrees
 pub mod NoSpan
+pub mod Fares
+pub mod Demand1
 pub mod Demand3
 pub mod WrongCollectors
 pub mod Promise
+pub mod Fixed
 pub mod Tied
