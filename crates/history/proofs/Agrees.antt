@@ -49,7 +49,7 @@ plain-whole [] x = tt
 plain-whole (s ∷ secs) x = (subst WholeSection (map-id s) (x .0), plain-whole secs (x .1))
 
 -- the sections that a packet finishes are whole
-whole-taken : (last : Option ℕ) (h : List ℕ) (q : Carried ℕ)
+pub whole-taken : (last : Option ℕ) (h : List ℕ) (q : Carried ℕ)
     → Each WholeSection (takenIn plain last (holding h) q .sections)
 whole-taken last h q =
     plain-whole (takenIn plain last (holding h) q .sections)

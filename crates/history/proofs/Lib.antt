@@ -8,4 +8,5 @@ pub mod Demand3
 pub mod WrongCollectors
 pub mod Promise
 pub mod Fixed
+pub mod OutRoom
 pub mod Tied

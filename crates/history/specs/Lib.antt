@@ -4,4 +4,5 @@ pub mod Run
 pub mod Demand1
 pub mod Demand3
 pub mod Fixed
+pub mod OutRoom
 pub mod WrongCollectors
