@@ -6,6 +6,7 @@ pub mod Fares
 pub mod Demand1
 pub mod Demand3
 pub mod WrongCollectors
+pub mod AtWork
 pub mod Promise
 pub mod Fixed
 pub mod OutRoom

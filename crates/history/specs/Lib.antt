@@ -6,3 +6,4 @@ pub mod Demand3
 pub mod Fixed
 pub mod OutRoom
 pub mod WrongCollectors
+pub mod AtWork
