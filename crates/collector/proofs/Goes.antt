@@ -10,7 +10,7 @@ use lib.Seq.{paste, length-take-le, take-append-add, take-take}
 use Rattle.wire.specs.If.{if_then_else_}
 use Rattle.collector.specs.Rules.{Fate, delivered, broken, filler, skipped, in-hand, Mark, Story, sameFate, outOfHand, handOf, marked, settled, brokenOff, finished, holding, Mode, inside, filling, skipping, Next, totalOf, joined, resumed, plain, stretch, goesOn}
 use Rattle.collector.specs.Collected.{over}
-use Rattle.collector.specs.Inside.{LookSays, Ends, CanStand}
+use Rattle.collector.specs.Inner.Stretch.{LookSays, Ends, CanStand}
 use Rattle.collector.specs.declared.stretch.Look.{Look}
 use Rattle.collector.specs.declared.stretch.Look.the-variants.{Going, Over, Whole}
 use Rattle.collector.specs.declared.stretch.Came.{Came}

@@ -10,7 +10,9 @@ use Rattle.collector.specs.Rules.{Fate, pointer, delivered, broken, fill
 use Rattle.collector.specs.Answer as Answer
 use Rattle.collector.specs.Answer.{came}
 use Rattle.collector.specs.Collected.{over, recordAfter, takenTo}
-use Rattle.collector.specs.Inside.{Fit, Ends, Small, keptOf, pointCount, countedOf}
+use Rattle.collector.specs.Inner.Payload.{Fit, Small}
+use Rattle.collector.specs.Inner.Stretch.{Ends}
+use Rattle.collector.specs.Inner.Taking.{keptOf, pointCount, countedOf}
 use Rattle.collector.specs.declared.Record.{Record}
 use Rattle.collector.specs.declared.Last.the-variants.{Counter}
 use Rattle.collector.specs.declared.Answer.the-variants.{Taken}

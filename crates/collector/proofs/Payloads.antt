@@ -12,7 +12,8 @@ use Rattle.wire.specs.If.{if_then_else_}
 use Rattle.collector.specs.Each.{Each}
 use Rattle.collector.specs.Rules.{Fate, pointer, broken, filler, skipped, in-hand, Story, sameFate, bytesOf, countOf, handOf, marked, given, brokenOff, holding, joined, plain, goesOn, sectionsIn, started, payload}
 use Rattle.collector.specs.Collected.{over}
-use Rattle.collector.specs.Inside.{Ends, Fit, Small, frontOf, bothOf}
+use Rattle.collector.specs.Inner.Stretch.{Ends}
+use Rattle.collector.specs.Inner.Payload.{Fit, Small, frontOf, bothOf}
 use Rattle.collector.specs.declared.stretch.Came.{Came}
 use Rattle.collector.specs.declared.payload.Front.{Front}
 use Rattle.collector.proofs.Marks.{flatten-append, bytesOf-more, settled-hand}

@@ -7,7 +7,7 @@ use native.Mathlib.Omega.{arith}
 use lib.ListN.{length, take, drop, length-append, take-append-drop}
 use lib.Seq.{paste, take-at, drop-at, drop-drop, length-take-le}
 use Rattle.collector.specs.Rules.{Story}
-use Rattle.collector.specs.Inside.{Ends}
+use Rattle.collector.specs.Inner.Stretch.{Ends}
 use Rattle.collector.specs.declared.stretch.Came.{Came}
 
 -- a room with bytes in it from index at on

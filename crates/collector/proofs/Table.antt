@@ -14,8 +14,10 @@ use Rattle.wire.proofs.IfLaws.{true-not-false}
 use Rattle.collector.specs.Each.{Each}
 use Rattle.collector.specs.Packet.{startFlag, pidOf, scrambling, control, counterOf, adaptation, payloadFrom, payloadOf, pointerOf}
 use Rattle.collector.specs.Rules.{totalOf}
-use Rattle.collector.specs.Refusals.{isNone, counterPast, heldUnfit, cannotStand, Row, pointerRefusal, shapeRefusals, headerRefusals, refusals, firstOf, Judged, refuse, bare, carries, judgedBy, judged}
-use Rattle.collector.specs.Inside.{PayloadAt, CanStand, Fit}
+use Rattle.collector.specs.Refusals.{isNone, counterPast, heldUnfit, cannotStand, Row, refusals, firstOf, Judged, refuse, bare, carries, judgedBy, judged}
+use Rattle.collector.specs.Inner.Packet.{pointerRefusal, shapeRefusals, headerRefusals, PayloadAt}
+use Rattle.collector.specs.Inner.Stretch.{CanStand}
+use Rattle.collector.specs.Inner.Payload.{Fit}
 use Rattle.collector.specs.declared.Record.{Record}
 use Rattle.collector.proofs.Runs.{total-prefix}
 

@@ -12,7 +12,7 @@ use borrow.Author.Tests.{eq-eqb, ne-eqb}
 use Rattle.wire.specs.If.{if_then_else_}
 use Rattle.collector.specs.Rules.{Fate, delivered, broken, filler, skipped, in-hand, Mark, Story, sameFate, bytesOf, handOf, marked, given, settled, brokenOff, finished, holding, begin, inside, filling, Next, totalOf, begun, plain, stretch, sectionsIn}
 use Rattle.collector.specs.Collected.{over}
-use Rattle.collector.specs.Inside.{LookSays, Ends}
+use Rattle.collector.specs.Inner.Stretch.{LookSays, Ends}
 use Rattle.collector.specs.declared.stretch.Look.{Look}
 use Rattle.collector.specs.declared.stretch.Look.the-variants.{Going, Over, Whole}
 use Rattle.collector.specs.declared.stretch.Came.{Came}

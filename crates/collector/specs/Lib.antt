@@ -1,8 +1,8 @@
--- What the collector promises of a call: definitions that state document 01, and what private functions say of each other.
+-- What the collector promises of a call: definitions that state document 01. `Inner` has what private functions say of each other.
 pub mod Each
 pub mod Packet
 pub mod Rules
 pub mod Refusals
 pub mod Answer
 pub mod Collected
-pub mod Inside
+pub mod Inner

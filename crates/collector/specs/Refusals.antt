@@ -46,24 +46,13 @@ infix 70 _when_
 abbrev pub _when_ : ℕ → Bool → Row
 n when b = record { number = n; applies = b }
 
--- "control 01 or 11, start flag, and pointer above payload length minus 2 (a payload of 1: always)"
-abbrev pub pointerRefusal : List ℕ → List Row
-pointerRefusal packet = 49 when (not (eqb (control packet) 2) && (startFlag packet && ltb (length (payloadOf packet)) (pointerOf packet + 2))) ∷ []
-
 -- "adaptation control 00; or 11 with length above 182; or 10 with length other than 183"
-abbrev pub shapeRefusals : List ℕ → List Row
-shapeRefusals packet =
-    48 when (eqb (control packet) 0 || ((eqb (control packet) 3 && ltb 182 (adaptation packet)) || (eqb (control packet) 2 && not (eqb (adaptation packet) 183))))
-    ∷ pointerRefusal packet
+abbrev pub wrongAdaptation : List ℕ → Bool
+wrongAdaptation packet = eqb (control packet) 0 || ((eqb (control packet) 3 && ltb 182 (adaptation packet)) || (eqb (control packet) 2 && not (eqb (adaptation packet) 183)))
 
--- "first byte not 0x47", "transport_error_indicator 1", "another PID", "scrambling control not 00"
-abbrev pub headerRefusals : ℕ → List ℕ → List Row
-headerRefusals pid packet =
-    44 when not (eqb (getD packet 0 0) 0x47)
-    ∷ 45 when transportError packet
-    ∷ 46 when not (eqb (pidOf packet) pid)
-    ∷ 47 when not (eqb (scrambling packet) 0)
-    ∷ shapeRefusals packet
+-- "control 01 or 11, start flag, and pointer above payload length minus 2 (a payload of 1: always)"
+abbrev pub pointsPast : List ℕ → Bool
+pointsPast packet = not (eqb (control packet) 2) && (startFlag packet && ltb (length (payloadOf packet)) (pointerOf packet + 2))
 
 -- "given when, in this order". The record counts for 43 and the PID alone, and of the rooms their sizes alone.
 abbrev pub refusals : Bool → ℕ → ℕ → ℕ → List ℕ → List Row
@@ -71,7 +60,13 @@ refusals unfit pid hold out packet =
     41 when not (eqb (length packet) 188)
     ∷ 42 when (ltb hold 4096 || ltb out 4280)
     ∷ 43 when unfit
-    ∷ headerRefusals pid packet
+    ∷ 44 when not (eqb (getD packet 0 0) 0x47)
+    ∷ 45 when transportError packet
+    ∷ 46 when not (eqb (pidOf packet) pid)
+    ∷ 47 when not (eqb (scrambling packet) 0)
+    ∷ 48 when wrongAdaptation packet
+    ∷ 49 when pointsPast packet
+    ∷ []
 
 -- "Input to which numbered refusals apply gets the first of them"
 abbrev pub firstOf : List Row → Option ℕ

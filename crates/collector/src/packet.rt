@@ -7,8 +7,8 @@ ghost use mathlib.Core.Path.{_≡_};
 ghost use Prim.Native.Nat.{_≤_};
 ghost use lib.ListN.{length};
 ghost use Rattle.collector.specs.Packet.{pidOf};
-ghost use Rattle.collector.specs.Refusals.{isNone, counterPast, heldUnfit, cannotStand, pointerRefusal, shapeRefusals, headerRefusals, firstOf, judgedBy, judged};
-ghost use Rattle.collector.specs.Inside.{meant, PayloadAt};
+ghost use Rattle.collector.specs.Refusals.{isNone, counterPast, heldUnfit, cannotStand, firstOf, judgedBy, judged};
+ghost use Rattle.collector.specs.Inner.Packet.{meant, pointerRefusal, shapeRefusals, headerRefusals, PayloadAt};
 
 // What a packet is, whether or not it is a repeated one: refused, taken with no payload, or with payload from an index on.
 pub enum Verdict {

@@ -5,7 +5,8 @@ ghost use mathlib.Core.Path.{_≡_};
 ghost use Prim.Native.Nat.{_<_};
 ghost use lib.ListN.{length, take, drop};
 ghost use Rattle.collector.specs.Rules.{holding, payload, plain};
-ghost use Rattle.collector.specs.Inside.{Ends, Fit, Small, frontOf, bothOf};
+ghost use Rattle.collector.specs.Inner.Stretch.{Ends};
+ghost use Rattle.collector.specs.Inner.Payload.{Fit, Small, frontOf, bothOf};
 
 // The stretch that goes to the section in hand: so many bytes of the packet, from index from on.
 struct Front {

@@ -6,7 +6,7 @@ ghost use Prim.Native.Nat.{_+_, _-_, _≤_, _<_};
 ghost use lib.ListN.{length, take, drop, getD};
 ghost use Rattle.wire.specs.Bytes.{len12};
 ghost use Rattle.collector.specs.Rules.{holding, joined, goesOn, sectionsIn, plain};
-ghost use Rattle.collector.specs.Inside.{LookSays, Ends, CanStand};
+ghost use Rattle.collector.specs.Inner.Stretch.{LookSays, Ends, CanStand};
 
 // What stands first in a run of bytes: a section that goes on past them, one that declares too much, or a whole one, of so many bytes.
 pub enum Look {

@@ -12,7 +12,8 @@ ghost use Rattle.collector.specs.Rules.{follows, holding, joined, plain,
 ghost use Rattle.collector.specs.Refusals.{lastOf, repeats, carriedIn, ruledOn};
 ghost use Rattle.collector.specs.Answer.{came};
 ghost use Rattle.collector.specs.Collected.{takenTo, outcomeOf};
-ghost use Rattle.collector.specs.Inside.{Fit, Small, keptOf, pointCount, countedOf};
+ghost use Rattle.collector.specs.Inner.Payload.{Fit, Small};
+ghost use Rattle.collector.specs.Inner.Taking.{keptOf, pointCount, countedOf};
 
 // "a counter equal to the last"
 fn is_repeat(last: Last, counter: u8) -> bool

@@ -26,7 +26,7 @@ use Rattle.collector.proofs.Kept.{Any, WholeSection, AllWhole, keeps-whole}
 use Rattle.collector.proofs.Payloads.{any}
 use Rattle.collector.proofs.Table.{or-false, carries-of}
 use Rattle.history.specs.History.{Byte, valueOf, numbered, History, unbegun, numberedIn, after, historyFrom}
-use Rattle.history.specs.Run.{Promised, Call, Run, no-call, one-call, fareOf, ruledFare, lentOf, rulingOn, lastAfter, carriedBy, faresFrom, takenFrom, cut, handedBy, handed, bytesBy}
+use Rattle.history.specs.Run.{Promised, Call, Run, no-call, one-call, fareOf, ruledFare, lentOf, rulingOn, lastAfter, carriedBy, faresFrom, takenFrom, cut, handedBy, handed, bytesBy, toldBy}
 use Rattle.history.specs.Demand3.{Counted}
 use Rattle.history.proofs.Stands.{Standing, standing-none, stands-taken, few-standing, stands-after}
 
@@ -36,9 +36,11 @@ cut-whole : (secs : List (List ℕ)) → Each WholeSection secs → cut (length 
 unfolding flatten
 cut-whole [] x = refl
 cut-whole (s ∷ secs) x =
-    let long : totalOf (s ++ flatten secs) ≡ length s = total-prefix s (flatten secs) (x .0 .header) ∙ sym (x .0 .exact) in
+    let long : totalOf (s ++ flatten secs) ≡ length s =
+    total-prefix s (flatten secs) (x .0 .header) ∙ sym (x .0 .exact) in
     ap (λ (n : ℕ). take n (s ++ flatten secs) ∷ cut (length secs) (drop n (s ++ flatten secs))) long
-    ∙ ap (λ (l : List ℕ). l ∷ cut (length secs) (drop (length s) (s ++ flatten secs))) (take-append-seam s (flatten secs))
+    ∙ ap (λ (l : List ℕ). l ∷ cut (length secs) (drop (length s) (s ++ flatten secs)))
+    (take-append-seam s (flatten secs))
     ∙ ap (λ (l : List ℕ). s ∷ cut (length secs) l) (drop-append-seam s (flatten secs))
     ∙ ap (λ (l : List (List ℕ)). s ∷ l) (cut-whole secs (x .1))
 
@@ -47,8 +49,12 @@ plain-whole [] x = tt
 plain-whole (s ∷ secs) x = (subst WholeSection (map-id s) (x .0), plain-whole secs (x .1))
 
 -- the sections that a packet finishes are whole
-whole-taken : (last : Option ℕ) (h : List ℕ) (q : Carried ℕ) → Each WholeSection (takenIn plain last (holding h) q .sections)
-whole-taken last h q = plain-whole (takenIn plain last (holding h) q .sections) (keep-taken plain Any (AllWhole plain) (keeps-whole plain) (λ b l s r x. x) last h (holding h) q (any (q .bytes)) tt)
+pub whole-taken : (last : Option ℕ) (h : List ℕ) (q : Carried ℕ)
+    → Each WholeSection (takenIn plain last (holding h) q .sections)
+whole-taken last h q =
+    plain-whole (takenIn plain last (holding h) q .sections)
+    (keep-taken plain Any (AllWhole plain) (keeps-whole plain) (λ b l s r x. x) last h (holding h) q (any (q .bytes))
+    tt)
 
 -- ---- what a ruling tells of a packet that is taken with payload
 
@@ -62,19 +68,23 @@ Taking size repeated = Unit {0}
 Taking size Refusals.bare = Unit {0}
 Taking size (takes q) = (q .counter ≤ 15) × (4096 ≤ size)
 
-taking-if : (size : ℕ) (q : Carried ℕ) (t : Bool) → (q .counter ≤ 15) × (4096 ≤ size) → Taking size (if t then repeated else takes q)
+taking-if : (size : ℕ) (q : Carried ℕ) (t : Bool) → (q .counter ≤ 15) × (4096 ≤ size)
+    → Taking size (if t then repeated else takes q)
 taking-if size q true x = tt
 taking-if size q false x = x
 
-taking-at : (unfit : Bool) (pid size out : ℕ) (last : Option ℕ) (p : List ℕ) (j : Judged) → judged unfit pid size out p ≡ j → Taking size (ruledBy last p j)
+taking-at : (unfit : Bool) (pid size out : ℕ) (last : Option ℕ) (p : List ℕ) (j : Judged)
+    → judged unfit pid size out p ≡ j → Taking size (ruledBy last p j)
 taking-at unfit pid size out last p (refuse n) e = tt
 taking-at unfit pid size out last p Refusals.bare e = tt
 taking-at unfit pid size out last p (carries from start c) e =
     let x = carries-of unfit pid size out p from start c e in
     let few : c ≤ 15 = omega (arith, x .count) in
-    taking-if size (carriedIn p from start c) (repeats last c) (few, ltb-false _ _ (or-false (ltb size 4096) _ (x .passed .1 .0) .0))
+    taking-if size (carriedIn p from start c) (repeats last c)
+    (few, ltb-false _ _ (or-false (ltb size 4096) _ (x .passed .1 .0) .0))
 
-taking-of : (unfit : Bool) (pid size out : ℕ) (last : Option ℕ) (p : List ℕ) → Taking size (ruling unfit pid last size out p)
+taking-of : (unfit : Bool) (pid size out : ℕ) (last : Option ℕ) (p : List ℕ)
+    → Taking size (ruling unfit pid last size out p)
 taking-of unfit pid size out last p = taking-at unfit pid size out last p (judged unfit pid size out p) refl
 
 -- ---- the record agrees with a history
@@ -94,13 +104,22 @@ agrees-fresh pid hold = record {
   size-is = refl;
   last-is = refl;
   stand-is = or-none (ltb 8191 pid);
-  counted = record { pointer-is = refl; delivered-is = refl; broken-is = refl; filler-is = refl; skipped-is = refl; in-hand-is = refl; hold-is = refl };
+  counted = record {
+    pointer-is = refl;
+    delivered-is = refl;
+    broken-is = refl;
+    filler-is = refl;
+    skipped-is = refl;
+    in-hand-is = refl;
+    hold-is = refl;
+  };
   standing = standing-none;
 }
 
 -- a counter that runs round goes on as the count does
 runs-round : (c n k d : ℕ) → c ≡ n % 2 ^ 32 → d ≡ n + k → (c + k) % 2 ^ 32 ≡ d % 2 ^ 32
-runs-round c n k d e w = ap (λ (x : ℕ). (x + k) % 2 ^ 32) e ∙ mod-add-mod n (2 ^ 32) k ∙ ap (λ (x : ℕ). x % 2 ^ 32) (sym w)
+runs-round c n k d e w =
+    ap (λ (x : ℕ). (x + k) % 2 ^ 32) e ∙ mod-add-mod n (2 ^ 32) k ∙ ap (λ (x : ℕ). x % 2 ^ 32) (sym w)
 
 values-of : (k : ℕ) (bs : List ℕ) → map valueOf (numbered k bs) ≡ bs
 values-of k [] = refl
@@ -139,27 +158,52 @@ module _ {pid size : ℕ} {r : Record} {hold : List ℕ} {h : History} (g : Agre
     -- the packet's own story stands beside the history that goes on
     beside-after : Beside valueOf base secs s (after h q .story)
     beside-after =
-        subst (λ (bs : List ℕ). Beside valueOf base secs (takenIn plain (h .last) (holding hand) (record { counter = q .counter; start = q .start; bytes = bs })) (after h q .story)) (values-of (h .packets) (q .bytes))
+        subst
+        (λ (bs : List ℕ). Beside valueOf base secs
+        (takenIn plain (h .last) (holding hand) (record { counter = q .counter; start = q .start; bytes = bs }))
+        (after h q .story))
+        (values-of (h .packets) (q .bytes))
         (beside-taken valueOf base secs (h .last) (holding hand) (h .story) (numberedIn (h .packets) q) beside)
 
     standing-after : Standing (handOf s)
     standing-after = stands-taken (h .last) hand q (subst Standing (sym (g .counted .hold-is)) (g .standing))
 
-    agrees-taken : (q .counter ≤ 15) × (4096 ≤ size) → Agrees pid size (recordAfter r (q .counter) s) (over (handOf s) hold) (after h q)
+    agrees-taken : (q .counter ≤ 15) × (4096 ≤ size)
+        → Agrees pid size (recordAfter r (q .counter) s) (over (handOf s) hold) (after h q)
     agrees-taken x =
         let b = beside-after in
         let few = few-standing (handOf s) standing-after in
         record {
           pid-is = g .pid-is;
-          size-is = omega (arith, length-append (handOf s) (drop (length (handOf s)) hold), length-drop (length (handOf s)) hold, g .size-is, x .1);
+          size-is =
+              omega (
+                arith,
+                length-append (handOf s) (drop (length (handOf s)) hold),
+                length-drop (length (handOf s)) hold,
+                g .size-is,
+                x .1,
+              );
           last-is = refl;
-          stand-is = stands-after (recordAfter r (q .counter) s) (q .counter) refl (x .0) (handOf s) standing-after refl (drop (length (handOf s)) hold) ∙ ap (ltb 8191) (g .pid-is);
+          stand-is =
+              stands-after (recordAfter r (q .counter) s) (q .counter) refl (x .0) (handOf s) standing-after refl
+              (drop (length (handOf s)) hold)
+              ∙ ap (ltb 8191) (g .pid-is);
           counted = record {
-            pointer-is = runs-round (r .pointer) (base pointer) (countOf pointer (s .marks)) _ (g .counted .pointer-is) (b .counts pointer refl);
-            delivered-is = runs-round (r .delivered) (base delivered) (countOf delivered (s .marks)) _ (g .counted .delivered-is) (b .counts delivered refl);
-            broken-is = runs-round (r .broken) (base broken) (countOf broken (s .marks)) _ (g .counted .broken-is) (b .counts broken refl);
-            filler-is = runs-round (r .filler) (base filler) (countOf filler (s .marks)) _ (g .counted .filler-is) (b .counts filler refl);
-            skipped-is = runs-round (r .skipped) (base skipped) (countOf skipped (s .marks)) _ (g .counted .skipped-is) (b .counts skipped refl);
+            pointer-is =
+                runs-round (r .pointer) (base pointer) (countOf pointer (s .marks)) _ (g .counted .pointer-is)
+                (b .counts pointer refl);
+            delivered-is =
+                runs-round (r .delivered) (base delivered) (countOf delivered (s .marks)) _ (g .counted .delivered-is)
+                (b .counts delivered refl);
+            broken-is =
+                runs-round (r .broken) (base broken) (countOf broken (s .marks)) _ (g .counted .broken-is)
+                (b .counts broken refl);
+            filler-is =
+                runs-round (r .filler) (base filler) (countOf filler (s .marks)) _ (g .counted .filler-is)
+                (b .counts filler refl);
+            skipped-is =
+                runs-round (r .skipped) (base skipped) (countOf skipped (s .marks)) _ (g .counted .skipped-is)
+                (b .counts skipped refl);
             in-hand-is = ap length (sym (b .hand)) ∙ map-long (handOf (after h q .story));
             hold-is = take-append-seam (handOf s) (drop (length (handOf s)) hold) ∙ sym (b .hand);
           };
@@ -176,36 +220,72 @@ record Went (pid size : ℕ) (h : History) (z : Ruling) (o : Outcome) : Type 0 w
   fare : fareOf (o .said) ≡ ruledFare z
   agrees : Agrees pid size (o .rec) (o .hold) (historyFrom h (carriedBy z))
   last : historyFrom h (carriedBy z) .last ≡ lastAfter (h .last) z
-  sections : map (map valueOf) (historyFrom h (carriedBy z) .story .sections) ≡ map (map valueOf) (h .story .sections) ++ handedBy (o .said) (o .out)
+  sections : map (map valueOf) (historyFrom h (carriedBy z) .story .sections)
+      ≡ map (map valueOf) (h .story .sections) ++ handedBy (o .said) (o .out)
   bytes : flatten (handedBy (o .said) (o .out)) ≡ bytesBy (o .said) (o .out)
+  told : length (flatten (handedBy (o .said) (o .out))) ≡ toldBy (o .said)
 
 module _ {pid size : ℕ} {r : Record} {hold : List ℕ} {h : History} (g : Agrees pid size r hold h) (out : List ℕ) where
-  went-taken : (q : Carried ℕ) → (q .counter ≤ 15) × (4096 ≤ size) → Went pid size h (takes q) (takenTo r hold out (q .counter) (s g q))
+  went-taken : (q : Carried ℕ) → (q .counter ≤ 15) × (4096 ≤ size)
+      → Went pid size h (takes q) (takenTo r hold out (q .counter) (s g q))
   went-taken q x =
       let secs : List (List ℕ) = s g q .sections in
-      let front : take (length (flatten secs)) (over (flatten secs) out) ≡ flatten secs = take-append-seam (flatten secs) (drop (length (flatten secs)) out) in
-      let given : cut (length secs) (take (length (flatten secs)) (over (flatten secs) out)) ≡ secs = ap (cut (length secs)) front ∙ cut-whole secs (whole-taken (h .last) (hand g) q) in
+      let front : take (length (flatten secs)) (over (flatten secs) out) ≡ flatten secs =
+      take-append-seam (flatten secs) (drop (length (flatten secs)) out) in
+      let given : cut (length secs) (take (length (flatten secs)) (over (flatten secs) out)) ≡ secs =
+      ap (cut (length secs)) front ∙ cut-whole secs (whole-taken (h .last) (hand g) q) in
       record {
         fare = refl;
         agrees = agrees-taken g q x;
         last = refl;
-        sections = sections-taken g q ∙ ap (λ (l : List (List ℕ)). map (map valueOf) (h .story .sections) ++ l) (sym given);
+        sections =
+            sections-taken g q ∙ ap (λ (l : List (List ℕ)). map (map valueOf) (h .story .sections) ++ l) (sym given);
         bytes = ap flatten given ∙ sym front;
+        told = ap (λ (l : List (List ℕ)). length (flatten l)) given;
       }
 
   went-by : (z : Ruling) → Taking size z → Went pid size h z (outcomeOf r hold out z)
   unfolding flatten
-  went-by (Refusals.refused n) x = record { fare = refl; agrees = g; last = refl; sections = sym (append-nil _); bytes = refl }
-  went-by repeated x = record { fare = refl; agrees = g; last = refl; sections = sym (append-nil _); bytes = refl }
-  went-by Refusals.bare x = record { fare = refl; agrees = g; last = refl; sections = sym (append-nil _); bytes = refl }
-  went-by (takes q) x = subst (λ (l : Option ℕ). Went pid size h (takes q) (takenTo r hold out (q .counter) (takenIn plain l (holding (hand g)) q))) (sym (g .last-is)) (went-taken q x)
+  went-by (Refusals.refused n) x = record {
+    fare = refl;
+    agrees = g;
+    last = refl;
+    sections = sym (append-nil _);
+    bytes = refl;
+    told = refl;
+  }
+  went-by repeated x = record {
+    fare = refl;
+    agrees = g;
+    last = refl;
+    sections = sym (append-nil _);
+    bytes = refl;
+    told = refl;
+  }
+  went-by Refusals.bare x = record {
+    fare = refl;
+    agrees = g;
+    last = refl;
+    sections = sym (append-nil _);
+    bytes = refl;
+    told = refl;
+  }
+  went-by (takes q) x =
+      subst
+      (λ (l : Option ℕ). Went pid size h (takes q)
+      (takenTo r hold out (q .counter) (takenIn plain l (holding (hand g)) q)))
+      (sym (g .last-is)) (went-taken q x)
 
   -- the ruling on the packet is the one that the packets alone give
-  went : (packet : List ℕ) (o : Outcome) → Promised r hold out packet o → Went pid size h (rulingOn pid size (h .last) (record { packet = packet; room = length out })) o
+  went : (packet : List ℕ) (o : Outcome) → Promised r hold out packet o
+      → Went pid size h (rulingOn pid size (h .last) (record { packet = packet; room = length out })) o
   went packet o e =
       let z : Ruling = ruling (cannotStand r hold) (r .pid) (lastOf (r .last)) (length hold) (length out) packet in
-      let same : z ≡ rulingOn pid size (h .last) (record { packet = packet; room = length out }) = λ i. ruling (g .stand-is i) (g .pid-is i) (g .last-is i) (g .size-is i) (length out) packet in
-      let taking : Taking size z = subst (λ (n : ℕ). Taking n z) (g .size-is) (taking-of (cannotStand r hold) (r .pid) (length hold) (length out) (lastOf (r .last)) packet) in
+      let same : z ≡ rulingOn pid size (h .last) (record { packet = packet; room = length out }) =
+      λ i. ruling (g .stand-is i) (g .pid-is i) (g .last-is i) (g .size-is i) (length out) packet in
+      let taking : Taking size z =
+      subst (λ (n : ℕ). Taking n z) (g .size-is)
+      (taking-of (cannotStand r hold) (r .pid) (length hold) (length out) (lastOf (r .last)) packet) in
       subst (λ (y : Ruling). Went pid size h y o) same (subst (Went pid size h z) (sym e) (went-by z taking))
 
 -- ---- a run of calls
@@ -217,21 +297,32 @@ history-append h (q ∷ a) c = history-append (after h q) a c
 pub record Ran (pid size : ℕ) (h : History) (ks : List Call) (r′ : Record) (hold′ : List ℕ) : Type 0 where
   pub fares : map (λ k. fareOf (k .said)) ks ≡ faresFrom pid size (h .last) (map lentOf ks)
   pub agrees : Agrees pid size r′ hold′ (historyFrom h (takenFrom pid size (h .last) (map lentOf ks)))
-  pub sections : map (map valueOf) (historyFrom h (takenFrom pid size (h .last) (map lentOf ks)) .story .sections) ≡ map (map valueOf) (h .story .sections) ++ handed ks
+  pub sections : map (map valueOf) (historyFrom h (takenFrom pid size (h .last) (map lentOf ks)) .story .sections)
+      ≡ map (map valueOf) (h .story .sections) ++ handed ks
   pub bytes : Each (λ k. flatten (handedBy (k .said) (k .out′)) ≡ bytesBy (k .said) (k .out′)) ks
+  pub told : Each (λ k. length (flatten (handedBy (k .said) (k .out′))) ≡ toldBy (k .said)) ks
 
-pub ran : {pid size : ℕ} {r r′ : Record} {hold hold′ : List ℕ} {ks : List Call} → Run Promised r hold ks r′ hold′ → (h : History) → Agrees pid size r hold h → Ran pid size h ks r′ hold′
-ran no-call h g = record { fares = refl; agrees = g; sections = sym (append-nil _); bytes = tt }
+pub ran : {pid size : ℕ} {r r′ : Record} {hold hold′ : List ℕ} {ks : List Call} → Run Promised r hold ks r′ hold′
+    → (h : History) → Agrees pid size r hold h → Ran pid size h ks r′ hold′
+ran no-call h g = record { fares = refl; agrees = g; sections = sym (append-nil _); bytes = tt; told = tt }
 ran {pid} {size} {r′ = r′} {hold′ = hold′} (one-call {k = k} {ks = ks} c rest) h g =
     let w = went g (k .out) (k .packet) _ c in
     let z : Ruling = rulingOn pid size (h .last) (lentOf k) in
     let h₁ : History = historyFrom h (carriedBy z) in
     let x = ran rest h₁ (w .agrees) in
-    let from : historyFrom h₁ (takenFrom pid size (h₁ .last) (map lentOf ks)) ≡ historyFrom h (carriedBy z ++ takenFrom pid size (lastAfter (h .last) z) (map lentOf ks)) =
-    ap (λ (l : Option ℕ). historyFrom h₁ (takenFrom pid size l (map lentOf ks))) (w .last) ∙ sym (history-append h (carriedBy z) (takenFrom pid size (lastAfter (h .last) z) (map lentOf ks))) in
+    let from : historyFrom h₁ (takenFrom pid size (h₁ .last) (map lentOf ks))
+    ≡ historyFrom h (carriedBy z ++ takenFrom pid size (lastAfter (h .last) z) (map lentOf ks)) =
+    ap (λ (l : Option ℕ). historyFrom h₁ (takenFrom pid size l (map lentOf ks))) (w .last)
+    ∙ sym (history-append h (carriedBy z) (takenFrom pid size (lastAfter (h .last) z) (map lentOf ks))) in
     record {
-      fares = (λ i. w .fare i ∷ x .fares i) ∙ ap (λ (l : Option ℕ). ruledFare z ∷ faresFrom pid size l (map lentOf ks)) (w .last);
+      fares = (λ i. w .fare i ∷ x .fares i)
+          ∙ ap (λ (l : Option ℕ). ruledFare z ∷ faresFrom pid size l (map lentOf ks)) (w .last);
       agrees = subst (Agrees pid size r′ hold′) from (x .agrees);
-      sections = ap (λ (y : History). map (map valueOf) (y .story .sections)) (sym from) ∙ x .sections ∙ ap (λ (l : List (List ℕ)). l ++ handed ks) (w .sections) ∙ append-assoc (map (map valueOf) (h .story .sections)) (handedBy (k .said) (k .out′)) (handed ks);
+      sections =
+          ap (λ (y : History). map (map valueOf) (y .story .sections)) (sym from)
+          ∙ x .sections
+          ∙ ap (λ (l : List (List ℕ)). l ++ handed ks) (w .sections)
+          ∙ append-assoc (map (map valueOf) (h .story .sections)) (handedBy (k .said) (k .out′)) (handed ks);
       bytes = (w .bytes, x .bytes);
+      told = (w .told, x .told);
     }

@@ -1,7 +1,13 @@
--- That the promise of `collector::collect` gives each statement, and that each wrong collector breaks one.
+-- That the promise of `collector::collect` gives each statement, that the statements fix the collector, and that each wrong collector breaks one.
 pub mod Stands
 pub mod Agrees
 pub mod NoSpan
+pub mod Fares
+pub mod Demand1
 pub mod Demand3
 pub mod WrongCollectors
+pub mod AtWork
 pub mod Promise
+pub mod Fixed
+pub mod OutRoom
+pub mod Tied

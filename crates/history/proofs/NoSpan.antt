@@ -16,8 +16,7 @@ use Rattle.collector.specs.Rules.{Fate, pointer, delivered, broken, in-hand, St
 use Rattle.collector.proofs.Marks.{bytesOf-more, settled-hand}
 use Rattle.collector.proofs.Runs.{lt-or-ge}
 use Rattle.collector.proofs.Keeps.{each-append, each-map, Keeps, keep-payload}
-use Rattle.history.specs.History.{Byte, valueOf, numbered, History, unbegun, after, historyFrom, counterAt, BreakAfter, Spans, Unbroken}
-use Rattle.history.specs.Demand3.{NoSectionSpans}
+use Rattle.history.specs.History.{Byte, valueOf, numbered, History, unbegun, after, historyFrom, historyOf, counterAt, BreakAfter, Spans, Unbroken}
 
 module _ (qs : List (Carried ℕ)) where
   -- a byte of one of the first n packets, from which no break leads to the last of them
@@ -45,13 +44,18 @@ module _ (qs : List (Carried ℕ)) where
   each-if n true b r = (r, tt)
   each-if n false b r = tt
 
-  linking-given : (n : ℕ) (f : Fate) (b : Byte) (l : List Byte) (s : Story Byte) → Linked n b → Linking n l s → Linking n (l ++ (b ∷ [])) (given f b s)
+  linking-given : (n : ℕ) (f : Fate) (b : Byte) (l : List Byte) (s : Story Byte) → Linked n b → Linking n l s
+      → Linking n (l ++ (b ∷ [])) (given f b s)
   linking-given n f b l s r x = record {
-    hand = subst (Each (Linked n)) (sym (bytesOf-more in-hand f (s .marks) (b ∷ []))) (each-append (Linked n) (handOf s) (if sameFate in-hand f then b ∷ [] else []) (x .hand) (each-if n (sameFate in-hand f) b r));
+    hand =
+        subst (Each (Linked n)) (sym (bytesOf-more in-hand f (s .marks) (b ∷ [])))
+        (each-append (Linked n) (handOf s) (if sameFate in-hand f then b ∷ [] else []) (x .hand)
+        (each-if n (sameFate in-hand f) b r));
     sections = x .sections;
   }
 
-  no-hand : (n : ℕ) (f : Fate) → sameFate in-hand f ≡ false → (s : Story Byte) → Each (Linked n) (handOf (record { marks = settled f (s .marks); sections = s .sections }))
+  no-hand : (n : ℕ) (f : Fate) → sameFate in-hand f ≡ false → (s : Story Byte)
+      → Each (Linked n) (handOf (record { marks = settled f (s .marks); sections = s .sections }))
   no-hand n f e s = subst (Each (Linked n)) (sym (settled-hand f e (s .marks))) tt
 
   keeps-linking : (n : ℕ) → Keeps valueOf (Linked n) (Linking n)
@@ -59,7 +63,11 @@ module _ (qs : List (Carried ℕ)) where
     gives = λ f e₁ e₂ b l s r x. linking-given n f b l s r x;
     ends = λ b l s r e x.
         let y = linking-given n in-hand b l s r x in
-        record { hand = no-hand n delivered refl (given in-hand b s); sections = each-append (Unbroken qs) (s .sections) (handOf (given in-hand b s) ∷ []) (x .sections) (linked-section n (handOf (given in-hand b s)) (y .hand), tt) };
+        record {
+          hand = no-hand n delivered refl (given in-hand b s);
+          sections = each-append (Unbroken qs) (s .sections) (handOf (given in-hand b s) ∷ []) (x .sections)
+              (linked-section n (handOf (given in-hand b s)) (y .hand), tt);
+        };
     breaks = λ l s x. record { hand = no-hand n broken refl s; sections = x .sections };
   }
 
@@ -70,13 +78,15 @@ module _ (qs : List (Carried ℕ)) where
   LastIs h = (m : ℕ) → h .packets ≡ m + 1 → h .last ≡ some (counterAt qs m)
 
   -- a counter that follows the last one is no break
-  follows-on : (last : Option ℕ) (m c : ℕ) → last ≡ some (counterAt qs m) → c ≡ counterAt qs (m + 1) → follows last c ≡ true → BreakAfter qs m → ⊥
+  follows-on : (last : Option ℕ) (m c : ℕ) → last ≡ some (counterAt qs m) → c ≡ counterAt qs (m + 1)
+      → follows last c ≡ true → BreakAfter qs m → ⊥
   unfolding follows
   follows-on last m c l e f b =
       let g : follows (some (counterAt qs m)) c ≡ true = ap (λ (z : Option ℕ). follows z c) (sym l) ∙ f in
       b .break (sym e ∙ eqb-true c _ g)
 
-  linked-on : (h : History) (c : ℕ) → LastIs h → c ≡ counterAt qs (h .packets) → follows (h .last) c ≡ true → (x : Byte) → Linked (h .packets) x → Linked (h .packets + 1) x
+  linked-on : (h : History) (c : ℕ) → LastIs h → c ≡ counterAt qs (h .packets) → follows (h .last) c ≡ true → (x : Byte)
+      → Linked (h .packets) x → Linked (h .packets + 1) x
   linked-on h c l e f x a = record {
     within = omega (arith, a .within);
     unbroken = λ k w v b. ⊎-elim (λ u. a .unbroken k w u b)
@@ -85,18 +95,31 @@ module _ (qs : List (Carried ℕ)) where
         follows-on (h .last) k c (l k at) (e ∙ ap (counterAt qs) at) f b) (lt-or-ge (k + 1) (h .packets));
   }
 
-  linked-joined : (t : Bool) (h : History) (c : ℕ) (l : List Byte) → LastIs h → c ≡ counterAt qs (h .packets) → follows (h .last) c ≡ t → Linking (h .packets) l (h .story) → Linking (h .packets + 1) l (joined t (h .story))
-  linked-joined true h c l k e f x = record { hand = each-map (Linked (h .packets)) (Linked (h .packets + 1)) (linked-on h c k e f) (handOf (h .story)) (x .hand); sections = x .sections }
-  linked-joined false h c l k e f x = record { hand = no-hand (h .packets + 1) broken refl (h .story); sections = x .sections }
+  linked-joined : (t : Bool) (h : History) (c : ℕ) (l : List Byte) → LastIs h → c ≡ counterAt qs (h .packets)
+      → follows (h .last) c ≡ t → Linking (h .packets) l (h .story) → Linking (h .packets + 1) l (joined t (h .story))
+  linked-joined true h c l k e f x = record {
+    hand = each-map (Linked (h .packets)) (Linked (h .packets + 1))
+        (linked-on h c k e f) (handOf (h .story)) (x .hand);
+    sections = x .sections;
+  }
+  linked-joined false h c l k e f x = record {
+    hand = no-hand (h .packets + 1) broken refl (h .story);
+    sections = x .sections;
+  }
 
   -- the packet's own bytes
   linked-new : (n : ℕ) (bs : List ℕ) → Each (Linked (n + 1)) (numbered n bs)
   linked-new n [] = tt
   linked-new n (b ∷ bs) = (record { within = omega arith; unbroken = λ k w v c. omega arith }, linked-new n bs)
 
-  linked-after : (h : History) (q : Carried ℕ) (l : List Byte) → LastIs h → q .counter ≡ counterAt qs (h .packets) → Linking (h .packets) l (h .story) → Linking (h .packets + 1) (l ++ numbered (h .packets) (q .bytes)) (after h q .story)
+  linked-after : (h : History) (q : Carried ℕ) (l : List Byte) → LastIs h → q .counter ≡ counterAt qs (h .packets)
+      → Linking (h .packets) l (h .story)
+      → Linking (h .packets + 1) (l ++ numbered (h .packets) (q .bytes)) (after h q .story)
   linked-after h q l k e x =
-      keep-payload valueOf (Linked (h .packets + 1)) (Linking (h .packets + 1)) (keeps-linking (h .packets + 1)) (λ b m s r y. linking-given (h .packets + 1) pointer b m s r y) (q .start) l (joined (follows (h .last) (q .counter)) (h .story)) (numbered (h .packets) (q .bytes)) (linked-new (h .packets) (q .bytes))
+      keep-payload valueOf (Linked (h .packets + 1)) (Linking (h .packets + 1)) (keeps-linking (h .packets + 1))
+      (λ b m s r y. linking-given (h .packets + 1) pointer b m s r y) (q .start) l
+      (joined (follows (h .last) (q .counter)) (h .story)) (numbered (h .packets) (q .bytes))
+      (linked-new (h .packets) (q .bytes))
       (linked-joined (follows (h .last) (q .counter)) h (q .counter) l k e refl x)
 
   last-after : (h : History) (q : Carried ℕ) → q .counter ≡ counterAt qs (h .packets) → LastIs (after h q)
@@ -105,7 +128,8 @@ module _ (qs : List (Carried ℕ)) where
       ap some (e ∙ ap (counterAt qs) same)
 
 -- the packet after some packets
-counter-here : (before : List (Carried ℕ)) (q : Carried ℕ) (rest : List (Carried ℕ)) → counterAt (before ++ (q ∷ rest)) (length before) ≡ q .counter
+counter-here : (before : List (Carried ℕ)) (q : Carried ℕ) (rest : List (Carried ℕ))
+    → counterAt (before ++ (q ∷ rest)) (length before) ≡ q .counter
 counter-here before q rest =
     ap (λ (l : List ℕ). getD l (length before) 0) (map-append (λ p. p .counter) before (q ∷ rest))
     ∙ getD-at (map (λ p. p .counter) before) (q .counter) (map (λ p. p .counter) rest) 0 (length before) (long before)
@@ -114,11 +138,20 @@ counter-here before q rest =
     long [] = refl
     long (p ∷ l) = ap suc (long l)
 
-linked-run : (qs before rest : List (Carried ℕ)) (h : History) (l : List Byte) → qs ≡ before ++ rest → h .packets ≡ length before → LastIs qs h → Linking qs (h .packets) l (h .story) → Each (Unbroken qs) (historyFrom h rest .story .sections)
+linked-run : (qs before rest : List (Carried ℕ)) (h : History) (l : List Byte) → qs ≡ before ++ rest
+    → h .packets ≡ length before → LastIs qs h → Linking qs (h .packets) l (h .story)
+    → Each (Unbroken qs) (historyFrom h rest .story .sections)
 linked-run qs before [] h l e n k x = x .sections
 linked-run qs before (q ∷ rest) h l e n k x =
-    let here : q .counter ≡ counterAt qs (h .packets) = sym (counter-here before q rest) ∙ ap (λ (z : List (Carried ℕ)). counterAt z (length before)) (sym e) ∙ ap (counterAt qs) (sym n) in
-    linked-run qs (before ++ (q ∷ [])) rest (after h q) (l ++ numbered (h .packets) (q .bytes)) (e ∙ sym (append-assoc before (q ∷ []) rest)) (omega (arith, n, length-append before (q ∷ []))) (last-after qs h q here) (linked-after qs h q l k here x)
+    let here : q .counter ≡ counterAt qs (h .packets) =
+    sym (counter-here before q rest)
+    ∙ ap (λ (z : List (Carried ℕ)). counterAt z (length before)) (sym e)
+    ∙ ap (counterAt qs) (sym n) in
+    linked-run qs (before ++ (q ∷ [])) rest (after h q) (l ++ numbered (h .packets) (q .bytes))
+    (e ∙ sym (append-assoc before (q ∷ []) rest)) (omega (arith, n, length-append before (q ∷ [])))
+    (last-after qs h q here) (linked-after qs h q l k here x)
 
-pub no-section-spans : NoSectionSpans
-no-section-spans qs = linked-run qs [] qs unbegun [] refl refl (λ m e. absurd (omega arith)) (record { hand = tt; sections = tt })
+-- whatever the packets, no section that they deliver spans a break
+pub sections-unbroken : (qs : List (Carried ℕ)) → Each (Unbroken qs) (historyOf qs .story .sections)
+sections-unbroken qs =
+    linked-run qs [] qs unbegun [] refl refl (λ m e. absurd (omega arith)) (record { hand = tt; sections = tt })

@@ -1,7 +1,7 @@
 -- The promise fixes the outcome: two answers that tell the same are equal, and so are any two outcomes of one call. And it can always be met, so
 -- that a run from a fresh record exists for any packets and any out rooms.
 use mathlib.Core.Path.{_≡_, refl, sym, ap, _∙_}
-use mathlib.Core.List.{List, [], _∷_, map}
+use mathlib.Core.List.{List, [], _∷_}
 use Prim.Native.Nat.{ℕ}
 use lib.Dec.{eqb}
 use Rattle.wire.specs.If.{if_then_else_}
@@ -12,7 +12,7 @@ use Rattle.collector.specs.declared.Refusal.{Refusal}
 use Rattle.collector.specs.declared.Refusal.the-variants.{NotAPacket, Room, Unfit, Sync, Error, OtherPid, Scrambled, Adaptation, Pointer}
 use Rattle.collector.specs.declared.Answer.{Answer}
 use Rattle.collector.specs.declared.Answer.the-variants.{Refused, Repeated, Taken}
-use Rattle.history.specs.Run.{Promised, Call, Run, no-call, one-call}
+use Rattle.history.specs.Run.{Call, Input, RunOn, no-call, one-call}
 
 -- ---- two answers that tell the same are equal
 
@@ -56,29 +56,19 @@ told-once a b e = sym (answer-at a) ∙ ap answerAt e ∙ answer-at b
 
 -- ---- any two outcomes that the promise allows are equal
 
-pub one-outcome : (r : Record) (hold out packet : List ℕ) (r₁ : Record) (hold₁ out₁ : List ℕ) (a₁ : Answer) (r₂ : Record) (hold₂ out₂ : List ℕ) (a₂ : Answer)
+pub one-outcome : (r : Record) (hold out packet : List ℕ) (r₁ : Record) (hold₁ out₁ : List ℕ) (a₁ : Answer)
+    (r₂ : Record) (hold₂ out₂ : List ℕ) (a₂ : Answer)
     → came r₁ hold₁ out₁ a₁ ≡ collected r hold out packet → came r₂ hold₂ out₂ a₂ ≡ collected r hold out packet
     → (r₁ ≡ r₂) × (hold₁ ≡ hold₂) × (out₁ ≡ out₂) × (a₁ ≡ a₂)
 one-outcome r hold out packet r₁ hold₁ out₁ a₁ r₂ hold₂ out₂ a₂ x y =
-    let e : came r₁ hold₁ out₁ a₁ ≡ came r₂ hold₂ out₂ a₂ = x ∙ sym y in
-    (ap (λ (o : Outcome). o .rec) e, ap (λ (o : Outcome). o .hold) e, ap (λ (o : Outcome). o .out) e, told-once a₁ a₂ (ap (λ (o : Outcome). o .said) e))
+    let e : came r₁ hold₁ out₁ a₁ ≡ came r₂ hold₂ out₂ a₂ = x ∙ sym y in (
+      ap (λ (o : Outcome). o .rec) e,
+      ap (λ (o : Outcome). o .hold) e,
+      ap (λ (o : Outcome). o .out) e,
+      told-once a₁ a₂ (ap (λ (o : Outcome). o .said) e),
+    )
 
 -- ---- a run for any packets and any out rooms
-
-pub record Input : Type 0 where
-  pub packet : List ℕ
-  pub out : List ℕ
-
-abbrev pub inputOf : Call → Input
-inputOf k = record { packet = k .packet; out = k .out }
-
--- calls with these inputs, and where they lead
-pub record RunOn (r : Record) (hold : List ℕ) (xs : List Input) : Type 0 where
-  pub calls : List Call
-  pub inputs : map inputOf calls ≡ xs
-  pub rec : Record
-  pub last-hold : List ℕ
-  pub run : Run Promised r hold calls rec last-hold
 
 pub runs-exist : (r : Record) (hold : List ℕ) (xs : List Input) → RunOn r hold xs
 runs-exist r hold [] = record { calls = []; inputs = refl; rec = r; last-hold = hold; run = no-call }
@@ -86,4 +76,10 @@ runs-exist r hold (x ∷ xs) =
     let o : Outcome = collected r hold (x .out) (x .packet) in
     let k : Call = record { packet = x .packet; out = x .out; out′ = o .out; said = o .said } in
     let more = runs-exist (o .rec) (o .hold) xs in
-    record { calls = k ∷ more .calls; inputs = ap (λ (l : List Input). x ∷ l) (more .inputs); rec = more .rec; last-hold = more .last-hold; run = one-call refl (more .run) }
+    record {
+      calls = k ∷ more .calls;
+      inputs = ap (λ (l : List Input). x ∷ l) (more .inputs);
+      rec = more .rec;
+      last-hold = more .last-hold;
+      run = one-call refl (more .run);
+    }

@@ -29,7 +29,10 @@ standing-none = record { first = λ k e. omega arith; more = λ k. absurd (omega
 -- ---- one byte
 
 -- what is known of a section that goes on once three bytes are in
-going-tests : (h : List ℕ) (t₁ t₂ t₃ : Bool) → ltb (length h) 3 ≡ t₁ → ltb 4096 (totalOf h) ≡ t₂ → eqb (length h) (totalOf h) ≡ t₃ → (if t₁ then going else (if t₂ then over else (if t₃ then whole else going))) ≡ going → 3 ≤ length h → (totalOf h ≤ 4096) × (length h ≡ totalOf h → ⊥)
+going-tests : (h : List ℕ) (t₁ t₂ t₃ : Bool) → ltb (length h) 3 ≡ t₁ → ltb 4096 (totalOf h) ≡ t₂
+    → eqb (length h) (totalOf h) ≡ t₃
+    → (if t₁ then going else (if t₂ then over else (if t₃ then whole else going))) ≡ going → 3 ≤ length h
+    → (totalOf h ≤ 4096) × (length h ≡ totalOf h → ⊥)
 going-tests h true t₂ t₃ e₁ e₂ e₃ e k = let w : length h < 3 = ltb-true _ _ e₁ in absurd (omega arith)
 going-tests h false true t₃ e₁ e₂ e₃ e k = let z : _≡_ {A = ℕ} 0 1 = cc in absurd (omega arith)
 going-tests h false false true e₁ e₂ e₃ e k = let z : _≡_ {A = ℕ} 0 1 = cc in absurd (omega arith)
@@ -37,7 +40,8 @@ going-tests h false false false e₁ e₂ e₃ e k = (ltb-false _ _ e₂, eqb-fa
 
 going-more : (h : List ℕ) → sizeOf h ≡ going → 3 ≤ length h → (totalOf h ≤ 4096) × (length h ≡ totalOf h → ⊥)
 unfolding sizeOf
-going-more h e k = going-tests h (ltb (length h) 3) (ltb 4096 (totalOf h)) (eqb (length h) (totalOf h)) refl refl refl e k
+going-more h e k =
+    going-tests h (ltb (length h) 3) (ltb 4096 (totalOf h)) (eqb (length h) (totalOf h)) refl refl refl e k
 
 grows : (h : List ℕ) (b : ℕ) → 0 < length h → Standing h → sizeOf (h ++ (b ∷ [])) ≡ going → Standing (h ++ (b ∷ []))
 grows h b some x e =
@@ -46,7 +50,9 @@ grows h b some x e =
       first = λ k w. x .first some (sym (List·getD-append h (b ∷ []) 0 0 some) ∙ w);
       more = λ k.
           let g = going-more (h ++ (b ∷ [])) e k in
-          let below : length h < totalOf (h ++ (b ∷ [])) = ⊎-elim (λ w. omega arith) (λ w. omega (arith, x .more w .1, total-prefix h (b ∷ []) w)) (lt-or-ge (length h) 3) in
+          let below : length h < totalOf (h ++ (b ∷ [])) =
+          ⊎-elim (λ w. omega arith) (λ w. omega (arith, x .more w .1, total-prefix h (b ∷ []) w))
+          (lt-or-ge (length h) 3) in
           (g .0, omega (arith, g .1));
     }
 
@@ -65,34 +71,45 @@ in-stands filling s x = subst Standing (sym x) standing-none
 in-stands skipping s x = subst Standing (sym x) standing-none
 in-stands breaking s x = subst Standing (sym x) standing-none
 
-hand-given : (f : Fate) (b : ℕ) (s : Story ℕ) → handOf (given f b s) ≡ handOf s ++ (if sameFate in-hand f then b ∷ [] else [])
+hand-given : (f : Fate) (b : ℕ) (s : Story ℕ)
+    → handOf (given f b s) ≡ handOf s ++ (if sameFate in-hand f then b ∷ [] else [])
 hand-given f b s = bytesOf-more in-hand f (s .marks) (b ∷ [])
 
 other-hand : (f : Fate) → sameFate in-hand f ≡ false → (b : ℕ) (s : Story ℕ) → handOf s ≡ [] → handOf (given f b s) ≡ []
-other-hand f e b s x = hand-given f b s ∙ ap (λ (t : Bool). handOf s ++ (if t then b ∷ [] else [])) e ∙ ap (λ (h : List ℕ). h ++ []) x
+other-hand f e b s x =
+    hand-given f b s ∙ ap (λ (t : Bool). handOf s ++ (if t then b ∷ [] else [])) e ∙ ap (λ (h : List ℕ). h ++ []) x
 
-in-begun : (t : Bool) (b : ℕ) (s : Story ℕ) → eqb b 255 ≡ t → handOf s ≡ [] → In (begun t b s .mode) (begun t b s .story)
+in-begun : (t : Bool) (b : ℕ) (s : Story ℕ) → eqb b 255 ≡ t → handOf s ≡ []
+    → In (begun t b s .mode) (begun t b s .story)
 in-begun true b s e x = other-hand filler refl b s x
 in-begun false b s e x =
-    let hand : handOf (given in-hand b s) ≡ b ∷ [] = hand-given in-hand b s ∙ ap (λ (h : List ℕ). h ++ (b ∷ [])) x in
-    (omega (arith, ap length hand), subst Standing (sym hand) (record { first = λ k w. eqb-false b 255 e w; more = λ k. absurd (omega arith) }))
+    let hand : handOf (given in-hand b s) ≡ b ∷ [] = hand-given in-hand b s ∙ ap (λ (h : List ℕ). h ++ (b ∷ [])) x in (
+      omega (arith, ap length hand),
+      subst Standing (sym hand) (record { first = λ k w. eqb-false b 255 e w; more = λ k. absurd (omega arith) }),
+    )
 
 module _ (after : Mode) (ends : (s : Story ℕ) → handOf s ≡ [] → In after s) where
-  in-grown : (z : Size) (b : ℕ) (s : Story ℕ) → sizeOf (handOf s ++ (b ∷ [])) ≡ z → In inside s → In (grown after z (given in-hand b s) .mode) (grown after z (given in-hand b s) .story)
+  in-grown : (z : Size) (b : ℕ) (s : Story ℕ) → sizeOf (handOf s ++ (b ∷ [])) ≡ z → In inside s
+      → In (grown after z (given in-hand b s) .mode) (grown after z (given in-hand b s) .story)
   in-grown going b s e x =
-      let hand = hand-given in-hand b s in
-      (omega (arith, ap length hand, length-append (handOf s) (b ∷ [])), subst Standing (sym hand) (grows (handOf s) b (x .0) (x .1) e))
+      let hand = hand-given in-hand b s in (
+        omega (arith, ap length hand, length-append (handOf s) (b ∷ [])),
+        subst Standing (sym hand) (grows (handOf s) b (x .0) (x .1) e),
+      )
   in-grown whole b s e x = ends (finished (given in-hand b s)) (settled-hand delivered refl (given in-hand b s .marks))
   in-grown over b s e x = settled-hand broken refl (given in-hand b s .marks)
 
-  in-byte : (m : Mode) (b : ℕ) (s : Story ℕ) → In m s → In (byteIn plain after m b s .mode) (byteIn plain after m b s .story)
+  in-byte : (m : Mode) (b : ℕ) (s : Story ℕ) → In m s
+      → In (byteIn plain after m b s .mode) (byteIn plain after m b s .story)
   in-byte begin b s x = in-begun (eqb b 255) b s refl x
-  in-byte inside b s x = in-grown (sizeOf (map plain (handOf s ++ (b ∷ [])))) b s (ap sizeOf (sym (map-id (handOf s ++ (b ∷ []))))) x
+  in-byte inside b s x =
+      in-grown (sizeOf (map plain (handOf s ++ (b ∷ [])))) b s (ap sizeOf (sym (map-id (handOf s ++ (b ∷ []))))) x
   in-byte filling b s x = other-hand filler refl b s x
   in-byte skipping b s x = other-hand skipped refl b s x
   in-byte breaking b s x = other-hand broken refl b s x
 
-  in-stretch : (n : Next ℕ) (bs : List ℕ) → In (n .mode) (n .story) → In (stretch plain after n bs .mode) (stretch plain after n bs .story)
+  in-stretch : (n : Next ℕ) (bs : List ℕ) → In (n .mode) (n .story)
+      → In (stretch plain after n bs .mode) (stretch plain after n bs .story)
   in-stretch n [] x = x
   in-stretch n (b ∷ bs) x = in-stretch (byteIn plain after (n .mode) b (n .story)) bs (in-byte (n .mode) b (n .story) x)
 
@@ -125,8 +142,11 @@ stands-joined : (t : Bool) (s : Story ℕ) → Standing (handOf s) → Standing 
 stands-joined true s x = x
 stands-joined false s x = subst Standing (sym (settled-hand broken refl (s .marks))) standing-none
 
-pub stands-taken : (last : Option ℕ) (h : List ℕ) (q : Carried ℕ) → Standing h → Standing (handOf (takenIn plain last (holding h) q))
-stands-taken last h q x = stands-payload (q .start) (joined (follows last (q .counter)) (holding h)) (q .bytes) (stands-joined (follows last (q .counter)) (holding h) (subst Standing (sym (bytesOf-marked in-hand in-hand h)) x))
+pub stands-taken : (last : Option ℕ) (h : List ℕ) (q : Carried ℕ) → Standing h
+    → Standing (handOf (takenIn plain last (holding h) q))
+stands-taken last h q x =
+    stands-payload (q .start) (joined (follows last (q .counter)) (holding h)) (q .bytes)
+    (stands-joined (follows last (q .counter)) (holding h) (subst Standing (sym (bytesOf-marked in-hand in-hand h)) x))
 
 -- ---- the record
 
@@ -141,7 +161,8 @@ held-ok (b ∷ h) x rest =
     let ff : eqb b 255 ≡ false = ne-eqb b 255 (x .first some) in
     simp (lt-ltb _ _ some, ff) (header (leb 3 (length (b ∷ h))) refl)
   where
-    header : (t : Bool) → leb 3 (length (b ∷ h)) ≡ t → (t && (leb (totalOf ((b ∷ h) ++ rest)) (length (b ∷ h)) || ltb 4096 (totalOf ((b ∷ h) ++ rest)))) ≡ false
+    header : (t : Bool) → leb 3 (length (b ∷ h)) ≡ t
+        → (t && (leb (totalOf ((b ∷ h) ++ rest)) (length (b ∷ h)) || ltb 4096 (totalOf ((b ∷ h) ++ rest)))) ≡ false
     header false e = refl
     header true e =
         let three : 3 ≤ length (b ∷ h) = leb-true _ _ e in
@@ -151,13 +172,17 @@ held-ok (b ∷ h) x rest =
         let below : totalOf ((b ∷ h) ++ rest) ≤ 4096 = omega (arith, m .0, same) in
         simp (lt-leb _ _ above, le-ltb _ _ below)
 
-pub stands-after : (r : Record) (c : ℕ) → r .last ≡ Counter c → c ≤ 15 → (h : List ℕ) → Standing h → r .in_hand ≡ length h → (rest : List ℕ) → cannotStand r (h ++ rest) ≡ ltb 8191 (r .pid)
+pub stands-after : (r : Record) (c : ℕ) → r .last ≡ Counter c → c ≤ 15 → (h : List ℕ) → Standing h
+    → r .in_hand ≡ length h → (rest : List ℕ) → cannotStand r (h ++ rest) ≡ ltb 8191 (r .pid)
 unfolding cannotStand
 stands-after r c e k h x n rest =
     let few : length h ≤ 4095 = omega (arith, few-standing h x) in
-    ap (λ (l : Last). ltb 8191 (r .pid) || (counterPast l || (ltb 4095 (r .in_hand) || heldUnfit (r .in_hand) (isNone l) (h ++ rest)))) e
+    ap (λ (l : Last). ltb 8191 (r .pid)
+    || (counterPast l || (ltb 4095 (r .in_hand) || heldUnfit (r .in_hand) (isNone l) (h ++ rest))))
+    e
     ∙ ap (λ (m : ℕ). ltb 8191 (r .pid) || (ltb 15 c || (ltb 4095 m || heldUnfit m false (h ++ rest)))) n
-    ∙ ap (λ (t : Bool). ltb 8191 (r .pid) || (t || (ltb 4095 (length h) || heldUnfit (length h) false (h ++ rest)))) (le-ltb 15 c k)
+    ∙ ap (λ (t : Bool). ltb 8191 (r .pid) || (t || (ltb 4095 (length h) || heldUnfit (length h) false (h ++ rest))))
+    (le-ltb 15 c k)
     ∙ ap (λ (t : Bool). ltb 8191 (r .pid) || (t || heldUnfit (length h) false (h ++ rest))) (le-ltb 4095 (length h) few)
     ∙ ap (λ (t : Bool). ltb 8191 (r .pid) || t) (held-ok h x rest)
     ∙ or-none (ltb 8191 (r .pid))

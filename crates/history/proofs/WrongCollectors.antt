@@ -61,7 +61,8 @@ unfolding judged sizeOf follows repeats cannotStand
 pretends-shut-out h =
     let o : Outcome = collected (freshRecord 20) hold₀ out₀ (short 0) in
     let o₂ : Outcome = record { rec = o .rec; hold = o .hold; out = out₀; said = taken 0 0 } in
-    let x = h 20 hold₀ (callOf (short 0) o ∷ callOf (short 1) o₂ ∷ []) (o .rec) (o .hold) (one-call refl (one-call refl no-call)) in
+    let x = h 20 hold₀ (callOf (short 0) o ∷ callOf (short 1) o₂ ∷ []) (o .rec) (o .hold)
+    (one-call refl (one-call refl no-call)) in
     let z : _≡_ {A = ℕ} 1 2 = ap length (x .sections-are) in
     omega arith
 

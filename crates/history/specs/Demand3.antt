@@ -1,18 +1,20 @@
--- Demand 3, sentence by sentence, as statements about any collector: "Start a fresh collector, feed it any packets, hand record and hold on
--- untouched." Each speaks of a whole run from a fresh record; a run may stop after any packet, so each holds "after each packet".
+-- Demand 3, sentence by sentence, as statements about any collector.
 use mathlib.Core.Path.{_≡_}
 use mathlib.Core.Logic.{_↔_}
 use mathlib.Core.List.{List, [], _∷_, map, flatten}
 use mathlib.Core.Option.{Option, none}
 use Prim.Native.Nat.{ℕ, _+_, _%_, _^_, _≤_}
 use lib.ListN.{length, take}
+use lib.Dec.{ltb}
 use Rattle.collector.specs.Each.{Each}
-use Rattle.collector.specs.Rules.{pointer, delivered, broken, filler, skipped, in-hand, Story, bytesOf, countOf, handOf, Carried}
+use Rattle.collector.specs.Rules.{pointer, delivered, broken, filler, skipped, in-hand, Mark, Story, bytesOf, countOf, handOf, Carried}
+use Rattle.collector.specs.Refusals.{refusals}
 use Rattle.collector.specs.Answer.{refused}
 use Rattle.collector.specs.Collected.{freshRecord}
 use Rattle.collector.specs.declared.Record.{Record}
-use Rattle.history.specs.History.{Byte, valueOf, historyOf, payloadsFrom, Unbroken}
-use Rattle.history.specs.Run.{Collector, Call, Run, taken, fareOf, lentOf, rulingOn, lastAfter, faresFrom, takenFrom, NotRefused, NotRepeated, handedBy, handed, bytesBy}
+use Rattle.history.specs.History.{Byte, valueOf, historyOf, payloadsFrom, Unbroken, Among}
+use Rattle.history.specs.Run.{Collector, Call, Run, taken, fareOf, takenOf, lentOf, rulingOn, lastAfter, faresFrom, takenFrom, NotRefused, NotRepeated, handedBy, handed, bytesBy, toldBy}
+use Rattle.history.specs.Demand1.{First}
 
 -- "A packet is taken exactly if it is neither refused nor, by document 01's rule, repeated." Each call is held against the packets before it.
 abbrev pub TakenIf : ℕ → ℕ → Option ℕ → List Call → Type 0
@@ -21,7 +23,11 @@ TakenIf pid size last (k ∷ ks) =
     ((fareOf (k .said) ≡ taken) ↔ (NotRefused pid size (lentOf k) × NotRepeated last (lentOf k)))
     × TakenIf pid size (lastAfter last (rulingOn pid size last (lentOf k))) ks
 
--- the packets taken that have payload, and their bytes' fates
+-- demand 1 of the packets of a run, whose record can stand exactly if its PID is one
+abbrev pub RefusedIf : ℕ → ℕ → Call → Type 0
+RefusedIf pid size k = (n : ℕ) → (k .said ≡ refused n) ↔ First n (refusals (ltb 8191 pid) pid size (length (k .out)) (k .packet))
+
+-- the packets taken that have payload, by the packets alone, and their bytes' fates
 abbrev pub takenBy : ℕ → List ℕ → List Call → List (Carried ℕ)
 takenBy pid hold calls = takenFrom pid (length hold) none (map lentOf calls)
 
@@ -38,44 +44,65 @@ pub record Counted (r : Record) (hold : List ℕ) (s : Story Byte) : Type 0 wher
   pub in-hand-is : r .in_hand ≡ countOf in-hand (s .marks)
   pub hold-is : take (r .in_hand) hold ≡ map valueOf (handOf s)
 
+-- "every payload byte of the packets taken so far has one fate": there is one mark for each, the delivered ones are the bytes handed out, and
+-- those in hand stand in the hold
+pub record Fated (calls : List Call) (r : Record) (hold : List ℕ) (marks : List (Mark Byte)) : Type 0 where
+  pub one-each : map (λ m. m .byte) marks ≡ payloadsFrom 0 (takenOf calls)
+  pub handed-are : flatten (handed calls) ≡ map valueOf (bytesOf delivered marks)
+  pub held-are : take (r .in_hand) hold ≡ map valueOf (bytesOf in-hand marks)
+
 -- "Delivered bytes come out once, in order": what the calls hand out, cut at the sections' own headers, are the delivered sections, and the
--- bytes that each answer speaks of are those of its sections
+-- bytes that each answer speaks of are those of its sections, as many as it says
 pub record HandedOut (calls : List Call) (s : Story Byte) : Type 0 where
   pub sections-are : handed calls ≡ map (map valueOf) (s .sections)
   pub bytes-are : Each (λ k. flatten (handedBy (k .said) (k .out′)) ≡ bytesBy (k .said) (k .out′)) calls
+  pub told-are : Each (λ k. length (flatten (handedBy (k .said) (k .out′))) ≡ toldBy (k .said)) calls
   pub delivered-are : bytesOf delivered (s .marks) ≡ flatten (s .sections)
 
+-- "no delivered section spans a break": sections that are made of payload bytes of these packets, each byte once and in order, and no two bytes
+-- of one section have a break between them
+pub record MadeUnbroken (qs : List (Carried ℕ)) (sections : List (List ℕ)) : Type 0 where
+  pub made-of : List (List Byte)
+  pub values-are : map (map valueOf) made-of ≡ sections
+  pub once-in-order : Among (flatten made-of) (payloadsFrom 0 qs)
+  pub unbroken : Each (Unbroken qs) made-of
+
 module _ (C : Collector) where
-  -- the premise of each statement
-  abbrev pub FromFresh : ℕ → List ℕ → List Call → Record → List ℕ → Type 0
-  FromFresh pid hold calls r hold′ = Run C (freshRecord pid) hold calls r hold′
+  -- "Start a fresh collector, feed it any packets, hand record and hold on untouched. .. After each packet, ..": of each run from a fresh record,
+  -- which may stop after any packet, by its PID, its hold at the start, its calls, and its record and hold at the end
+  abbrev pub OverRuns : (ℕ → List ℕ → List Call → Record → List ℕ → Type 0) → Type 0
+  OverRuns P = (pid : ℕ) (hold : List ℕ) (calls : List Call) (r : Record) (hold′ : List ℕ) → Run C (freshRecord pid) hold calls r hold′ → P pid hold calls r hold′
+
+  -- demand 1's "gets the first of them", of the packets of a run
+  abbrev pub RefusedExactlyIf : Type 0
+  RefusedExactlyIf = OverRuns (λ pid hold calls r hold′. Each (RefusedIf pid (length hold)) calls)
 
   abbrev pub TakenExactlyIf : Type 0
-  TakenExactlyIf = (pid : ℕ) (hold : List ℕ) (calls : List Call) (r : Record) (hold′ : List ℕ) → FromFresh pid hold calls r hold′ → TakenIf pid (length hold) none calls
+  TakenExactlyIf = OverRuns (λ pid hold calls r hold′. TakenIf pid (length hold) none calls)
 
   -- which packets are taken, which are repeated, and which are refused with which number, depends on the packets and the rooms' sizes alone
   abbrev pub ByPacketsAlone : Type 0
-  ByPacketsAlone = (pid : ℕ) (hold : List ℕ) (calls : List Call) (r : Record) (hold′ : List ℕ) → FromFresh pid hold calls r hold′ → map (λ k. fareOf (k .said)) calls ≡ faresFrom pid (length hold) none (map lentOf calls)
+  ByPacketsAlone = OverRuns (λ pid hold calls r hold′. map (λ k. fareOf (k .said)) calls ≡ faresFrom pid (length hold) none (map lentOf calls))
 
   -- a run never leaves a record that can't stand
   abbrev pub NeverUnfit : Type 0
-  NeverUnfit = (pid : ℕ) (hold : List ℕ) (calls : List Call) (r : Record) (hold′ : List ℕ) → pid ≤ 8191 → FromFresh pid hold calls r hold′ → Each (λ k. k .said ≡ refused 43 → ⊥) calls
+  NeverUnfit = OverRuns (λ pid hold calls r hold′. pid ≤ 8191 → Each (λ k. k .said ≡ refused 43 → ⊥) calls)
+
+  -- "one fate, fixed by document 01's rules from those packets alone"
+  abbrev pub OneFateEach : Type 0
+  OneFateEach = OverRuns (λ pid hold calls r hold′. Fated calls r hold′ (storyBy pid hold calls .marks))
 
   abbrev pub CountersAreFates : Type 0
-  CountersAreFates = (pid : ℕ) (hold : List ℕ) (calls : List Call) (r : Record) (hold′ : List ℕ) → FromFresh pid hold calls r hold′ → Counted r hold′ (storyBy pid hold calls)
+  CountersAreFates = OverRuns (λ pid hold calls r hold′. Counted r hold′ (storyBy pid hold calls))
 
   -- "and with those in hand they make up the payload taken"
   abbrev pub CountersMakeUp : Type 0
-  CountersMakeUp = (pid : ℕ) (hold : List ℕ) (calls : List Call) (r : Record) (hold′ : List ℕ) → FromFresh pid hold calls r hold′
-      → (r .pointer + r .delivered + r .broken + r .filler + r .skipped + r .in_hand) % 2 ^ 32 ≡ length (payloadsFrom 0 (takenBy pid hold calls)) % 2 ^ 32
+  CountersMakeUp = OverRuns (λ pid hold calls r hold′.
+      (r .pointer + r .delivered + r .broken + r .filler + r .skipped + r .in_hand) % 2 ^ 32 ≡ length (payloadsFrom 0 (takenOf calls)) % 2 ^ 32)
 
   abbrev pub DeliveredInOrder : Type 0
-  DeliveredInOrder = (pid : ℕ) (hold : List ℕ) (calls : List Call) (r : Record) (hold′ : List ℕ) → FromFresh pid hold calls r hold′ → HandedOut calls (storyBy pid hold calls)
+  DeliveredInOrder = OverRuns (λ pid hold calls r hold′. HandedOut calls (storyBy pid hold calls))
 
--- of the fates themselves, whatever the packets: "every payload byte of the packets taken so far has one fate"
-abbrev pub OneFateEach : Type 0
-OneFateEach = (qs : List (Carried ℕ)) → map (λ m. m .byte) (historyOf qs .story .marks) ≡ payloadsFrom 0 qs
-
--- "no delivered section spans a break in the continuity counter from one taken packet with payload to the next"
-abbrev pub NoSectionSpans : Type 0
-NoSectionSpans = (qs : List (Carried ℕ)) → Each (Unbroken qs) (historyOf qs .story .sections)
+  -- "no delivered section spans a break in the continuity counter from one taken packet with payload to the next"
+  abbrev pub NoSectionSpans : Type 0
+  NoSectionSpans = OverRuns (λ pid hold calls r hold′. MadeUnbroken (takenOf calls) (handed calls))

@@ -67,3 +67,9 @@ pub record Spans (qs : List (Carried ℕ)) (x y : Byte) : Type 0 where
 -- "no delivered section spans a break": no two of its bytes do
 abbrev pub Unbroken : List (Carried ℕ) → List Byte → Type 0
 Unbroken qs section = Each (λ x. Each (λ y. Spans qs x y → ⊥) section) section
+
+-- the elements of a list in their order, some of them left out
+pub data Among {A : Type 0} : List A → List A → Type 0 where
+  none-left : Among [] []
+  left-out : {x : A} {part whole : List A} → Among part whole → Among part (x ∷ whole)
+  had : {x : A} {part whole : List A} → Among part whole → Among (x ∷ part) (x ∷ whole)

@@ -1,16 +1,17 @@
--- A sequence of calls of a collector, "the out room being any at each call", and how the packets of one fare by the packets alone.
+-- A sequence of calls of a collector, with any packet and any out room at each, and how the packets of one fare by the packets alone.
 use mathlib.Core.Path.{_≡_}
 use mathlib.Core.Logic.{_⊎_}
 use mathlib.Core.Bool.{false}
-use mathlib.Core.List.{List, [], _∷_, _++_}
+use mathlib.Core.List.{List, [], _∷_, _++_, map}
 use mathlib.Core.Option.{Option, some}
 use Prim.Native.Nat.{ℕ, zero, suc}
 use lib.ListN.{length, take, drop}
-use lib.Dec.{ltb}
+use lib.Dec.{ltb, eqb}
+use Rattle.wire.specs.If.{if_then_else_}
 use Rattle.collector.specs.Each.{Each}
-use Rattle.collector.specs.Packet.{control, counterOf}
+use Rattle.collector.specs.Packet.{startFlag, control, counterOf, payloadFrom}
 use Rattle.collector.specs.Rules.{totalOf, Carried}
-use Rattle.collector.specs.Refusals.{refusals, repeats, Ruling, ruling}
+use Rattle.collector.specs.Refusals.{refusals, repeats, Ruling, carriedIn, ruling}
 use Rattle.collector.specs.Refusals as Refusals
 use Rattle.collector.specs.Answer.{Told, Outcome}
 use Rattle.collector.specs.Answer as Answer
@@ -34,11 +35,27 @@ pub record Call : Type 0 where
   pub out′ : List ℕ
   pub said : Told
 
+-- what a caller brings to a call, besides the record and the hold
+pub record Input : Type 0 where
+  pub packet : List ℕ
+  pub out : List ℕ
+
+abbrev pub inputOf : Call → Input
+inputOf k = record { packet = k .packet; out = k .out }
+
 -- "hand record and hold on untouched": from a record and a hold, by calls, to a record and a hold
 pub data Run (C : Collector) : Record → List ℕ → List Call → Record → List ℕ → Type 0 where
   no-call : {r : Record} {hold : List ℕ} → Run C r hold [] r hold
   one-call : {r r₁ r′ : Record} {hold hold₁ hold′ : List ℕ} {k : Call} {ks : List Call}
       → C r hold (k .out) (k .packet) (record { rec = r₁; hold = hold₁; out = k .out′; said = k .said }) → Run C r₁ hold₁ ks r′ hold′ → Run C r hold (k ∷ ks) r′ hold′
+
+-- calls of the promise with these inputs, and where they lead
+pub record RunOn (r : Record) (hold : List ℕ) (xs : List Input) : Type 0 where
+  pub calls : List Call
+  pub inputs : map inputOf calls ≡ xs
+  pub rec : Record
+  pub last-hold : List ℕ
+  pub run : Run Promised r hold calls rec last-hold
 
 -- ---- how a packet fares, by the packets and the rooms' sizes alone
 
@@ -57,6 +74,16 @@ ruledFare (Refusals.refused n) = refused n
 ruledFare Refusals.repeated = repeated
 ruledFare Refusals.bare = taken
 ruledFare (Refusals.takes q) = taken
+
+-- "the packets taken", by what the answers say: of each that has payload its counter, its start flag and its payload
+abbrev pub carriedIf : Fare → List ℕ → List (Carried ℕ)
+carriedIf (refused n) packet = []
+carriedIf repeated packet = []
+carriedIf taken packet = if eqb (control packet) 2 then [] else carriedIn packet (payloadFrom packet) (startFlag packet) (counterOf packet) ∷ []
+
+abbrev pub takenOf : List Call → List (Carried ℕ)
+takenOf [] = []
+takenOf (k ∷ ks) = carriedIf (fareOf (k .said)) (k .packet) ++ takenOf ks
 
 -- of a call, the packet and the size of the out room
 pub record Lent : Type 0 where
@@ -121,3 +148,9 @@ abbrev pub bytesBy : Told → List ℕ → List ℕ
 bytesBy (Answer.refused n) out = []
 bytesBy Answer.repeated out = []
 bytesBy (Answer.taken sections bytes) out = take bytes out
+
+-- how many bytes it says there are
+abbrev pub toldBy : Told → ℕ
+toldBy (Answer.refused n) = 0
+toldBy Answer.repeated = 0
+toldBy (Answer.taken sections bytes) = bytes

@@ -4,7 +4,7 @@ use borrow.Author.Needs.{needs}
 use Rattle.collector.specs.Refusals.{lastOf, Judged, ruledBy}
 use Rattle.collector.specs.Answer.{Outcome}
 use Rattle.collector.specs.Collected.{outcomeOf}
-use Rattle.collector.specs.Inside.{meant}
+use Rattle.collector.specs.Inner.Packet.{meant}
 use Rattle.collector.proofs.Table.{fit-of}
 use Rattle.collector.proofs.step.Statement.{statement}
 use Rattle.collector.proofs.step.Tie as tie

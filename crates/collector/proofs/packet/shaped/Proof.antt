@@ -2,7 +2,7 @@
 use mathlib.Core.Path.{sym, _∙_, subst}
 use Prim.Native.Nat.{ℕ, _+_}
 use borrow.Author.Needs.{needs}
-use Rattle.collector.specs.Inside.{PayloadAt}
+use Rattle.collector.specs.Inner.Packet.{PayloadAt}
 use Rattle.collector.proofs.Table.{control-none, control-payload, payload-first, control-bare, control-bad-bare, control-long, control-both, payload-after}
 use Rattle.collector.proofs.packet.shaped.Statement.{statement}
 use Rattle.collector.proofs.packet.shaped.Tie as tie

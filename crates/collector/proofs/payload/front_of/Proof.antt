@@ -3,7 +3,7 @@ use mathlib.Core.Path.{sym, ap, _∙_}
 use mathlib.Core.Bool.{Bool}
 use Prim.Native.Nat.{ℕ, _+_}
 use borrow.Author.Needs.{needs}
-use Rattle.collector.specs.Inside.{frontOf}
+use Rattle.collector.specs.Inner.Payload.{frontOf}
 use Rattle.collector.specs.declared.payload.Front.{Front}
 use Rattle.collector.proofs.payload.front_of.Statement.{statement}
 use Rattle.collector.proofs.payload.front_of.Tie as tie

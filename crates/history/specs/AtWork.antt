@@ -1,0 +1,295 @@
+-- The collector at work: packets one after another, what is answered to each, and the record that they leave. That each
+-- story goes so is computed.
+use mathlib.Core.Path.{_≡_}
+use mathlib.Core.List.{List, [], _∷_, _++_, map, flatten}
+use Prim.Native.Nat.{ℕ, _+_, _-_}
+use lib.ListN.{length, replicate}
+use Rattle.collector.specs.Answer.{Told, refused, repeated, taken}
+use Rattle.collector.specs.Collected.{freshRecord, collected}
+use Rattle.collector.specs.declared.Record.{Record}
+use Rattle.collector.specs.declared.Last.{Last}
+use Rattle.collector.specs.declared.Last.the-variants.{None, Counter}
+use Rattle.history.specs.Run.{bytesBy}
+use Rattle.history.specs.WrongCollectors.{worked, hold₀, out₀}
+
+-- a packet, what is answered to it, and the bytes that it hands out
+pub record Step : Type 0 where
+  pub packet : List ℕ
+  pub answer : Told
+  pub bytes : List ℕ
+
+infix 70 _gives_
+abbrev pub _gives_ : List ℕ → Told → Step
+packet gives answer = record { packet = packet; answer = answer; bytes = [] }
+
+-- taken, with these sections
+infix 70 _hands_
+abbrev pub _hands_ : List ℕ → List (List ℕ) → Step
+packet hands sections =
+    record { packet = packet; answer = taken (length sections) (length (flatten sections)); bytes = flatten sections }
+
+-- from a record, a hold and an out room, the same at each call, to a record
+pub record Story : Type 0 where
+  pub from : Record
+  pub hold : List ℕ
+  pub out : List ℕ
+  pub steps : List Step
+  pub left : Record
+
+-- ---- what a story comes to
+
+pub record Ending : Type 0 where
+  pub answers : List Told
+  pub bytes : List (List ℕ)
+  pub left : Record
+
+-- the answers to the packets, the bytes handed out, and the record after them
+abbrev pub answersTo : Record → List ℕ → List ℕ → List Step → List Told
+answersTo r hold out [] = []
+answersTo r hold out (s ∷ ss) =
+    collected r hold out (s .packet) .said
+    ∷ answersTo (collected r hold out (s .packet) .rec) (collected r hold out (s .packet) .hold) out ss
+
+abbrev pub bytesFor : Record → List ℕ → List ℕ → List Step → List (List ℕ)
+bytesFor r hold out [] = []
+bytesFor r hold out (s ∷ ss) =
+    bytesBy (collected r hold out (s .packet) .said) (collected r hold out (s .packet) .out)
+    ∷ bytesFor (collected r hold out (s .packet) .rec) (collected r hold out (s .packet) .hold) out ss
+
+abbrev pub leftBy : Record → List ℕ → List ℕ → List Step → Record
+leftBy r hold out [] = r
+leftBy r hold out (s ∷ ss) =
+    leftBy (collected r hold out (s .packet) .rec) (collected r hold out (s .packet) .hold) out ss
+
+abbrev pub endingOf : Story → Ending
+endingOf s = record {
+  answers = answersTo (s .from) (s .hold) (s .out) (s .steps);
+  bytes = bytesFor (s .from) (s .hold) (s .out) (s .steps);
+  left = leftBy (s .from) (s .hold) (s .out) (s .steps);
+}
+
+abbrev pub toldOf : Story → Ending
+toldOf s = record { answers = map (λ t. t .answer) (s .steps); bytes = map (λ t. t .bytes) (s .steps); left = s .left }
+
+-- ---- records and packets of PID 20
+
+-- a record by its PID, last counter, bytes in hand, and the bytes of pointer, delivered, broken, filler and skipped
+abbrev pub recordOf : ℕ → Last → ℕ → ℕ → ℕ → ℕ → ℕ → ℕ → Record
+recordOf pid last in-hand pointer delivered broken filler skipped = record {
+  pid = pid;
+  last = last;
+  in_hand = in-hand;
+  pointer = pointer;
+  delivered = delivered;
+  broken = broken;
+  filler = filler;
+  skipped = skipped;
+}
+
+-- with this payload behind an adaptation field that fills the rest; with the start flag, and without it
+abbrev pub packetOf : ℕ → ℕ → List ℕ → List ℕ
+packetOf flags counter payload =
+    0x47 ∷ flags ∷ 0x14 ∷ (0x30 + counter) ∷ (183 - length payload) ∷ replicate (183 - length payload) 0 ++ payload
+
+abbrev pub starts : ℕ → List ℕ → List ℕ
+starts counter payload = packetOf 0x40 counter payload
+
+abbrev pub goesOn : ℕ → List ℕ → List ℕ
+goesOn counter payload = packetOf 0x00 counter payload
+
+-- document 01's section, a TDT
+abbrev pub tdt : List ℕ
+tdt = 0x70 ∷ 0x70 ∷ 0x05 ∷ 0xC0 ∷ 0x79 ∷ 0x12 ∷ 0x45 ∷ 0x00 ∷ []
+
+-- a packet by its first bytes, the others 0xFF
+abbrev pub filled : List ℕ → List ℕ
+filled bytes = bytes ++ replicate (188 - length bytes) 0xFF
+
+abbrev pub fromFresh : ℕ → Record → List Step → Story
+fromFresh pid left steps =
+    record { from = freshRecord pid; hold = hold₀; out = out₀; steps = steps; left = left }
+
+-- a record that a packet does not change
+abbrev pub unchanged : Record → List ℕ → List ℕ → List Step → Story
+unchanged r hold out steps = record { from = r; hold = hold; out = out; steps = steps; left = r }
+
+-- ---- document 01's packet
+
+abbrev pub the-worked-packet : Story
+the-worked-packet = fromFresh 20 (recordOf 20 (Counter 0) 0 1 8 0 175 0) (worked 0 hands (tdt ∷ []) ∷ [])
+
+-- ---- refusals
+
+-- packets to which all of 44 to 49 apply, and one fewer each time
+abbrev pub in-this-order : Story
+in-this-order =
+    fromFresh 20 (recordOf 20 (Counter 0) 0 0 0 0 0 184)
+    (filled (0x46 ∷ 0xC0 ∷ 0x15 ∷ 0x40 ∷ []) gives refused 44
+    ∷ filled (0x47 ∷ 0xC0 ∷ 0x15 ∷ 0x40 ∷ []) gives refused 45
+    ∷ filled (0x47 ∷ 0x40 ∷ 0x15 ∷ 0x40 ∷ []) gives refused 46
+    ∷ filled (0x47 ∷ 0x40 ∷ 0x14 ∷ 0x40 ∷ []) gives refused 47
+    ∷ filled (0x47 ∷ 0x40 ∷ 0x14 ∷ 0x00 ∷ []) gives refused 48
+    ∷ filled (0x47 ∷ 0x40 ∷ 0x14 ∷ 0x10 ∷ []) gives refused 49
+    ∷ filled (0x47 ∷ 0x00 ∷ 0x14 ∷ 0x10 ∷ []) gives taken 0 0
+    ∷ [])
+
+-- 41, then 42, with a record that can't stand
+abbrev pub a-small-hold : Story
+a-small-hold =
+    unchanged (freshRecord 8192) (replicate 4095 0) out₀
+    ((0x46 ∷ []) gives refused 41
+    ∷ filled (0x46 ∷ []) gives refused 42
+    ∷ [])
+
+abbrev pub a-small-out : Story
+a-small-out = unchanged (freshRecord 20) hold₀ (replicate 4279 0) (worked 0 gives refused 42 ∷ [])
+
+-- "record can't stand", with these bytes in hand at the start of its hold: 43 comes before 44
+abbrev pub unfit : ℕ → Last → ℕ → List ℕ → Story
+unfit pid last in-hand held =
+    unchanged (recordOf pid last in-hand 0 0 0 0 0) (held ++ hold₀) out₀ (filled (0x46 ∷ []) gives refused 43 ∷ [])
+
+-- one that can stand
+abbrev pub fit : ℕ → List ℕ → Story
+fit in-hand held =
+    unchanged (recordOf 20 (Counter 15) in-hand 0 0 0 0 0) (held ++ hold₀) out₀ (goesOn 15 (0 ∷ []) gives repeated ∷ [])
+
+-- "another PID": all thirteen bits of it, and transport_priority is none of them
+abbrev pub all-bits-of-the-pid : Story
+all-bits-of-the-pid =
+    fromFresh 8191 (recordOf 8191 (Counter 1) 0 2 0 0 366 0)
+    (filled (0x47 ∷ 0x5F ∷ 0xFF ∷ 0x10 ∷ 0x00 ∷ []) gives taken 0 0
+    ∷ filled (0x47 ∷ 0x7F ∷ 0xFF ∷ 0x11 ∷ 0x00 ∷ []) gives taken 0 0
+    ∷ filled (0x47 ∷ 0x4F ∷ 0xFF ∷ 0x12 ∷ 0x00 ∷ []) gives refused 46
+    ∷ filled (0x47 ∷ 0x5F ∷ 0x7F ∷ 0x12 ∷ 0x00 ∷ []) gives refused 46
+    ∷ [])
+
+-- "11 with length above 182; or 10 with length other than 183", scrambling control 01 and 10
+abbrev pub each-control : Story
+each-control =
+    fromFresh 20 (recordOf 20 (Counter 0) 0 0 0 0 0 1)
+    (filled (0x47 ∷ 0x00 ∷ 0x14 ∷ 0x50 ∷ []) gives refused 47
+    ∷ filled (0x47 ∷ 0x00 ∷ 0x14 ∷ 0x90 ∷ []) gives refused 47
+    ∷ filled (0x47 ∷ 0x00 ∷ 0x14 ∷ 0x30 ∷ 183 ∷ []) gives refused 48
+    ∷ filled (0x47 ∷ 0x00 ∷ 0x14 ∷ 0x20 ∷ 182 ∷ []) gives refused 48
+    ∷ filled (0x47 ∷ 0x00 ∷ 0x14 ∷ 0x20 ∷ 184 ∷ []) gives refused 48
+    ∷ filled (0x47 ∷ 0x40 ∷ 0x14 ∷ 0x20 ∷ 183 ∷ []) gives taken 0 0
+    ∷ filled (0x47 ∷ 0x00 ∷ 0x14 ∷ 0x30 ∷ 182 ∷ []) gives taken 0 0
+    ∷ [])
+
+-- "pointer above payload length minus 2 (a payload of 1: always)": at the limit, one above it, and a payload of 1
+abbrev pub pointer-at-its-limit : Story
+pointer-at-its-limit =
+    fromFresh 20 (recordOf 20 (Counter 0) 0 1 0 0 1 2)
+    (starts 0 (2 ∷ 1 ∷ 2 ∷ 0xFF ∷ []) gives taken 0 0
+    ∷ starts 1 (3 ∷ 1 ∷ 2 ∷ 0xFF ∷ []) gives refused 49
+    ∷ starts 1 (0 ∷ []) gives refused 49
+    ∷ [])
+
+-- ---- fates
+
+-- "the last plus 1 modulo 16": 0 after 15 is no break, and the section goes on; "after its end, filler", whatever it is
+abbrev pub zero-after-fifteen : Story
+zero-after-fifteen =
+    fromFresh 20 (recordOf 20 (Counter 0) 0 1 8 0 1 0)
+    (starts 15 (0 ∷ 0x70 ∷ 0x70 ∷ 0x05 ∷ 0xC0 ∷ []) gives taken 0 0
+    ∷ goesOn 0 (0x79 ∷ 0x12 ∷ 0x45 ∷ 0x00 ∷ 0x70 ∷ []) hands (tdt ∷ [])
+    ∷ [])
+
+-- 14 after 13 is no break, 0 after 14 is one: "what is in hand is broken off", and "Nothing in hand: skipped."
+abbrev pub a-break : Story
+a-break =
+    fromFresh 20 (recordOf 20 (Counter 0) 0 1 0 3 0 2)
+    (starts 13 (0 ∷ 0x70 ∷ 0x70 ∷ []) gives taken 0 0
+    ∷ goesOn 14 (0x05 ∷ []) gives taken 0 0
+    ∷ goesOn 0 (0xC0 ∷ 0x79 ∷ []) gives taken 0 0
+    ∷ [])
+
+-- "Control 10: taken, no payload, nothing changes. Else a counter equal to the last: "repeated", nothing changes."
+abbrev pub nothing-changes : Story
+nothing-changes =
+    fromFresh 20 (recordOf 20 (Counter 5) 3 1 0 0 0 0)
+    (starts 4 (0 ∷ 0x70 ∷ 0x70 ∷ []) gives taken 0 0
+    ∷ filled (0x47 ∷ 0x00 ∷ 0x14 ∷ 0x29 ∷ 183 ∷ []) gives taken 0 0
+    ∷ filled (0x47 ∷ 0x00 ∷ 0x14 ∷ 0x24 ∷ 183 ∷ []) gives taken 0 0
+    ∷ goesOn 4 (0x05 ∷ []) gives repeated
+    ∷ goesOn 5 (0x05 ∷ []) gives taken 0 0
+    ∷ [])
+
+-- "The next p bytes go as above; a section still unfinished after them is broken off. Then sections follow end to end
+-- until 0xFF stands where one would begin (the rest is filler)"
+abbrev pub the-pointer-followed : Story
+the-pointer-followed =
+    fromFresh 20 (recordOf 20 (Counter 1) 0 2 7 5 2 0)
+    (starts 0 (0 ∷ 0x70 ∷ 0x70 ∷ 0x05 ∷ []) gives taken 0 0
+    ∷ starts 1 (2 ∷ 0xC0 ∷ 0x79 ∷ 0x70 ∷ 0x70 ∷ 0x00 ∷ 0x72 ∷ 0x00 ∷ 0x01 ∷ 0xFF ∷ 0xFF ∷ 0x70 ∷ [])
+    hands ((0x70 ∷ 0x70 ∷ 0x00 ∷ []) ∷ (0x72 ∷ 0x00 ∷ 0x01 ∷ 0xFF ∷ []) ∷ [])
+    ∷ [])
+
+-- the section in hand ends before the target: what is between is filler, and a new one stays in hand
+abbrev pub ended-before-the-target : Story
+ended-before-the-target =
+    fromFresh 20 (recordOf 20 (Counter 1) 2 2 4 0 1 0)
+    (starts 0 (0 ∷ 0x70 ∷ []) gives taken 0 0
+    ∷ starts 1 (4 ∷ 0x70 ∷ 0x01 ∷ 0xAA ∷ 0x00 ∷ 0x70 ∷ 0x70 ∷ []) hands ((0x70 ∷ 0x70 ∷ 0x01 ∷ 0xAA ∷ []) ∷ [])
+    ∷ [])
+
+-- "A section_length above 4,093, known at its third byte: the section and the rest of its stretch (to the pointer's
+-- target or payload end) are broken off."
+abbrev pub section-length-4093 : Story
+section-length-4093 =
+    fromFresh 20 (recordOf 20 (Counter 0) 4 1 0 0 0 0)
+    (starts 0 (0 ∷ 0x70 ∷ 0xFF ∷ 0xFD ∷ 0x01 ∷ []) gives taken 0 0 ∷ [])
+
+abbrev pub section-length-4094 : Story
+section-length-4094 =
+    fromFresh 20 (recordOf 20 (Counter 1) 0 2 3 8 0 0)
+    (starts 0 (0 ∷ 0x70 ∷ 0xFF ∷ []) gives taken 0 0
+    ∷ starts 1 (2 ∷ 0xFE ∷ 0x01 ∷ 0x70 ∷ 0x70 ∷ 0x00 ∷ 0x70 ∷ 0x7F ∷ 0xFE ∷ 0x01 ∷ [])
+    hands ((0x70 ∷ 0x70 ∷ 0x00 ∷ []) ∷ [])
+    ∷ [])
+
+-- "five 32-bit counters that run round past 4,294,967,295 to 0"
+abbrev pub counters-run-round : Story
+counters-run-round = record {
+  from = recordOf 20 (Counter 3) 2 4294967295 4294967288 4294967294 4294967295 4294967294;
+  hold = 0x70 ∷ 0x70 ∷ hold₀;
+  out = out₀;
+  steps =
+      starts 5 (2 ∷ 0 ∷ 0 ∷ tdt ++ (0xFF ∷ [])) hands (tdt ∷ []) ∷ [];
+  left = recordOf 20 (Counter 5) 0 0 0 0 0 0;
+}
+
+abbrev pub stories : List Story
+stories =
+    the-worked-packet
+    ∷ in-this-order
+    ∷ a-small-hold
+    ∷ a-small-out
+    ∷ unfit 8192 (Counter 0) 0 []
+    ∷ unfit 20 (Counter 16) 0 []
+    ∷ unfit 20 (Counter 0) 4096 (0x70 ∷ 0x7F ∷ 0xFF ∷ [])
+    ∷ unfit 20 None 1 (0x70 ∷ [])
+    ∷ unfit 20 (Counter 0) 1 (0xFF ∷ [])
+    ∷ unfit 20 (Counter 0) 3 (0x70 ∷ 0x70 ∷ 0x00 ∷ [])
+    ∷ unfit 20 (Counter 0) 3 (0x70 ∷ 0x7F ∷ 0xFE ∷ [])
+    ∷ fit 0 (0xFF ∷ [])
+    ∷ fit 1 (0x70 ∷ [])
+    ∷ fit 2 (0x70 ∷ 0xFF ∷ 0xFF ∷ [])
+    ∷ fit 3 (0x70 ∷ 0x70 ∷ 0x01 ∷ [])
+    ∷ fit 4095 (0x70 ∷ 0x7F ∷ 0xFD ∷ [])
+    ∷ all-bits-of-the-pid
+    ∷ each-control
+    ∷ pointer-at-its-limit
+    ∷ zero-after-fifteen
+    ∷ a-break
+    ∷ nothing-changes
+    ∷ the-pointer-followed
+    ∷ ended-before-the-target
+    ∷ section-length-4093
+    ∷ section-length-4094
+    ∷ counters-run-round
+    ∷ []
+
+abbrev pub AtWork : Type 0
+AtWork = map endingOf stories ≡ map toldOf stories
