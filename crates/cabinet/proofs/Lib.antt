@@ -1,5 +1,4 @@
 -- Laws that several proofs cite, and what the promises come to.
 pub mod Mapped
 pub mod Outcomes
-pub mod Runs
 pub mod SheetNumbers

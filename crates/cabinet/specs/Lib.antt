@@ -10,4 +10,3 @@ pub mod Lists
 pub mod Delivery
 pub mod Roll
 pub mod Sheets
-pub mod Run

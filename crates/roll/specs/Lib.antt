@@ -1,7 +1,5 @@
--- The roll: its answers, its marks, what a sub-table is, a step, and whole sequences of sections.
+-- The roll: its answers, its marks, what a sub-table is, and a step.
 pub mod Answer
 pub mod Marks
 pub mod SubTable
 pub mod Roll
-pub mod Sequence
-pub mod Alike

@@ -20,9 +20,9 @@ use Rattle.history.specs.Run as beneath
 use Rattle.collector.specs.declared.Last.{Last}
 use Rattle.collector.specs.declared.Last.the-variants.{None, Counter}
 use Rattle.collector.specs.declared.Record as of
 use Rattle.cabinet.specs.Collect.{lastIn, lastSays, recordIn, recordSays, collectSays, Outcome, leaves, outcomeSays, collecting}
-use Rattle.cabinet.specs.Run.{Promised, Call, Run, no-call, one-call, callSays, Beneath, RunsBeneath}
+use Rattle.calls.specs.Collects.{Promised, Call, Run, no-call, one-call, callSays, Beneath, RunsBeneath}
 use Rattle.cabinet.specs.declared.collect.Record.{Record}
 
 -- ---- a taken packet's counter has four bits
 
@@ -105,4 +105,4 @@ runs x hold (k ∷ ks) r r′ hold′ t is (one-call {r₁ = r₁} {hold₁ = ho
     more ks r₁ hold₁ k o refl e (runs (o .rec) hold₁ ks r₁ r′ hold′ (told-on x hold (k .out) (k .packet) t) (ap (λ (z : Outcome). z .rec) e) rest)
 
 pub runs-beneath : RunsBeneath Promised
-runs-beneath pid hold calls r hold′ x = runs (freshRecord pid) hold calls (recordSays (freshRecord pid)) r hold′ refl refl x
+runs-beneath pid fresh hold calls r hold′ is x = runs (freshRecord pid) hold calls fresh r hold′ refl is x

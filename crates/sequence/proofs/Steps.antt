@@ -7,9 +7,9 @@ use mathlib.Core.List.{List}
 use Rattle.verdict.specs.Verdict.{isAccepted, numberOf, placeOf}
 use Rattle.verdict.proofs.SaidLaws.{is-accepted, is-refused}
 use Rattle.section.specs.Reading.{judged}
 use Rattle.roll.specs.Roll.{isCurrent, hasNoSubTable, another, after, refusal, answering, takingAccepted, taking}
-use Rattle.roll.specs.Sequence.{belongs, takes, FirstRefusal, by-the-judge, no-sub-table, another-sub-table, not-current}
+use Rattle.sequence.specs.Sequence.{belongs, takes, FirstRefusal, by-the-judge, no-sub-table, another-sub-table, not-current}
 use Rattle.roll.specs.declared.Roll.{Roll}
 
 -- refused with the first refusal that applies, and "itself unchanged"
 pub record Refuses (t : List (List ℕ)) (r : Roll) (s : List ℕ) : Type 0 where

@@ -9,15 +9,16 @@ use lib.Dec.{eqb}
 use borrow.Author.Tests.{eqb-true, eqb-false}
 use Rattle.wire.specs.If.{if_then_else_}
 use Rattle.wire.specs.Bytes.{Bytes}
 use Rattle.roll.specs.Answer.{Says, missing}
 use Rattle.roll.specs.Marks.{has, unmarked, marked, Whole, smallest, smallestMissing}
 use Rattle.roll.specs.Roll.{numberIn, another, startsAfresh, begunWith, continued, after, asked, answering, refusal, taking}
-use Rattle.roll.specs.Sequence.{AllBytes, none, more}
-use Rattle.roll.specs.Alike.{Alike, empty, begun, answersTo}
-use Rattle.roll.proofs.MarkLaws.{unmarked-whole, marked-whole, marked-has, marked-keeps}
-use Rattle.roll.proofs.Steps.{both-taken-or-refused}
+use Rattle.sequence.specs.Promise.{Promised}
+use Rattle.sequence.specs.Sequence.{AllBytes, none, more}
+use Rattle.sequence.specs.Alike.{Alike, empty, begun, answersTo, StaysAlike}
+use Rattle.sequence.proofs.MarkLaws.{unmarked-whole, marked-whole, marked-has, marked-keeps}
+use Rattle.sequence.proofs.Steps.{both-taken-or-refused}
 use Rattle.roll.specs.declared.Roll.{Roll}
 use Rattle.roll.specs.declared.Marks.{Marks}
 
 -- the smallest that is missing looks at no mark above the last number
 smallest-alike : (came come : ℕ → Bool) (last k n : ℕ) → n + k ≡ last + 1 → ((j : ℕ) → j ≤ last → came j ≡ come j) → smallest came k n ≡ smallest come k n
@@ -83,6 +84,9 @@ taking-alike {r} {q} g s b = go (both-taken-or-refused r s q (another-alike g s)
         → (taking r s .says ≡ taking q s .says) × Alike (taking r s .roll) (taking q s .roll)
     go (inl (e, f)) = let a = after-alike g s b in rw (e, f) (asked-alike a, a)
     go (inr (k, p, (e, f))) = rw (e, f) (refl, g)
+
+pub stays-alike : StaysAlike Promised
+stays-alike r q g s b o o' e f = rw (e, f) (taking-alike g s b)
 
 -- "two rolls that differ only there behave alike": the same answers to whatever sections follow
 pub alike-answers : {r q : Roll} → Alike r q → {l : List (List ℕ)} → AllBytes l → answersTo r l ≡ answersTo q l

@@ -6,13 +6,17 @@ use Prim.Native.Nat.{ℕ}
 use Rattle.collector.specs.Collected.{freshRecord}
 use Rattle.history.specs.Run as beneath
 use Rattle.collector.specs.declared.Record as of
 use Rattle.cabinet.specs.Collect.{recordSays, collectSays, Outcome, leaves, collecting}
 use Rattle.cabinet.specs.declared.collect.Record.{Record}
 use Rattle.cabinet.specs.declared.collect.CollectAnswer.{CollectAnswer}
 
 -- what a collector for C may make of a record, a hold, an out room and a packet
 abbrev pub Collector : Type 1
 Collector = Record → List ℕ → List ℕ → List ℕ → Outcome → Type 0
+
+-- what `lohitunga_fresh` promises
+abbrev pub PromisedFresh : ℕ → Record → Type 0
+PromisedFresh pid r = r ≡ recordSays (freshRecord pid)
 
 -- what `lohitunga_collect` promises
 abbrev pub Promised : Collector
@@ -45,4 +49,6 @@ pub record Beneath (from : of.Record) (hold : List ℕ) (calls : List Call) (r :
 
 -- a run from a fresh record is a run of the collector from a fresh record
 abbrev pub RunsBeneath : Collector → Type 0
-RunsBeneath C = (pid : ℕ) (hold : List ℕ) (calls : List Call) (r : Record) (hold′ : List ℕ) → Run C (recordSays (freshRecord pid)) hold calls r hold′ → Beneath (freshRecord pid) hold calls r hold′
+RunsBeneath C =
+    (pid : ℕ) (fresh : Record) (hold : List ℕ) (calls : List Call) (r : Record) (hold′ : List ℕ) → PromisedFresh pid fresh → Run C fresh hold calls r hold′
+    → Beneath (freshRecord pid) hold calls r hold′

@@ -11,52 +11,18 @@ use borrow.Author.Tests.{eqb-true, eqb-false, ltb-true, ltb-false}
 use Rattle.wire.specs.If.{if_then_else_}
 use Rattle.wire.specs.Bytes.{Bytes}
 use Rattle.wire.proofs.IfLaws.{if-case}
 use Rattle.roll.specs.Answer.{Says, missing, complete}
 use Rattle.roll.specs.Marks.{has, unmarked, marked, Whole, smallest, smallestMissing}
 use Rattle.roll.specs.SubTable.{subTableOf, compared, sameIds}
 use Rattle.roll.specs.Roll.{versionIn, numberIn, lastIn, another, startsAfresh, begunWith, continued, after, asked, Outcome, answering, taking}
-use Rattle.roll.specs.Sequence.{belongs, takes, taken, Come, just, earlier, Answers, all, least, Answered, nothing, some, AllBytes, none, more, Run, start, step}
-use Rattle.roll.proofs.MarkLaws.{unmarked-has-none, unmarked-whole, marked-whole, marked-has, marked-only, marked-more}
-use Rattle.roll.proofs.Ids.{compared-as-it-stands, same-ids-same}
-use Rattle.roll.proofs.Steps.{Refuses, taken-or-refused}
+use Rattle.sequence.specs.Sequence.{belongs, takes, taken, Come, just, earlier, Answered, nothing, some, Kept, Agrees, empty, begun, Next, took, refused, AllBytes, none, more, Run, start, step, MarksAre, EachFares, AnswersAre}
+use Rattle.sequence.specs.Promise.{Promised, PromisedAsked}
+use Rattle.sequence.specs.Step.{Answers, all, least}
+use Rattle.sequence.proofs.MarkLaws.{unmarked-has-none, unmarked-whole, marked-whole, marked-has, marked-only, marked-more}
+use Rattle.sequence.proofs.SmallestMissing.{smallest-answers}
+use Rattle.sequence.proofs.Ids.{compared-as-it-stands, same-ids-same}
+use Rattle.sequence.proofs.Steps.{Refuses, taken-or-refused}
 use Rattle.roll.specs.declared.Roll.{Roll}
-
--- the smallest number that has not come, or complete, says what the marks say
-module _ (came : ℕ → Bool) (come : ℕ → Type 0) (sound : (n : ℕ) → came n ≡ true → come n) (whole : (n : ℕ) → come n → came n ≡ true) (last : ℕ) where
-  answers-from : (k n : ℕ) → n + k ≡ last + 1 → ((j : ℕ) → j < n → come j) → Answers come last (smallest came k n)
-  unfolding smallest
-  answers-from zero n e below = all (λ j h. below j (omega arith))
-  answers-from (suc k) n e below =
-      if-case (Answers come last) (came n)
-      (λ t. answers-from k (n + 1) (omega arith) (more t))
-      (λ f. least n (omega arith) (λ c. false≢true (sym f ∙ whole n c)) below)
-    where
-      more : came n ≡ true → (j : ℕ) → j < n + 1 → come j
-      more t j h = go (ltb j n) refl
-        where
-          go : (b : Bool) → ltb j n ≡ b → come j
-          go true p = below j (ltb-true j n p)
-          go false p =
-              let l = ltb-false j n p in
-              let same : n ≡ j = omega arith in
-              subst come same (sound n t)
-
-  pub smallest-answers : Answers come last (smallest came (last + 1) 0)
-  smallest-answers = answers-from (last + 1) 0 (omega arith) (λ j h. absurd (omega arith))
-
--- what a roll keeps of the last section that it took
-pub record Kept (s : List ℕ) (r : Roll) : Type 0 where
-  pub begun : r .begun ≡ true
-  pub ids : r .«sub_table» ≡ subTableOf s
-  pub version : r .version ≡ versionIn s
-  pub last : r .last ≡ lastIn s
-  pub whole : Whole (r .marks)
-
--- the roll says of these sections, taken since it was empty, which numbers have come
-pub data Agrees : List (List ℕ) → Roll → Type 0 where
-  empty : {r : Roll} → r .begun ≡ false → Agrees [] r
-  begun : {s : List ℕ} {t : List (List ℕ)} {r : Roll} → Kept s r → ((n : ℕ) → has (r .marks) n ≡ true → Come (s ∷ t) n)
-      → ((n : ℕ) → Come (s ∷ t) n → has (r .marks) n ≡ true) → Agrees (s ∷ t) r
 
 first-come : {s : List ℕ} {n : ℕ} → Come (s ∷ []) n → numberIn s ≡ n
 first-come (just e) = e
@@ -124,38 +90,37 @@ agrees-answers (begun {s} {t} {r} k sound whole) =
     rw (k .begun) (some (subst (λ (n : ℕ). Answers (Come (s ∷ t)) n (smallest (has (r .marks)) (r .last + 1) 0)) (k .last)
     (smallest-answers (has (r .marks)) (Come (s ∷ t)) sound whole (r .last))))
 
--- one section more: taken exactly if none of the refusals applies, and then the answer is that of those taken; else nothing changes
-pub data Next (t : List (List ℕ)) (r : Roll) (s : List ℕ) : Type 0 where
-  took : takes t s ≡ true → Agrees (s ∷ t) (taking r s .roll) → Answered (s ∷ t) (taking r s .says) → Next t r s
-  refused : takes t s ≡ false → Refuses t r s → Next t r s
-
-next : {t : List (List ℕ)} {r : Roll} → Agrees t r → (s : List ℕ) → Bytes s → Next t r s
+-- one section more, and the roll after it
+next : {t : List (List ℕ)} {r : Roll} → Agrees t r → (s : List ℕ) → Bytes s → Next t r s (taking r s) × ((takes t s ≡ true → Agrees (s ∷ t) (taking r s .roll)))
 next {t} {r} g s b = go (taken-or-refused r s t (another-agrees g s))
   where
-    go : ((takes t s ≡ true) × ((belongs t s ≡ true) × (taking r s ≡ answering (after r s)))) ⊎ ((takes t s ≡ false) × Refuses t r s) → Next t r s
+    go : ((takes t s ≡ true) × ((belongs t s ≡ true) × (taking r s ≡ answering (after r s)))) ⊎ ((takes t s ≡ false) × Refuses t r s)
+        → Next t r s (taking r s) × ((takes t s ≡ true → Agrees (s ∷ t) (taking r s .roll)))
     go (inl (p, (h, e))) =
         let a = after-agrees g s b h in
-        took p (subst (λ (o : Outcome). Agrees (s ∷ t) (o .roll)) (sym e) a) (subst (λ (o : Outcome). Answered (s ∷ t) (o .says)) (sym e) (agrees-answers a))
-    go (inr (p, y)) = refused p y
+        (took p (subst (λ (o : Outcome). Answered (s ∷ t) (o .says)) (sym e) (agrees-answers a)), λ _. subst (λ (o : Outcome). Agrees (s ∷ t) (o .roll)) (sym e) a)
+    go (inr (p, y)) = (refused p (y .number) (y .place) (y .first) (y .same), λ q. absurd (false≢true (sym p ∙ q)))
 
--- THE MARKS: after any sections, they are the numbers that have come since the last fresh start, of those taken
-pub run-agrees : {given : List (List ℕ)} {r : Roll} → Run given r → Agrees (taken given) r
+run-agrees : {given : List (List ℕ)} {r : Roll} → Run Promised given r → Agrees (taken given) r
 unfolding taken
 run-agrees (start r e) = empty e
-run-agrees (step {given} {r} x s b) = let g = run-agrees x in go g (next g s b)
+run-agrees (step {given} {r} x s b o is) =
+    let g = run-agrees x in
+    subst (λ (o : Outcome). Agrees (taken (s ∷ given)) (o .roll)) (sym is) (go g (next g s b .0) (next g s b .1))
   where
-    go : Agrees (taken given) r → Next (taken given) r s → Agrees (taken (s ∷ given)) (taking r s .roll)
-    go g (took p a w) = rw p a
-    go g (refused p y) = rw p (subst (λ (o : Outcome). Agrees (taken given) (o .roll)) (sym (y .same)) g)
+    go : Agrees (taken given) r → Next (taken given) r s (taking r s) → (takes (taken given) s ≡ true → Agrees (s ∷ taken given) (taking r s .roll))
+        → Agrees (taken (s ∷ given)) (taking r s .roll)
+    go g (took p w) a = rw p (a p)
+    go g (refused p k j f same) a = rw p (subst (λ (o : Outcome). Agrees (taken given) (o .roll)) (sym same) g)
 
--- THE ANSWER, asked without a section: complete exactly if all numbers from 0 to the last have come since the last fresh start, else the smallest
--- that has not
-pub run-answers : {given : List (List ℕ)} {r : Roll} → Run given r → Answered (taken given) (asked r)
-run-answers x = agrees-answers (run-agrees x)
+pub marks-are : MarksAre Promised
+marks-are given r x = run-agrees x
 
--- and with one more
-pub run-takes : {given : List (List ℕ)} {r : Roll} → Run given r → (s : List ℕ) → Bytes s → Next (taken given) r s
-run-takes x s b = next (run-agrees x) s b
+pub each-fares : EachFares Promised
+each-fares given r x s b o is = subst (Next (taken given) r s) (sym is) (next (marks-are given r x) s b .0)
+
+pub answers-are : AnswersAre Promised PromisedAsked
+answers-are given r x a is = subst (Answered (taken given)) (sym is) (agrees-answers (marks-are given r x))
 
 -- what an answer of those says
 pub complete-all : {come : ℕ → Type 0} {last : ℕ} → Answers come last complete → (n : ℕ) → n ≤ last → come n
@@ -180,6 +145,6 @@ answers-once (least n l p q) (least m k u v) = go (ltb n m) (ltb m n) refl refl
         ap missing same
 
 -- the premises can be met: any sections can be given to an empty roll, one after the other
-pub runs : (r : Roll) → r .begun ≡ false → {given : List (List ℕ)} → AllBytes given → (q : Roll) × Run given q
+pub runs : (r : Roll) → r .begun ≡ false → {given : List (List ℕ)} → AllBytes given → (q : Roll) × Run Promised given q
 runs r e none = (r, start r e)
-runs r e (more s b g) = let x = runs r e g in (taking (x .0) s .roll, step (x .1) s b)
+runs r e (more s b g) = let x = runs r e g in (taking (x .0) s .roll, step (x .1) s b (taking (x .0) s) refl)

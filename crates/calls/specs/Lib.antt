@@ -1,0 +1,4 @@
+-- The statements about whole sequences of the calls for C: the collector's, the roll's, and both turns of sheets.
+pub mod Collects
+pub mod Rolls
+pub mod Sheets

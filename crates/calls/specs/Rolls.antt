@@ -1,0 +1,85 @@
+-- The roll for C: each call of `lohitunga_roll_take` is, in numbers, one of `roll::take`, and so are whole sequences of them.
+use Prim.Native.Nat.{ℕ}
+use mathlib.Core.Path.{_≡_}
+use mathlib.Core.Logic.{_↔_}
+use mathlib.Core.List.{List, [], _∷_, map}
+use Rattle.wire.specs.Bytes.{Bytes}
+use Rattle.roll.specs.Answer.{Says}
+use Rattle.roll.specs.Roll as roll
+use Rattle.roll.specs.Roll.{emptyRoll, asked}
+use Rattle.sequence.specs.Promise as beneath
+use Rattle.sequence.specs.Step.{FirstFor}
+use Rattle.sequence.specs.Sequence as beneath-runs
+use Rattle.sequence.specs.Sequence.{taken, Answered, Next}
+use Rattle.cabinet.specs.Numbers.{bit, isSet}
+use Rattle.cabinet.specs.Roll.{rollIn, rollSays, rollAnswer, Outcome, rolling}
+use Rattle.cabinet.specs.declared.rolls.Roll.{Roll}
+use Rattle.cabinet.specs.declared.rolls.RollAnswer.{RollAnswer}
+
+-- what a roll for C may make of its numbers and a section
+abbrev pub Roller : Type 1
+Roller = Roll → List ℕ → Outcome → Type 0
+
+-- what `lohitunga_roll_take` promises
+abbrev pub Promised : Roller
+Promised r s o = o ≡ rolling r s
+
+-- what `lohitunga_roll_ask` promises
+abbrev pub PromisedAsked : Roll → RollAnswer → Type 0
+PromisedAsked r a = a ≡ rollAnswer (asked (rollIn r))
+
+-- what `lohitunga_roll_empty` promises
+abbrev pub PromisedEmpty : Roll → Type 0
+PromisedEmpty r = r ≡ rollSays emptyRoll
+
+-- the numbers that a call writes for the same roll: 1 for a flag or a mark that is any number but 0
+unfoldable pub settled : Roll → Roll
+settled r = record {
+  begun = bit (isSet (r .begun));
+  «table_id» = r .«table_id»;
+  extension = r .extension;
+  «transport_stream_id» = r .«transport_stream_id»;
+  «original_network_id» = r .«original_network_id»;
+  version = r .version;
+  last = r .last;
+  came = map (λ n. bit (isSet n)) (r .came);
+}
+
+-- a roll in numbers that was empty when these were given to it by calls, the last one first
+pub data Run (take : Roller) : List (List ℕ) → Roll → Type 0 where
+  start : (r : Roll) → r .begun ≡ 0 → Run take [] r
+  step : {given : List (List ℕ)} {r : Roll} → Run take given r → (s : List ℕ) → Bytes s → (o : Outcome) → take r s o → Run take (s ∷ given) (o .roll)
+
+-- a call of `roll::take`, of which this is what is told in numbers
+pub record Beneath (r : Roll) (s : List ℕ) (o : Outcome) : Type 0 where
+  pub under : roll.Outcome
+  pub call : beneath.Promised (rollIn r) s under
+  pub roll-in : rollIn (o .roll) ≡ under .roll
+  pub answer-says : o .answer ≡ rollAnswer (under .says)
+
+module _ (take : Roller) where
+  -- a call is one of `roll::take`
+  abbrev pub CallsBeneath : Type 0
+  CallsBeneath = (r : Roll) (s : List ℕ) (o : Outcome) → take r s o → Beneath r s o
+
+  -- a run from an empty roll is a run of `roll::take` from an empty roll
+  abbrev pub RollsBeneath : Type 0
+  RollsBeneath = (given : List (List ℕ)) (r : Roll) → Run take given r → beneath-runs.Run beneath.Promised given (rollIn r)
+
+  -- "refuses 1 to 10, then 83 .., 82 .., 81 .., itself unchanged", for any numbers: number and place are those of the first refusal
+  abbrev pub RefusesExactlyIf : Type 0
+  RefusesExactlyIf = (r : Roll) (s : List ℕ) (o : Outcome) → take r s o → (k p : ℕ) → (k ≡ 0 → ⊥)
+      → ((o .answer .number ≡ k) × (o .answer .place ≡ p)) ↔ FirstFor (rollIn r) s k p
+
+  -- and every number stays
+  abbrev pub RefusalKeeps : Type 0
+  RefusalKeeps = (r : Roll) (s : List ℕ) (o : Outcome) → take r s o → (k p : ℕ) → FirstFor (rollIn r) s k p → o .roll ≡ r
+
+  -- over whole sequences: each section fares by those taken before it
+  abbrev pub EachFares : Type 0
+  EachFares = (given : List (List ℕ)) (r : Roll) → Run take given r → (s : List ℕ) → Bytes s → (o : Outcome) → take r s o
+      → (x : Says) × (o .answer ≡ rollAnswer x) × Next (taken given) (rollIn r) s (record { roll = rollIn (o .roll); says = x })
+
+  -- and the answer is the smallest number missing, or complete
+  abbrev pub AnswersAre : (Roll → RollAnswer → Type 0) → Type 0
+  AnswersAre ask = (given : List (List ℕ)) (r : Roll) → Run take given r → (a : RollAnswer) → ask r a → (x : Says) × (a ≡ rollAnswer x) × Answered (taken given) x

@@ -1,0 +1,13 @@
+-- That the promise of `roll::take` gives each statement.
+pub mod MarkLaws
+pub mod Ids
+pub mod TableIds
+pub mod HeadLaws
+pub mod SmallestMissing
+pub mod Exactly
+pub mod Steps
+pub mod WholeSequence
+pub mod AboveLast
+pub mod Fixed
+pub mod AtWork
+pub mod Tied
