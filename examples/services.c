@@ -9,7 +9,7 @@
 
 #include "lohitunga.h"
 
-enum { SDT_ACTUAL = 0x42, SERVICE_DESCRIPTOR = 0x48, BEFORE_ENTRIES = 11, ENTRY = 5, CRC_32 = 4 };
+enum { BEFORE_ENTRIES = 11, ENTRY = 5, CRC_32 = 4 };
 
 static unsigned number16(const uint8_t *bytes) { return bytes[0] << 8 | bytes[1]; }
 
@@ -29,21 +29,21 @@ static void print_name(const char *what, const uint8_t *descriptor, lohitunga_pa
 /* The first service descriptor of a service's loop. */
 static void print_service(const uint8_t *loop, size_t size) {
     lohitunga_walk_answer step = lohitunga_walk(loop, size, 0);
-    while (step.descriptor && step.tag != SERVICE_DESCRIPTOR)
+    while (step.descriptor && step.tag != LOHITUNGA_TAG_SERVICE)
         step = lohitunga_walk(loop, size, step.next);
     if (!step.descriptor) {
         printf(" without a service descriptor\n");
         return;
     }
     const uint8_t *descriptor = loop + step.start - 2;
-    lohitunga_service_answer service = lohitunga_service(descriptor, step.size + 2);
-    if (service.number) {
-        printf(" with a service descriptor that is refused: %u\n", service.number);
+    lohitunga_service_answer answer = lohitunga_read_service(descriptor, step.size + 2);
+    if (answer.number) {
+        printf(" with a service descriptor that is refused: %u\n", answer.number);
         return;
     }
-    printf(" type %u", service.service_type);
-    print_name("provider", descriptor, service.service_provider_name);
-    print_name("name", descriptor, service.service_name);
+    printf(" type %u", answer.service.service_type);
+    print_name("provider", descriptor, answer.service.service_provider_name);
+    print_name("name", descriptor, answer.service.service_name);
     putchar('\n');
 }
 
@@ -67,7 +67,7 @@ static int print_section(lohitunga_roll *roll, const uint8_t *section, size_t si
         printf("a section is refused: %u, place %zu\n", verdict.number, verdict.place);
         return 0;
     }
-    if (section[0] != SDT_ACTUAL)
+    if (section[0] != LOHITUNGA_TABLE_SDT_ACTUAL)
         return 0;
     lohitunga_roll before = *roll;
     lohitunga_roll_answer answer = lohitunga_roll_take(roll, section, size);

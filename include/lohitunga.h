@@ -1,7 +1,22 @@
-/* Lohitunga from C: the service information of digital television, EN 300 468.
+/* Lohitunga from C: the service information of digital television, EN 300 468 (V1.16.1).
  *
- * The functions are those of libcabinet.a, for x86-64 Linux (`rt staticlib cabinet`). They use no heap, no global data and no system call, and any
- * number of threads may call them at once, each with what it lends.
+ * It collects sections from transport packets, judges them to the last byte, finds descriptors in them and reads those, turns sections into content
+ * sheets and back, and tells which sections of a table have come. No call trusts a length on the wire. Each call ends, traps never, and reads and writes
+ * nothing but what was lent: this is proved for every input, and so is what each call answers. The functions are for x86-64 Linux; they use no heap, no
+ * global data and no system call, and any number of threads may call them at once, each with what it lends. Of the C library they call memcpy and memset.
+ *
+ * How to begin: how many sections a PID of a stream on standard input has. The compiler's words are those of `pkg-config --cflags --libs lohitunga`.
+ *
+ *     #include <stdio.h>
+ *     #include <lohitunga.h>
+ *     int main(void) {
+ *         static uint8_t hold[LOHITUNGA_HOLD], out[LOHITUNGA_OUT], packet[LOHITUNGA_PACKET];
+ *         lohitunga_record record = lohitunga_fresh(0x11);
+ *         size_t sections = 0;
+ *         while (fread(packet, sizeof packet, 1, stdin) == 1)
+ *             sections += lohitunga_collect(&record, hold, sizeof hold, out, sizeof out, packet, sizeof packet).sections;
+ *         printf("%zu sections of %u bytes\n", sections, record.delivered);
+ *     }
  *
  * What holds for every call
  * - Bytes are lent as a pointer and a length. They may hold anything. The pointer points to as many bytes as the length says; with a length of 0 it
@@ -9,28 +24,9 @@
  * - What is lent by a pointer without `const` overlaps nothing else that is lent to the same call. Bytes lent by `const` pointers may overlap each other.
  * - No call keeps a pointer. No call writes through a `const` pointer.
  * - Every answer of a call that can refuse has the field `number`: 0, or the number of the first refusal that applies, in the order of its table
- *   below. A refusal alters nothing that was lent. Where `number` is not 0 every other field of the answer is 0, but for `place`, and for `next` of the
- *   walk.
+ *   below. A refusal alters nothing that was lent. Where `number` is not 0 every other field of the answer is 0, and of the value that it holds, but for
+ *   `place`, and for `next` of the walk. `lohitunga_text.h` has a sentence for each number.
  * - A place and a `start` are counted from the first byte lent as 0.
- * - Each call ends, traps never, and reads and writes nothing but what was lent. This is proved for every input, and so is what each call answers.
- * - Of the C library they call memcpy and memset.
- *
- * The stack that a call needs at most, in bytes below the caller's stack pointer, its return address included and that of memcpy and memset left out:
- *   lohitunga_roll_take            2,184
- *   lohitunga_to_sheet             1,976
- *   lohitunga_search               1,832
- *   lohitunga_to_section           1,368
- *   lohitunga_judge                1,272
- *   lohitunga_crc32                  664
- *   lohitunga_roll_ask               304
- *   lohitunga_collect                184
- *   lohitunga_satellite              184
- *   lohitunga_terrestrial            184
- *   lohitunga_service_list           136
- *   lohitunga_local_time_offset       96
- *   lohitunga_time                    48
- *   lohitunga_cable                   40
- *   every other                        8
  */
 #ifndef LOHITUNGA_H
 #define LOHITUNGA_H
@@ -41,6 +37,75 @@
 #ifdef __cplusplus
 extern "C" {
 #endif
+
+/* The version of the library, and the number of this interface: it goes up when the layout of a struct or the meaning of a call changes. A program that
+ * was compiled with this header may use an archive or a shared library for which lohitunga_interface() tells the same number. */
+#define LOHITUNGA_VERSION "0.1"
+#define LOHITUNGA_INTERFACE 1
+
+uint32_t lohitunga_interface(void);
+
+/* table_ids. The EIT of a schedule has sixteen each, the first of which stands here. */
+#define LOHITUNGA_TABLE_NIT_ACTUAL 0x40
+#define LOHITUNGA_TABLE_NIT_OTHER 0x41
+#define LOHITUNGA_TABLE_SDT_ACTUAL 0x42
+#define LOHITUNGA_TABLE_SDT_OTHER 0x46
+#define LOHITUNGA_TABLE_BAT 0x4A
+#define LOHITUNGA_TABLE_EIT_ACTUAL 0x4E
+#define LOHITUNGA_TABLE_EIT_OTHER 0x4F
+#define LOHITUNGA_TABLE_EIT_SCHEDULE_ACTUAL 0x50
+#define LOHITUNGA_TABLE_EIT_SCHEDULE_OTHER 0x60
+#define LOHITUNGA_TABLE_TDT 0x70
+#define LOHITUNGA_TABLE_TOT 0x73
+
+/* Tags of the descriptors that are read. */
+#define LOHITUNGA_TAG_NETWORK_NAME 0x40
+#define LOHITUNGA_TAG_SERVICE_LIST 0x41
+#define LOHITUNGA_TAG_STUFFING 0x42
+#define LOHITUNGA_TAG_SATELLITE 0x43
+#define LOHITUNGA_TAG_CABLE 0x44
+#define LOHITUNGA_TAG_SERVICE 0x48
+#define LOHITUNGA_TAG_SHORT_EVENT 0x4D
+#define LOHITUNGA_TAG_CONTENT 0x54
+#define LOHITUNGA_TAG_PARENTAL_RATING 0x55
+#define LOHITUNGA_TAG_LOCAL_TIME_OFFSET 0x58
+#define LOHITUNGA_TAG_TERRESTRIAL 0x5A
+
+/* Refusals: of sections, of sheets, of packets, of descriptors and times, of the roll. When each is given stands at the calls. */
+#define LOHITUNGA_REFUSED_SHORT 1
+#define LOHITUNGA_REFUSED_TABLE_ID 2
+#define LOHITUNGA_REFUSED_SYNTAX_INDICATOR 3
+#define LOHITUNGA_REFUSED_SECTION_LENGTH 4
+#define LOHITUNGA_REFUSED_SECTION_SIZE 5
+#define LOHITUNGA_REFUSED_CRC_32 6
+#define LOHITUNGA_REFUSED_SECTION_NUMBER 7
+#define LOHITUNGA_REFUSED_LOOP 8
+#define LOHITUNGA_REFUSED_DESCRIPTOR 9
+#define LOHITUNGA_REFUSED_LEFT_OVER 10
+#define LOHITUNGA_REFUSED_ROOM 21
+#define LOHITUNGA_REFUSED_SHEET_ENDS 22
+#define LOHITUNGA_REFUSED_SHEET_TABLE_ID 23
+#define LOHITUNGA_REFUSED_SHEET_FIELD 24
+#define LOHITUNGA_REFUSED_SHEET_LEFT_OVER 25
+#define LOHITUNGA_REFUSED_SHEET_LONG 26
+#define LOHITUNGA_REFUSED_PACKET_SIZE 41
+#define LOHITUNGA_REFUSED_BUFFERS 42
+#define LOHITUNGA_REFUSED_RECORD 43
+#define LOHITUNGA_REFUSED_SYNC_BYTE 44
+#define LOHITUNGA_REFUSED_TRANSPORT_ERROR 45
+#define LOHITUNGA_REFUSED_OTHER_PID 46
+#define LOHITUNGA_REFUSED_SCRAMBLED 47
+#define LOHITUNGA_REFUSED_ADAPTATION_FIELD 48
+#define LOHITUNGA_REFUSED_POINTER 49
+#define LOHITUNGA_REFUSED_TAG 61
+#define LOHITUNGA_REFUSED_LAYOUT 62
+#define LOHITUNGA_REFUSED_DIGIT 63
+#define LOHITUNGA_REFUSED_CLOCK 64
+#define LOHITUNGA_REFUSED_MJD 65
+#define LOHITUNGA_REFUSED_INDEX 66
+#define LOHITUNGA_REFUSED_NOT_CURRENT 81
+#define LOHITUNGA_REFUSED_OTHER_SUB_TABLE 82
+#define LOHITUNGA_REFUSED_NO_ROLL 83
 
 /* CRC_32.
  * Polynomial 0x04C11DB7, register preset to ones, high bit first: the register after all bytes. It is 0 after a section that ends in its own CRC_32.
@@ -176,7 +241,7 @@ lohitunga_sheet_answer lohitunga_to_sheet(const uint8_t *section, size_t size, u
 lohitunga_section_answer lohitunga_to_section(const uint8_t *sheet, size_t size, uint8_t *room, size_t room_size);
 
 /* Readings of descriptors.
- * Each takes a whole descriptor, from its tag on.
+ * Each takes a whole descriptor, from its tag on. Its answer holds the descriptor's fields as one struct, or one item of a list.
  *
  * number   given when
  *   61     no byte, or another tag
@@ -200,30 +265,38 @@ typedef struct lohitunga_text_answer {
 } lohitunga_text_answer;
 
 /* 0x40 network name: the name. */
-lohitunga_text_answer lohitunga_network_name(const uint8_t *descriptor, size_t size);
+lohitunga_text_answer lohitunga_read_network_name(const uint8_t *descriptor, size_t size);
 
 /* 0x42 stuffing: the stuffing bytes. */
-lohitunga_text_answer lohitunga_stuffing(const uint8_t *descriptor, size_t size);
+lohitunga_text_answer lohitunga_read_stuffing(const uint8_t *descriptor, size_t size);
 
-typedef struct lohitunga_service_answer {
-    uint32_t number; /* 0, 61, 62 */
+typedef struct lohitunga_service {
     uint8_t service_type;
     lohitunga_part service_provider_name;
     lohitunga_part service_name;
+} lohitunga_service;
+
+typedef struct lohitunga_service_answer {
+    uint32_t number; /* 0, 61, 62 */
+    lohitunga_service service;
 } lohitunga_service_answer;
 
 /* 0x48 service. */
-lohitunga_service_answer lohitunga_service(const uint8_t *descriptor, size_t size);
+lohitunga_service_answer lohitunga_read_service(const uint8_t *descriptor, size_t size);
 
-typedef struct lohitunga_short_event_answer {
-    uint32_t number;        /* 0, 61, 62 */
+typedef struct lohitunga_short_event {
     uint32_t language_code; /* three characters, the first the highest byte */
     lohitunga_part event_name;
     lohitunga_part text;
+} lohitunga_short_event;
+
+typedef struct lohitunga_short_event_answer {
+    uint32_t number; /* 0, 61, 62 */
+    lohitunga_short_event short_event;
 } lohitunga_short_event_answer;
 
 /* 0x4D short event. */
-lohitunga_short_event_answer lohitunga_short_event(const uint8_t *descriptor, size_t size);
+lohitunga_short_event_answer lohitunga_read_short_event(const uint8_t *descriptor, size_t size);
 
 /* How many items a list has. */
 typedef struct lohitunga_count_answer {
@@ -231,58 +304,74 @@ typedef struct lohitunga_count_answer {
     size_t count;
 } lohitunga_count_answer;
 
-typedef struct lohitunga_service_list_answer {
-    uint32_t number; /* 0, 61, 62, 66 */
+typedef struct lohitunga_service_list_item {
     uint16_t service_id;
     uint8_t service_type;
+} lohitunga_service_list_item;
+
+typedef struct lohitunga_service_list_answer {
+    uint32_t number; /* 0, 61, 62, 66 */
+    lohitunga_service_list_item item;
 } lohitunga_service_list_answer;
 
 /* 0x41 service list: how many items, and the item of an index counted from 0. */
 lohitunga_count_answer lohitunga_service_list_count(const uint8_t *descriptor, size_t size);
-lohitunga_service_list_answer lohitunga_service_list(const uint8_t *descriptor, size_t size, size_t index);
+lohitunga_service_list_answer lohitunga_read_service_list(const uint8_t *descriptor, size_t size, size_t index);
 
-typedef struct lohitunga_content_answer {
-    uint32_t number; /* 0, 61, 62, 66 */
+typedef struct lohitunga_content_item {
     uint8_t content_nibble_level_1;
     uint8_t content_nibble_level_2;
     uint8_t user_byte;
+} lohitunga_content_item;
+
+typedef struct lohitunga_content_answer {
+    uint32_t number; /* 0, 61, 62, 66 */
+    lohitunga_content_item item;
 } lohitunga_content_answer;
 
 /* 0x54 content. */
 lohitunga_count_answer lohitunga_content_count(const uint8_t *descriptor, size_t size);
-lohitunga_content_answer lohitunga_content(const uint8_t *descriptor, size_t size, size_t index);
+lohitunga_content_answer lohitunga_read_content(const uint8_t *descriptor, size_t size, size_t index);
 
-typedef struct lohitunga_parental_rating_answer {
-    uint32_t number;       /* 0, 61, 62, 66 */
+typedef struct lohitunga_parental_rating_item {
     uint32_t country_code; /* three characters, the first the highest byte */
     uint8_t rating;
+} lohitunga_parental_rating_item;
+
+typedef struct lohitunga_parental_rating_answer {
+    uint32_t number; /* 0, 61, 62, 66 */
+    lohitunga_parental_rating_item item;
 } lohitunga_parental_rating_answer;
 
 /* 0x55 parental rating. */
 lohitunga_count_answer lohitunga_parental_rating_count(const uint8_t *descriptor, size_t size);
-lohitunga_parental_rating_answer lohitunga_parental_rating(const uint8_t *descriptor, size_t size, size_t index);
+lohitunga_parental_rating_answer lohitunga_read_parental_rating(const uint8_t *descriptor, size_t size, size_t index);
 
 /* A time that was read. */
 typedef struct lohitunga_moment {
-    uint16_t mjd; /* the day: lohitunga_date gives its date */
+    uint16_t mjd; /* the day: lohitunga_read_date gives its date */
     uint8_t hour;
     uint8_t minute;
     uint8_t second;
     uint8_t undefined; /* 1 for forty ones, and then the other fields are 0; else 0 */
 } lohitunga_moment;
 
-typedef struct lohitunga_local_time_offset_answer {
-    uint32_t number;       /* 0, 61 to 66 */
+typedef struct lohitunga_local_time_offset_item {
     uint32_t country_code; /* three characters, the first the highest byte */
     uint8_t country_region_id;
     int16_t local_time_offset; /* in minutes, below zero behind UTC */
     lohitunga_moment time_of_change;
     int16_t next_time_offset; /* in minutes, below zero behind UTC */
+} lohitunga_local_time_offset_item;
+
+typedef struct lohitunga_local_time_offset_answer {
+    uint32_t number; /* 0, 61 to 66 */
+    lohitunga_local_time_offset_item item;
 } lohitunga_local_time_offset_answer;
 
 /* 0x58 local time offset. */
 lohitunga_count_answer lohitunga_local_time_offset_count(const uint8_t *descriptor, size_t size);
-lohitunga_local_time_offset_answer lohitunga_local_time_offset(const uint8_t *descriptor, size_t size, size_t index);
+lohitunga_local_time_offset_answer lohitunga_read_local_time_offset(const uint8_t *descriptor, size_t size, size_t index);
 
 /* Frequencies count steps of 10 kHz, 100 Hz and 10 Hz. Each is a type of its own, so that none is taken for another. */
 typedef struct lohitunga_satellite_frequency {
@@ -301,8 +390,7 @@ uint64_t lohitunga_satellite_hertz(lohitunga_satellite_frequency frequency);
 uint64_t lohitunga_cable_hertz(lohitunga_cable_frequency frequency);
 uint64_t lohitunga_terrestrial_hertz(lohitunga_terrestrial_frequency frequency);
 
-typedef struct lohitunga_satellite_answer {
-    uint32_t number; /* 0, 61 to 63 */
+typedef struct lohitunga_satellite {
     lohitunga_satellite_frequency frequency;
     uint32_t orbital_position; /* in tenths of a degree */
     uint32_t symbol_rate;      /* in steps of 100 symbols a second */
@@ -312,25 +400,33 @@ typedef struct lohitunga_satellite_answer {
     uint8_t roll_off;          /* of DVB-S2; 0 with DVB-S, which has none */
     uint8_t modulation_type;
     uint8_t fec_inner;
+} lohitunga_satellite;
+
+typedef struct lohitunga_satellite_answer {
+    uint32_t number; /* 0, 61 to 63 */
+    lohitunga_satellite satellite;
 } lohitunga_satellite_answer;
 
 /* 0x43 satellite delivery system. */
-lohitunga_satellite_answer lohitunga_satellite(const uint8_t *descriptor, size_t size);
+lohitunga_satellite_answer lohitunga_read_satellite(const uint8_t *descriptor, size_t size);
 
-typedef struct lohitunga_cable_answer {
-    uint32_t number; /* 0, 61 to 63 */
+typedef struct lohitunga_cable {
     lohitunga_cable_frequency frequency;
     uint32_t symbol_rate; /* in steps of 100 symbols a second */
     uint8_t fec_outer;
     uint8_t modulation;
     uint8_t fec_inner;
+} lohitunga_cable;
+
+typedef struct lohitunga_cable_answer {
+    uint32_t number; /* 0, 61 to 63 */
+    lohitunga_cable cable;
 } lohitunga_cable_answer;
 
 /* 0x44 cable delivery system. */
-lohitunga_cable_answer lohitunga_cable(const uint8_t *descriptor, size_t size);
+lohitunga_cable_answer lohitunga_read_cable(const uint8_t *descriptor, size_t size);
 
-typedef struct lohitunga_terrestrial_answer {
-    uint32_t number; /* 0, 61, 62 */
+typedef struct lohitunga_terrestrial {
     lohitunga_terrestrial_frequency centre_frequency;
     uint8_t bandwidth;
     uint8_t priority;               /* 0 or 1 */
@@ -343,10 +439,15 @@ typedef struct lohitunga_terrestrial_answer {
     uint8_t guard_interval;
     uint8_t transmission_mode;
     uint8_t other_frequency_flag; /* 0 or 1 */
+} lohitunga_terrestrial;
+
+typedef struct lohitunga_terrestrial_answer {
+    uint32_t number; /* 0, 61, 62 */
+    lohitunga_terrestrial terrestrial;
 } lohitunga_terrestrial_answer;
 
 /* 0x5A terrestrial delivery system. */
-lohitunga_terrestrial_answer lohitunga_terrestrial(const uint8_t *descriptor, size_t size);
+lohitunga_terrestrial_answer lohitunga_read_terrestrial(const uint8_t *descriptor, size_t size);
 
 /* Times.
  * Hour, minute and second are given as they are broadcast: two BCD digits in a byte.
@@ -358,16 +459,20 @@ typedef struct lohitunga_time_answer {
 } lohitunga_time_answer;
 
 /* An MJD of 16 bits and six digits. Forty ones are the undefined time. */
-lohitunga_time_answer lohitunga_time(uint16_t mjd, uint8_t hour, uint8_t minute, uint8_t second);
+lohitunga_time_answer lohitunga_read_time(uint16_t mjd, uint8_t hour, uint8_t minute, uint8_t second);
+
+typedef struct lohitunga_duration {
+    uint8_t hour; /* 0 to 99 */
+    uint8_t minute;
+    uint8_t second;
+} lohitunga_duration;
 
 typedef struct lohitunga_duration_answer {
     uint32_t number; /* 0, 63, 64 */
-    uint8_t hour;    /* 0 to 99 */
-    uint8_t minute;
-    uint8_t second;
+    lohitunga_duration duration;
 } lohitunga_duration_answer;
 
-lohitunga_duration_answer lohitunga_duration(uint8_t hour, uint8_t minute, uint8_t second);
+lohitunga_duration_answer lohitunga_read_duration(uint8_t hour, uint8_t minute, uint8_t second);
 
 typedef struct lohitunga_offset_answer {
     uint32_t number; /* 0, 63, 64 */
@@ -375,17 +480,21 @@ typedef struct lohitunga_offset_answer {
 } lohitunga_offset_answer;
 
 /* `behind` is the polarity: 0 ahead of UTC, any other number behind it. */
-lohitunga_offset_answer lohitunga_offset(uint8_t behind, uint8_t hour, uint8_t minute);
+lohitunga_offset_answer lohitunga_read_offset(uint8_t behind, uint8_t hour, uint8_t minute);
 
-typedef struct lohitunga_date_answer {
-    uint32_t number; /* 0, 65 */
+typedef struct lohitunga_date {
     uint16_t year;
     uint8_t month; /* from 1, January */
     uint8_t day;
+} lohitunga_date;
+
+typedef struct lohitunga_date_answer {
+    uint32_t number; /* 0, 65 */
+    lohitunga_date date;
 } lohitunga_date_answer;
 
 /* The Gregorian date of an MJD. */
-lohitunga_date_answer lohitunga_date(uint16_t mjd);
+lohitunga_date_answer lohitunga_read_date(uint16_t mjd);
 
 /* The roll: which sections of a sub-table have come.
  *
@@ -425,5 +534,25 @@ lohitunga_roll_answer lohitunga_roll_take(lohitunga_roll *roll, const uint8_t *s
 #ifdef __cplusplus
 }
 #endif
+
+/* The stack that a call needs at most, in bytes below the caller's stack pointer, its return address included and that of memcpy and memset left out:
+ *   lohitunga_roll_take            2,184
+ *   lohitunga_to_sheet             1,976
+ *   lohitunga_search               1,832
+ *   lohitunga_to_section           1,368
+ *   lohitunga_judge                1,272
+ *   lohitunga_crc32                  664
+ *   lohitunga_roll_ask               304
+ *   lohitunga_collect                184
+ *   lohitunga_read_satellite         184
+ *   lohitunga_read_terrestrial       184
+ *   lohitunga_read_date              136
+ *   lohitunga_read_parental_rating   136
+ *   lohitunga_read_service_list      136
+ *   lohitunga_read_local_time_offset  96
+ *   lohitunga_read_time               48
+ *   lohitunga_read_cable              40
+ *   every other                        8
+ */
 
 #endif

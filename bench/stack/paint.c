@@ -56,28 +56,29 @@ static volatile uint8_t taken[512];
     CALL(lohitunga_judge, lohitunga_judge_answer, (bytes, size)) \
     CALL(lohitunga_search, lohitunga_search_answer, (bytes, size, number)) \
     CALL(lohitunga_walk, lohitunga_walk_answer, (bytes, size, number)) \
-    CALL(lohitunga_network_name, lohitunga_text_answer, (bytes, size)) \
-    CALL(lohitunga_stuffing, lohitunga_text_answer, (bytes, size)) \
-    CALL(lohitunga_service, lohitunga_service_answer, (bytes, size)) \
-    CALL(lohitunga_short_event, lohitunga_short_event_answer, (bytes, size)) \
+    CALL(lohitunga_read_network_name, lohitunga_text_answer, (bytes, size)) \
+    CALL(lohitunga_read_stuffing, lohitunga_text_answer, (bytes, size)) \
+    CALL(lohitunga_read_service, lohitunga_service_answer, (bytes, size)) \
+    CALL(lohitunga_read_short_event, lohitunga_short_event_answer, (bytes, size)) \
     CALL(lohitunga_service_list_count, lohitunga_count_answer, (bytes, size)) \
-    CALL(lohitunga_service_list, lohitunga_service_list_answer, (bytes, size, number)) \
+    CALL(lohitunga_read_service_list, lohitunga_service_list_answer, (bytes, size, number)) \
     CALL(lohitunga_content_count, lohitunga_count_answer, (bytes, size)) \
-    CALL(lohitunga_content, lohitunga_content_answer, (bytes, size, number)) \
+    CALL(lohitunga_read_content, lohitunga_content_answer, (bytes, size, number)) \
     CALL(lohitunga_parental_rating_count, lohitunga_count_answer, (bytes, size)) \
-    CALL(lohitunga_parental_rating, lohitunga_parental_rating_answer, (bytes, size, number)) \
+    CALL(lohitunga_read_parental_rating, lohitunga_parental_rating_answer, (bytes, size, number)) \
     CALL(lohitunga_local_time_offset_count, lohitunga_count_answer, (bytes, size)) \
-    CALL(lohitunga_local_time_offset, lohitunga_local_time_offset_answer, (bytes, size, number)) \
-    CALL(lohitunga_satellite, lohitunga_satellite_answer, (bytes, size)) \
-    CALL(lohitunga_cable, lohitunga_cable_answer, (bytes, size)) \
-    CALL(lohitunga_terrestrial, lohitunga_terrestrial_answer, (bytes, size)) \
+    CALL(lohitunga_read_local_time_offset, lohitunga_local_time_offset_answer, (bytes, size, number)) \
+    CALL(lohitunga_read_satellite, lohitunga_satellite_answer, (bytes, size)) \
+    CALL(lohitunga_read_cable, lohitunga_cable_answer, (bytes, size)) \
+    CALL(lohitunga_read_terrestrial, lohitunga_terrestrial_answer, (bytes, size)) \
     CALL(lohitunga_satellite_hertz, uint64_t, ((lohitunga_satellite_frequency){number})) \
     CALL(lohitunga_cable_hertz, uint64_t, ((lohitunga_cable_frequency){number})) \
     CALL(lohitunga_terrestrial_hertz, uint64_t, ((lohitunga_terrestrial_frequency){number})) \
-    CALL(lohitunga_time, lohitunga_time_answer, (number, number >> 16, number >> 24, number >> 32)) \
-    CALL(lohitunga_duration, lohitunga_duration_answer, (number, number >> 8, number >> 16)) \
-    CALL(lohitunga_offset, lohitunga_offset_answer, (number >> 16 & 1, number, number >> 8)) \
-    CALL(lohitunga_date, lohitunga_date_answer, (number)) \
+    CALL(lohitunga_interface, uint32_t, ()) \
+    CALL(lohitunga_read_time, lohitunga_time_answer, (number, number >> 16, number >> 24, number >> 32)) \
+    CALL(lohitunga_read_duration, lohitunga_duration_answer, (number, number >> 8, number >> 16)) \
+    CALL(lohitunga_read_offset, lohitunga_offset_answer, (number >> 16 & 1, number, number >> 8)) \
+    CALL(lohitunga_read_date, lohitunga_date_answer, (number)) \
     CALL(lohitunga_roll_empty, lohitunga_roll, ()) \
     CALL(lohitunga_roll_ask, lohitunga_roll_answer, (&roll)) \
     CALL(lohitunga_roll_take, lohitunga_roll_answer, (&roll, bytes, size)) \
@@ -156,7 +157,7 @@ static void descriptor(const uint8_t *from, size_t n) {
             turned[2 + chance(n - 2)] = chance(256);
         lend(turned, k == 1 ? n - 1 : n);
         number = k == 2 ? 9 : 0;
-        for (int i = call_lohitunga_walk; i <= call_lohitunga_terrestrial; i++)
+        for (int i = call_lohitunga_walk; i <= call_lohitunga_read_terrestrial; i++)
             measure(i);
     }
 }
@@ -168,7 +169,7 @@ static void numbers(void) {
             number = (number & 0x5555555555555555) | 0xC0000;
         if (k == 1)
             number = 0xFFFFFFFFFF;
-        for (int i = call_lohitunga_satellite_hertz; i <= call_lohitunga_date; i++)
+        for (int i = call_lohitunga_satellite_hertz; i <= call_lohitunga_read_date; i++)
             measure(i);
         measure(call_lohitunga_fresh);
     }

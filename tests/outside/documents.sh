@@ -2,11 +2,13 @@
 # What the documents show is what the library says: the sheets and sections of docs/SHEETS.md, each turned into the other.
 set -eu
 cd "$(dirname "$0")/../.."
-before=$(tests/outside/second/build)
-out=target/second
-gcc=gcc static=
-[ "$(uname -m)" = x86_64 ] || { gcc=x86_64-linux-gnu-gcc static=-static; }
-$gcc -std=c11 -O2 -Wall -Wextra -Werror -Iinclude $static tests/outside/documents/turn.c target/staticlib/libcabinet.a -o "$out/turn"
+. tools/x86-64
+archive cabinet
+compiler
+emulator
+out=target/documents
+mkdir -p "$out"
+$cc -std=c11 -O2 -Wall -Wextra -Werror -Iinclude $static tests/outside/documents/turn.c target/staticlib/libcabinet.a -o "$out/turn"
 grep -E '^(sheet|section) ' docs/SHEETS.md | tr -s ' ' >"$out/shown"
 sheets=$(grep -c '^sheet ' "$out/shown")
 [ "$sheets" -ge 6 ] || { echo "documents: docs/SHEETS.md shows $sheets sheets"; exit 1; }

@@ -3,12 +3,15 @@ use Prim.Native.Nat.{ℕ}
 use Rattle.wire.specs.Reading.{Reading, value, refused}
 use Rattle.delivery.specs.declared.satellite.System.{System}
 use Rattle.delivery.specs.declared.satellite.System.the-variants.{S, S2}
-use Rattle.delivery.specs.declared.satellite.Satellite.{Satellite}
-use Rattle.delivery.specs.declared.cable.Cable.{Cable}
-use Rattle.delivery.specs.declared.terrestrial.Terrestrial.{Terrestrial}
+use Rattle.delivery.specs.declared.satellite.Satellite as satellite
+use Rattle.delivery.specs.declared.cable.Cable as cable
+use Rattle.delivery.specs.declared.terrestrial.Terrestrial as terrestrial
 use Rattle.cabinet.specs.Numbers.{bit}
+use Rattle.cabinet.specs.declared.delivery_readings.Satellite.{Satellite}
 use Rattle.cabinet.specs.declared.delivery_readings.SatelliteAnswer.{SatelliteAnswer}
+use Rattle.cabinet.specs.declared.delivery_readings.Cable.{Cable}
 use Rattle.cabinet.specs.declared.delivery_readings.CableAnswer.{CableAnswer}
+use Rattle.cabinet.specs.declared.delivery_readings.Terrestrial.{Terrestrial}
 use Rattle.cabinet.specs.declared.delivery_readings.TerrestrialAnswer.{TerrestrialAnswer}
 
 -- modulation_system as it is broadcast
@@ -22,9 +25,8 @@ rollOff S = 0
 rollOff (S2 off) = off
 
 -- the fields of a satellite delivery system
-abbrev pub satelliteIs : Satellite → SatelliteAnswer
-satelliteIs f = record {
-  number = 0;
+abbrev pub satelliteSays : satellite.Satellite → Satellite
+satelliteSays f = record {
   frequency = record { steps = f .frequency .0 };
   «orbital_position» = f .«orbital_position»;
   «symbol_rate» = f .«symbol_rate»;
@@ -36,11 +38,9 @@ satelliteIs f = record {
   «fec_inner» = f .«fec_inner»;
 }
 
--- those fields, or the refusal's number and zeros
-abbrev pub satelliteSays : Reading Satellite → SatelliteAnswer
-satelliteSays (value f) = satelliteIs f
-satelliteSays (refused k) = record {
-  number = k;
+-- zeros, where there is none
+abbrev pub noSatellite : Satellite
+noSatellite = record {
   frequency = record { steps = 0 };
   «orbital_position» = 0;
   «symbol_rate» = 0;
@@ -52,22 +52,33 @@ satelliteSays (refused k) = record {
   «fec_inner» = 0;
 }
 
--- the fields of a cable delivery system, or the refusal's number and zeros
-abbrev pub cableSays : Reading Cable → CableAnswer
-cableSays (value f) = record {
-  number = 0;
+-- the satellite delivery system, or the refusal
+abbrev pub satelliteAnswer : Reading satellite.Satellite → SatelliteAnswer
+satelliteAnswer (value f) = record { number = 0; satellite = satelliteSays f }
+satelliteAnswer (refused k) = record { number = k; satellite = noSatellite }
+
+-- the fields of a cable delivery system
+abbrev pub cableSays : cable.Cable → Cable
+cableSays f = record {
   frequency = record { steps = f .frequency .0 };
   «symbol_rate» = f .«symbol_rate»;
   «fec_outer» = f .«fec_outer»;
   modulation = f .modulation;
   «fec_inner» = f .«fec_inner»;
 }
-cableSays (refused k) = record { number = k; frequency = record { steps = 0 }; «symbol_rate» = 0; «fec_outer» = 0; modulation = 0; «fec_inner» = 0 }
+
+-- zeros, where there is none
+abbrev pub noCable : Cable
+noCable = record { frequency = record { steps = 0 }; «symbol_rate» = 0; «fec_outer» = 0; modulation = 0; «fec_inner» = 0 }
+
+-- the cable delivery system, or the refusal
+abbrev pub cableAnswer : Reading cable.Cable → CableAnswer
+cableAnswer (value f) = record { number = 0; cable = cableSays f }
+cableAnswer (refused k) = record { number = k; cable = noCable }
 
 -- the fields of a terrestrial delivery system
-abbrev pub terrestrialIs : Terrestrial → TerrestrialAnswer
-terrestrialIs f = record {
-  number = 0;
+abbrev pub terrestrialSays : terrestrial.Terrestrial → Terrestrial
+terrestrialSays f = record {
   «centre_frequency» = record { steps = f .«centre_frequency» .0 };
   bandwidth = f .bandwidth;
   priority = bit (f .priority);
@@ -82,11 +93,9 @@ terrestrialIs f = record {
   «other_frequency_flag» = bit (f .«other_frequency_flag»);
 }
 
--- those fields, or the refusal's number and zeros
-abbrev pub terrestrialSays : Reading Terrestrial → TerrestrialAnswer
-terrestrialSays (value f) = terrestrialIs f
-terrestrialSays (refused k) = record {
-  number = k;
+-- zeros, where there is none
+abbrev pub noTerrestrial : Terrestrial
+noTerrestrial = record {
   «centre_frequency» = record { steps = 0 };
   bandwidth = 0;
   priority = 0;
@@ -100,3 +109,8 @@ terrestrialSays (refused k) = record {
   «transmission_mode» = 0;
   «other_frequency_flag» = 0;
 }
+
+-- the terrestrial delivery system, or the refusal
+abbrev pub terrestrialAnswer : Reading terrestrial.Terrestrial → TerrestrialAnswer
+terrestrialAnswer (value f) = record { number = 0; terrestrial = terrestrialSays f }
+terrestrialAnswer (refused k) = record { number = k; terrestrial = noTerrestrial }

@@ -4,7 +4,7 @@ ghost use Prim.Native.Nat.{_*_};
 ghost use Rattle.delivery.specs.Satellite.{satellite};
 ghost use Rattle.delivery.specs.Cable.{cable};
 ghost use Rattle.delivery.specs.Terrestrial.{terrestrial};
-ghost use Rattle.cabinet.specs.Delivery.{systemBit, rollOff, satelliteIs, satelliteSays, cableSays, terrestrialIs, terrestrialSays};
+ghost use Rattle.cabinet.specs.Delivery.{systemBit, rollOff, satelliteSays, noSatellite, satelliteAnswer, cableSays, noCable, cableAnswer, terrestrialSays, noTerrestrial, terrestrialAnswer};
 use crate::numbers::of_flag;
 use crate::numbers::of_refusal;
 use delivery::cable;
@@ -30,8 +30,7 @@ pub struct TerrestrialFrequency {
 }
 
 #[repr(C)]
-pub struct SatelliteAnswer {
-    pub number: u32,
+pub struct Satellite {
     pub frequency: SatelliteFrequency,
     // In tenths of a degree.
     pub orbital_position: u32,
@@ -49,8 +48,13 @@ pub struct SatelliteAnswer {
 }
 
 #[repr(C)]
-pub struct CableAnswer {
+pub struct SatelliteAnswer {
     pub number: u32,
+    pub satellite: Satellite,
+}
+
+#[repr(C)]
+pub struct Cable {
     pub frequency: CableFrequency,
     // In steps of 100 symbols a second.
     pub symbol_rate: u32,
@@ -60,8 +64,13 @@ pub struct CableAnswer {
 }
 
 #[repr(C)]
-pub struct TerrestrialAnswer {
+pub struct CableAnswer {
     pub number: u32,
+    pub cable: Cable,
+}
+
+#[repr(C)]
+pub struct Terrestrial {
     pub centre_frequency: TerrestrialFrequency,
     pub bandwidth: u8,
     pub priority: u8,
@@ -74,6 +83,12 @@ pub struct TerrestrialAnswer {
     pub guard_interval: u8,
     pub transmission_mode: u8,
     pub other_frequency_flag: u8,
+}
+
+#[repr(C)]
+pub struct TerrestrialAnswer {
+    pub number: u32,
+    pub terrestrial: Terrestrial,
 }
 
 #[no_mangle]
@@ -115,13 +130,12 @@ fn roll_off(system: satellite::System) -> u8
     }
 }
 
-fn satellite_is(read: satellite::Satellite) -> SatelliteAnswer
-    ensures { λ r. ⌜ r ≡ satelliteIs read ⌝ }
+fn satellite_of(read: satellite::Satellite) -> Satellite
+    ensures { λ r. ⌜ r ≡ satelliteSays read ⌝ }
 {
     let frequency = read.frequency;
     let system = read.modulation_system;
-    SatelliteAnswer {
-        number: 0,
+    Satellite {
         frequency: SatelliteFrequency { steps: frequency.0 },
         orbital_position: read.orbital_position,
         symbol_rate: read.symbol_rate,
@@ -134,60 +148,84 @@ fn satellite_is(read: satellite::Satellite) -> SatelliteAnswer
     }
 }
 
+fn no_satellite() -> Satellite
+    ensures { λ r. ⌜ r ≡ noSatellite ⌝ }
+{
+    Satellite {
+        frequency: SatelliteFrequency { steps: 0 },
+        orbital_position: 0,
+        symbol_rate: 0,
+        west_east_flag: 0,
+        polarization: 0,
+        modulation_system: 0,
+        roll_off: 0,
+        modulation_type: 0,
+        fec_inner: 0,
+    }
+}
+
 #[no_mangle]
-pub extern "C" fn lohitunga_satellite(descriptor: &[u8]) -> SatelliteAnswer
-    ensures { λ r. ⌜ r ≡ satelliteSays (satellite (now (descriptor .entry))) ⌝ }
+pub extern "C" fn lohitunga_read_satellite(descriptor: &[u8]) -> SatelliteAnswer
+    ensures { λ r. ⌜ r ≡ satelliteAnswer (satellite (now (descriptor .entry))) ⌝ }
 {
     match satellite::read(descriptor) {
-        satellite::Answer::Is(read) => satellite_is(read),
+        satellite::Answer::Is(read) => SatelliteAnswer {
+            number: 0,
+            satellite: satellite_of(read),
+        },
         satellite::Answer::Refused(why) => SatelliteAnswer {
             number: of_refusal(why),
-            frequency: SatelliteFrequency { steps: 0 },
-            orbital_position: 0,
-            symbol_rate: 0,
-            west_east_flag: 0,
-            polarization: 0,
-            modulation_system: 0,
-            roll_off: 0,
-            modulation_type: 0,
-            fec_inner: 0,
+            satellite: no_satellite(),
         },
+    }
+}
+
+fn cable_of(read: cable::Cable) -> Cable
+    ensures { λ r. ⌜ r ≡ cableSays read ⌝ }
+{
+    let frequency = read.frequency;
+    Cable {
+        frequency: CableFrequency { steps: frequency.0 },
+        symbol_rate: read.symbol_rate,
+        fec_outer: read.fec_outer,
+        modulation: read.modulation,
+        fec_inner: read.fec_inner,
+    }
+}
+
+fn no_cable() -> Cable
+    ensures { λ r. ⌜ r ≡ noCable ⌝ }
+{
+    Cable {
+        frequency: CableFrequency { steps: 0 },
+        symbol_rate: 0,
+        fec_outer: 0,
+        modulation: 0,
+        fec_inner: 0,
     }
 }
 
 #[no_mangle]
-pub extern "C" fn lohitunga_cable(descriptor: &[u8]) -> CableAnswer
-    ensures { λ r. ⌜ r ≡ cableSays (cable (now (descriptor .entry))) ⌝ }
+pub extern "C" fn lohitunga_read_cable(descriptor: &[u8]) -> CableAnswer
+    ensures { λ r. ⌜ r ≡ cableAnswer (cable (now (descriptor .entry))) ⌝ }
 {
     match cable::read(descriptor) {
-        cable::Answer::Is(read) => {
-            let frequency = read.frequency;
-            CableAnswer {
-                number: 0,
-                frequency: CableFrequency { steps: frequency.0 },
-                symbol_rate: read.symbol_rate,
-                fec_outer: read.fec_outer,
-                modulation: read.modulation,
-                fec_inner: read.fec_inner,
-            }
-        }
+        cable::Answer::Is(read) => CableAnswer {
+            number: 0,
+            cable: cable_of(read),
+        },
         cable::Answer::Refused(why) => CableAnswer {
             number: of_refusal(why),
-            frequency: CableFrequency { steps: 0 },
-            symbol_rate: 0,
-            fec_outer: 0,
-            modulation: 0,
-            fec_inner: 0,
+            cable: no_cable(),
         },
     }
 }
 
-fn terrestrial_is(read: terrestrial::Terrestrial) -> TerrestrialAnswer
-    ensures { λ r. ⌜ r ≡ terrestrialIs read ⌝ }
+fn terrestrial_of(read: terrestrial::Terrestrial) -> Terrestrial
+    ensures { λ r. ⌜ r ≡ terrestrialSays read ⌝ }
 {
     let frequency = read.centre_frequency;
-    TerrestrialAnswer {
-        number: 0,
+    Terrestrial {
         centre_frequency: TerrestrialFrequency { steps: frequency.0 },
         bandwidth: read.bandwidth,
         priority: of_flag(read.priority),
@@ -203,26 +241,37 @@ fn terrestrial_is(read: terrestrial::Terrestrial) -> TerrestrialAnswer
     }
 }
 
+fn no_terrestrial() -> Terrestrial
+    ensures { λ r. ⌜ r ≡ noTerrestrial ⌝ }
+{
+    Terrestrial {
+        centre_frequency: TerrestrialFrequency { steps: 0 },
+        bandwidth: 0,
+        priority: 0,
+        time_slicing_indicator: 0,
+        mpe_fec_indicator: 0,
+        constellation: 0,
+        hierarchy_information: 0,
+        code_rate_hp_stream: 0,
+        code_rate_lp_stream: 0,
+        guard_interval: 0,
+        transmission_mode: 0,
+        other_frequency_flag: 0,
+    }
+}
+
 #[no_mangle]
-pub extern "C" fn lohitunga_terrestrial(descriptor: &[u8]) -> TerrestrialAnswer
-    ensures { λ r. ⌜ r ≡ terrestrialSays (terrestrial (now (descriptor .entry))) ⌝ }
+pub extern "C" fn lohitunga_read_terrestrial(descriptor: &[u8]) -> TerrestrialAnswer
+    ensures { λ r. ⌜ r ≡ terrestrialAnswer (terrestrial (now (descriptor .entry))) ⌝ }
 {
     match terrestrial::read(descriptor) {
-        terrestrial::Answer::Is(read) => terrestrial_is(read),
+        terrestrial::Answer::Is(read) => TerrestrialAnswer {
+            number: 0,
+            terrestrial: terrestrial_of(read),
+        },
         terrestrial::Answer::Refused(why) => TerrestrialAnswer {
             number: of_refusal(why),
-            centre_frequency: TerrestrialFrequency { steps: 0 },
-            bandwidth: 0,
-            priority: 0,
-            time_slicing_indicator: 0,
-            mpe_fec_indicator: 0,
-            constellation: 0,
-            hierarchy_information: 0,
-            code_rate_hp_stream: 0,
-            code_rate_lp_stream: 0,
-            guard_interval: 0,
-            transmission_mode: 0,
-            other_frequency_flag: 0,
+            terrestrial: no_terrestrial(),
         },
     }
 }

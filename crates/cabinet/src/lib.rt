@@ -3,6 +3,7 @@
 pub mod collect;
 pub mod crc32;
 pub mod delivery_readings;
+pub mod interface;
 pub mod judge;
 pub mod list_readings;
 mod moments;

@@ -45,11 +45,11 @@ int write_sections(uint64_t seed, uint64_t count, const char *name)
         return 2;
     fputs("sections", file);
     for (unsigned mjd = 0; mjd < 65536; mjd++) {
-        lohitunga_date_answer a = lohitunga_date((uint16_t)mjd);
+        lohitunga_date_answer a = lohitunga_read_date((uint16_t)mjd);
         put(a.number, 1);
-        put(a.year, 2);
-        put(a.month, 1);
-        put(a.day, 1);
+        put(a.date.year, 2);
+        put(a.date.month, 1);
+        put(a.date.day, 1);
     }
     for (uint64_t i = 0; i < count; i++) {
         struct dice d = dice_of(seed, 100, i);
@@ -99,16 +99,16 @@ static void say_letters(const char *name, uint32_t letters)
 /* The MJD, for what is known of other parsers' calendars; then the date and the clock. */
 static void say_moment(const char *name, lohitunga_moment m)
 {
-    lohitunga_date_answer a = lohitunga_date(m.mjd);
+    lohitunga_date_answer a = lohitunga_read_date(m.mjd);
     if (m.undefined)
         fprintf(file, "%s undefined\n", name);
     else
-        fprintf(file, "%s %u %04u-%02u-%02u %02u:%02u:%02u\n", name, m.mjd, a.year, a.month, a.day, m.hour, m.minute, m.second);
+        fprintf(file, "%s %u %04u-%02u-%02u %02u:%02u:%02u\n", name, m.mjd, a.date.year, a.date.month, a.date.day, m.hour, m.minute, m.second);
 }
 
 static int say_time(const char *name, const uint8_t *b)
 {
-    lohitunga_time_answer a = lohitunga_time((uint16_t)(b[0] * 256 + b[1]), b[2], b[3], b[4]);
+    lohitunga_time_answer a = lohitunga_read_time((uint16_t)(b[0] * 256 + b[1]), b[2], b[3], b[4]);
     if (a.number == 0)
         say_moment(name, a.time);
     return a.number == 0;
@@ -116,59 +116,62 @@ static int say_time(const char *name, const uint8_t *b)
 
 static int say_satellite(const uint8_t *b, size_t n)
 {
-    lohitunga_satellite_answer a = lohitunga_satellite(b, n);
+    lohitunga_satellite_answer a = lohitunga_read_satellite(b, n);
+    lohitunga_satellite f = a.satellite;
     if (a.number)
         return 0;
-    say("mpeg_descr.sat_delivery.freq", a.frequency.steps);
-    say("mpeg_descr.sat_delivery.orbital_pos", a.orbital_position);
-    say("mpeg_descr.sat_delivery.west_east_flag", a.west_east_flag);
-    say("mpeg_descr.sat_delivery.polarization", a.polarization);
-    if (a.modulation_system == 1)
-        say("mpeg_descr.sat_delivery.roll_off", a.roll_off);
-    say("mpeg_descr.sat_delivery.modulation_system", a.modulation_system);
-    say("mpeg_descr.sat_delivery.modulation_type", a.modulation_type);
-    say("mpeg_descr.sat_delivery.symbol_rate", a.symbol_rate);
-    say("mpeg_descr.sat_delivery.fec_inner", a.fec_inner);
+    say("mpeg_descr.sat_delivery.freq", f.frequency.steps);
+    say("mpeg_descr.sat_delivery.orbital_pos", f.orbital_position);
+    say("mpeg_descr.sat_delivery.west_east_flag", f.west_east_flag);
+    say("mpeg_descr.sat_delivery.polarization", f.polarization);
+    if (f.modulation_system == 1)
+        say("mpeg_descr.sat_delivery.roll_off", f.roll_off);
+    say("mpeg_descr.sat_delivery.modulation_system", f.modulation_system);
+    say("mpeg_descr.sat_delivery.modulation_type", f.modulation_type);
+    say("mpeg_descr.sat_delivery.symbol_rate", f.symbol_rate);
+    say("mpeg_descr.sat_delivery.fec_inner", f.fec_inner);
     return 1;
 }
 
 static int say_cable(const uint8_t *b, size_t n)
 {
-    lohitunga_cable_answer a = lohitunga_cable(b, n);
+    lohitunga_cable_answer a = lohitunga_read_cable(b, n);
+    lohitunga_cable f = a.cable;
     if (a.number)
         return 0;
-    say("mpeg_descr.cable_delivery.freq", a.frequency.steps);
-    say("mpeg_descr.cable_delivery.fec_outer", a.fec_outer);
-    say("mpeg_descr.cable_delivery.modulation", a.modulation);
-    say("mpeg_descr.cable_delivery.sym_rate", a.symbol_rate);
-    say("mpeg_descr.cable_delivery.fec_inner", a.fec_inner);
+    say("mpeg_descr.cable_delivery.freq", f.frequency.steps);
+    say("mpeg_descr.cable_delivery.fec_outer", f.fec_outer);
+    say("mpeg_descr.cable_delivery.modulation", f.modulation);
+    say("mpeg_descr.cable_delivery.sym_rate", f.symbol_rate);
+    say("mpeg_descr.cable_delivery.fec_inner", f.fec_inner);
     return 1;
 }
 
 static int say_terrestrial(const uint8_t *b, size_t n)
 {
-    lohitunga_terrestrial_answer a = lohitunga_terrestrial(b, n);
+    lohitunga_terrestrial_answer a = lohitunga_read_terrestrial(b, n);
+    lohitunga_terrestrial f = a.terrestrial;
     if (a.number)
         return 0;
-    say("mpeg_descr.terr_delivery.centre_freq", (long long)lohitunga_terrestrial_hertz(a.centre_frequency));
-    say("mpeg_descr.terr_delivery.bandwidth", a.bandwidth);
-    say("mpeg_descr.terr_delivery.priority", a.priority);
-    say("mpeg_descr.terr_delivery.time_slicing_ind", a.time_slicing_indicator);
-    say("mpeg_descr.terr_delivery.mpe_fec_ind", a.mpe_fec_indicator);
-    say("mpeg_descr.terr_delivery.constellation", a.constellation);
-    say("mpeg_descr.terr_delivery.hierarchy_information", a.hierarchy_information);
-    say("mpeg_descr.terr_delivery.code_rate_hp_stream", a.code_rate_hp_stream);
-    say("mpeg_descr.terr_delivery.code_rate_lp_stream", a.code_rate_lp_stream);
-    say("mpeg_descr.terr_delivery.guard_interval", a.guard_interval);
-    say("mpeg_descr.terr_delivery.transmission_mode", a.transmission_mode);
-    say("mpeg_descr.terr_delivery.other_freq_flag", a.other_frequency_flag);
+    say("mpeg_descr.terr_delivery.centre_freq", (long long)lohitunga_terrestrial_hertz(f.centre_frequency));
+    say("mpeg_descr.terr_delivery.bandwidth", f.bandwidth);
+    say("mpeg_descr.terr_delivery.priority", f.priority);
+    say("mpeg_descr.terr_delivery.time_slicing_ind", f.time_slicing_indicator);
+    say("mpeg_descr.terr_delivery.mpe_fec_ind", f.mpe_fec_indicator);
+    say("mpeg_descr.terr_delivery.constellation", f.constellation);
+    say("mpeg_descr.terr_delivery.hierarchy_information", f.hierarchy_information);
+    say("mpeg_descr.terr_delivery.code_rate_hp_stream", f.code_rate_hp_stream);
+    say("mpeg_descr.terr_delivery.code_rate_lp_stream", f.code_rate_lp_stream);
+    say("mpeg_descr.terr_delivery.guard_interval", f.guard_interval);
+    say("mpeg_descr.terr_delivery.transmission_mode", f.transmission_mode);
+    say("mpeg_descr.terr_delivery.other_freq_flag", f.other_frequency_flag);
     return 1;
 }
 
 static int say_texts(const uint8_t *b, size_t n)
 {
     if (b[0] == 0x40 || b[0] == 0x42) {
-        lohitunga_text_answer a = b[0] == 0x40 ? lohitunga_network_name(b, n) : lohitunga_stuffing(b, n);
+        lohitunga_text_answer a = b[0] == 0x40 ? lohitunga_read_network_name(b, n) : lohitunga_read_stuffing(b, n);
         if (a.number)
             return 0;
         if (a.text.size > 0)
@@ -176,28 +179,30 @@ static int say_texts(const uint8_t *b, size_t n)
         return 1;
     }
     if (b[0] == 0x48) {
-        lohitunga_service_answer a = lohitunga_service(b, n);
+        lohitunga_service_answer a = lohitunga_read_service(b, n);
+        lohitunga_service f = a.service;
         if (a.number)
             return 0;
-        say("mpeg_descr.svc.type", a.service_type);
-        say("mpeg_descr.svc.provider_name_len", (long long)a.service_provider_name.size);
-        if (a.service_provider_name.size > 0)
-            say_bytes("mpeg_descr.svc.provider_name", b + a.service_provider_name.start, a.service_provider_name.size);
-        say("mpeg_descr.svc.svc_name_len", (long long)a.service_name.size);
-        if (a.service_name.size > 0)
-            say_bytes("mpeg_descr.svc.svc_name", b + a.service_name.start, a.service_name.size);
+        say("mpeg_descr.svc.type", f.service_type);
+        say("mpeg_descr.svc.provider_name_len", (long long)f.service_provider_name.size);
+        if (f.service_provider_name.size > 0)
+            say_bytes("mpeg_descr.svc.provider_name", b + f.service_provider_name.start, f.service_provider_name.size);
+        say("mpeg_descr.svc.svc_name_len", (long long)f.service_name.size);
+        if (f.service_name.size > 0)
+            say_bytes("mpeg_descr.svc.svc_name", b + f.service_name.start, f.service_name.size);
         return 1;
     }
-    lohitunga_short_event_answer a = lohitunga_short_event(b, n);
+    lohitunga_short_event_answer a = lohitunga_read_short_event(b, n);
+    lohitunga_short_event f = a.short_event;
     if (a.number)
         return 0;
-    say_letters("mpeg_descr.short_evt.lang_code", a.language_code);
-    say("mpeg_descr.short_evt.name_len", (long long)a.event_name.size);
-    if (a.event_name.size > 0)
-        say_bytes("mpeg_descr.short_evt.name", b + a.event_name.start, a.event_name.size);
-    say("mpeg_descr.short_evt.txt_len", (long long)a.text.size);
-    if (a.text.size > 0)
-        say_bytes("mpeg_descr.short_evt.txt", b + a.text.start, a.text.size);
+    say_letters("mpeg_descr.short_evt.lang_code", f.language_code);
+    say("mpeg_descr.short_evt.name_len", (long long)f.event_name.size);
+    if (f.event_name.size > 0)
+        say_bytes("mpeg_descr.short_evt.name", b + f.event_name.start, f.event_name.size);
+    say("mpeg_descr.short_evt.txt_len", (long long)f.text.size);
+    if (f.text.size > 0)
+        say_bytes("mpeg_descr.short_evt.txt", b + f.text.start, f.text.size);
     return 1;
 }
 
@@ -205,9 +210,9 @@ static int say_service_list(const uint8_t *b, size_t n)
 {
     lohitunga_count_answer count = lohitunga_service_list_count(b, n);
     for (size_t i = 0; i < count.count; i++) {
-        lohitunga_service_list_answer a = lohitunga_service_list(b, n, i);
-        say("mpeg_descr.svc_list.id", a.service_id);
-        say("mpeg_descr.svc_list.type", a.service_type);
+        lohitunga_service_list_answer a = lohitunga_read_service_list(b, n, i);
+        say("mpeg_descr.svc_list.id", a.item.service_id);
+        say("mpeg_descr.svc_list.type", a.item.service_type);
     }
     return count.number == 0;
 }
@@ -216,10 +221,10 @@ static int say_content(const uint8_t *b, size_t n)
 {
     lohitunga_count_answer count = lohitunga_content_count(b, n);
     for (size_t i = 0; i < count.count; i++) {
-        lohitunga_content_answer a = lohitunga_content(b, n, i);
-        say("mpeg_descr.content.nibble_lvl_1", a.content_nibble_level_1);
-        say("mpeg_descr.content.nibble_lvl_2", a.content_nibble_level_2);
-        say("mpeg_descr.content.user", a.user_byte);
+        lohitunga_content_answer a = lohitunga_read_content(b, n, i);
+        say("mpeg_descr.content.nibble_lvl_1", a.item.content_nibble_level_1);
+        say("mpeg_descr.content.nibble_lvl_2", a.item.content_nibble_level_2);
+        say("mpeg_descr.content.user", a.item.user_byte);
     }
     return count.number == 0;
 }
@@ -228,9 +233,9 @@ static int say_rating(const uint8_t *b, size_t n)
 {
     lohitunga_count_answer count = lohitunga_parental_rating_count(b, n);
     for (size_t i = 0; i < count.count; i++) {
-        lohitunga_parental_rating_answer a = lohitunga_parental_rating(b, n, i);
-        say_letters("mpeg_descr.parental_rating.country_code", a.country_code);
-        say("mpeg_descr.parental_rating.rating", a.rating);
+        lohitunga_parental_rating_answer a = lohitunga_read_parental_rating(b, n, i);
+        say_letters("mpeg_descr.parental_rating.country_code", a.item.country_code);
+        say("mpeg_descr.parental_rating.rating", a.item.rating);
     }
     return count.number == 0;
 }
@@ -239,14 +244,15 @@ static int say_local(const uint8_t *b, size_t n)
 {
     lohitunga_count_answer count = lohitunga_local_time_offset_count(b, n);
     for (size_t i = 0; i < count.count; i++) {
-        lohitunga_local_time_offset_answer a = lohitunga_local_time_offset(b, n, i);
+        lohitunga_local_time_offset_answer a = lohitunga_read_local_time_offset(b, n, i);
+        lohitunga_local_time_offset_item f = a.item;
         if (a.number)
             return 0;
-        say_letters("mpeg_descr.local_time_offset.country_code", a.country_code);
-        say("mpeg_descr.local_time_offset.region_id", a.country_region_id);
-        say("mpeg_descr.local_time_offset.offset", a.local_time_offset);
-        say_moment("mpeg_descr.local_time_offset.time_of_change", a.time_of_change);
-        say("mpeg_descr.local_time_offset.next_time_offset", a.next_time_offset);
+        say_letters("mpeg_descr.local_time_offset.country_code", f.country_code);
+        say("mpeg_descr.local_time_offset.region_id", f.country_region_id);
+        say("mpeg_descr.local_time_offset.offset", f.local_time_offset);
+        say_moment("mpeg_descr.local_time_offset.time_of_change", f.time_of_change);
+        say("mpeg_descr.local_time_offset.next_time_offset", f.next_time_offset);
     }
     return count.number == 0;
 }
@@ -312,9 +318,9 @@ static int say_accepted(const uint8_t *s, size_t size)
     }
     while (at < end) {
         if (fixed == 12) {
-            lohitunga_duration_answer a = lohitunga_duration(s[at + 7], s[at + 8], s[at + 9]);
+            lohitunga_duration_answer a = lohitunga_read_duration(s[at + 7], s[at + 8], s[at + 9]);
             read &= say_time("dvb_eit.evt.start_time", s + at + 2) & (a.number == 0);
-            fprintf(file, "dvb_eit.evt.duration %02u%02u%02u\n", a.hour, a.minute, a.second);
+            fprintf(file, "dvb_eit.evt.duration %02u%02u%02u\n", a.duration.hour, a.duration.minute, a.duration.second);
         }
         size_t loop = twelve(s + at + fixed - 2);
         read &= say_loop(s + at + fixed, loop);

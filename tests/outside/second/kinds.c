@@ -348,7 +348,7 @@ static long long letters(const uint8_t three[3]) { return three[0] * 65536LL + t
 static void compare_text(const uint8_t *lent, const uint8_t *b, size_t n, uint8_t tag)
 {
     struct second_text s = tag == 0x40 ? second_network_name(b, n) : second_stuffing(b, n);
-    lohitunga_text_answer a = tag == 0x40 ? lohitunga_network_name(lent, n) : lohitunga_stuffing(lent, n);
+    lohitunga_text_answer a = tag == 0x40 ? lohitunga_read_network_name(lent, n) : lohitunga_read_stuffing(lent, n);
     long long library[] = {a.number, (long long)a.text.start, (long long)a.text.size};
     long long second[] = {s.number, OR_0(s.number, s.at), OR_0(s.number, s.size)};
     SAME("number text.start text.size", library, second);
@@ -357,8 +357,8 @@ static void compare_text(const uint8_t *lent, const uint8_t *b, size_t n, uint8_
 static void compare_service_list(const uint8_t *lent, const uint8_t *b, size_t n, size_t index)
 {
     struct second_listed s = second_service_list(b, n, index);
-    lohitunga_service_list_answer a = lohitunga_service_list(lent, n, index);
-    long long library[] = {a.number, a.service_id, a.service_type};
+    lohitunga_service_list_answer a = lohitunga_read_service_list(lent, n, index);
+    long long library[] = {a.number, a.item.service_id, a.item.service_type};
     long long second[] = {s.number, s.service_id, s.service_type};
     SAME("number service_id service_type", library, second);
 }
@@ -366,10 +366,11 @@ static void compare_service_list(const uint8_t *lent, const uint8_t *b, size_t n
 static void compare_satellite(const uint8_t *lent, const uint8_t *b, size_t n)
 {
     struct second_satellite s = second_satellite(b, n);
-    lohitunga_satellite_answer a = lohitunga_satellite(lent, n);
-    long long library[] = {a.number, a.frequency.steps, a.orbital_position, a.west_east_flag, a.polarization, a.modulation_system,
-                           a.roll_off, a.modulation_type, a.symbol_rate, a.fec_inner,
-                           (long long)lohitunga_satellite_hertz(a.frequency)};
+    lohitunga_satellite_answer a = lohitunga_read_satellite(lent, n);
+    lohitunga_satellite f = a.satellite;
+    long long library[] = {a.number, f.frequency.steps, f.orbital_position, f.west_east_flag, f.polarization, f.modulation_system,
+                           f.roll_off, f.modulation_type, f.symbol_rate, f.fec_inner,
+                           (long long)lohitunga_satellite_hertz(f.frequency)};
     long long second[] = {s.number, OR_0(s.number, s.frequency), OR_0(s.number, s.orbital_position),
                           OR_0(s.number, s.west_east_flag), OR_0(s.number, s.polarization),
                           OR_0(s.number, s.modulation_system), OR_0(s.number, s.roll_off), OR_0(s.number, s.modulation_type),
@@ -381,9 +382,10 @@ static void compare_satellite(const uint8_t *lent, const uint8_t *b, size_t n)
 static void compare_cable(const uint8_t *lent, const uint8_t *b, size_t n)
 {
     struct second_cable s = second_cable(b, n);
-    lohitunga_cable_answer a = lohitunga_cable(lent, n);
-    long long library[] = {a.number, a.frequency.steps, a.fec_outer, a.modulation, a.symbol_rate, a.fec_inner,
-                           (long long)lohitunga_cable_hertz(a.frequency)};
+    lohitunga_cable_answer a = lohitunga_read_cable(lent, n);
+    lohitunga_cable f = a.cable;
+    long long library[] = {a.number, f.frequency.steps, f.fec_outer, f.modulation, f.symbol_rate, f.fec_inner,
+                           (long long)lohitunga_cable_hertz(f.frequency)};
     long long second[] = {s.number, OR_0(s.number, s.frequency), OR_0(s.number, s.fec_outer), OR_0(s.number, s.modulation),
                           OR_0(s.number, s.symbol_rate), OR_0(s.number, s.fec_inner), OR_0(s.number, s.frequency) * 100};
     SAME("number frequency fec_outer modulation symbol_rate fec_inner hertz", library, second);
@@ -392,9 +394,10 @@ static void compare_cable(const uint8_t *lent, const uint8_t *b, size_t n)
 static void compare_service(const uint8_t *lent, const uint8_t *b, size_t n)
 {
     struct second_service s = second_service(b, n);
-    lohitunga_service_answer a = lohitunga_service(lent, n);
-    long long library[] = {a.number, a.service_type, (long long)a.service_provider_name.start, (long long)a.service_provider_name.size,
-                           (long long)a.service_name.start, (long long)a.service_name.size};
+    lohitunga_service_answer a = lohitunga_read_service(lent, n);
+    lohitunga_service f = a.service;
+    long long library[] = {a.number, f.service_type, (long long)f.service_provider_name.start, (long long)f.service_provider_name.size,
+                           (long long)f.service_name.start, (long long)f.service_name.size};
     long long second[] = {s.number, OR_0(s.number, s.service_type), OR_0(s.number, s.provider_at), OR_0(s.number, s.provider_size),
                           OR_0(s.number, s.name_at), OR_0(s.number, s.name_size)};
     SAME("number service_type provider.start provider.size name.start name.size", library, second);
@@ -403,9 +406,10 @@ static void compare_service(const uint8_t *lent, const uint8_t *b, size_t n)
 static void compare_event(const uint8_t *lent, const uint8_t *b, size_t n)
 {
     struct second_event s = second_short_event(b, n);
-    lohitunga_short_event_answer a = lohitunga_short_event(lent, n);
-    long long library[] = {a.number, a.language_code, (long long)a.event_name.start, (long long)a.event_name.size,
-                           (long long)a.text.start, (long long)a.text.size};
+    lohitunga_short_event_answer a = lohitunga_read_short_event(lent, n);
+    lohitunga_short_event f = a.short_event;
+    long long library[] = {a.number, f.language_code, (long long)f.event_name.start, (long long)f.event_name.size,
+                           (long long)f.text.start, (long long)f.text.size};
     long long second[] = {s.number, OR_0(s.number, letters(s.language)), OR_0(s.number, s.name_at), OR_0(s.number, s.name_size),
                           OR_0(s.number, s.text_at), OR_0(s.number, s.text_size)};
     SAME("number language_code event_name.start event_name.size text.start text.size", library, second);
@@ -414,8 +418,8 @@ static void compare_event(const uint8_t *lent, const uint8_t *b, size_t n)
 static void compare_content(const uint8_t *lent, const uint8_t *b, size_t n, size_t index)
 {
     struct second_content s = second_content(b, n, index);
-    lohitunga_content_answer a = lohitunga_content(lent, n, index);
-    long long library[] = {a.number, a.content_nibble_level_1, a.content_nibble_level_2, a.user_byte};
+    lohitunga_content_answer a = lohitunga_read_content(lent, n, index);
+    long long library[] = {a.number, a.item.content_nibble_level_1, a.item.content_nibble_level_2, a.item.user_byte};
     long long second[] = {s.number, s.level_1, s.level_2, s.user_byte};
     SAME("number content_nibble_level_1 content_nibble_level_2 user_byte", library, second);
 }
@@ -423,8 +427,8 @@ static void compare_content(const uint8_t *lent, const uint8_t *b, size_t n, siz
 static void compare_rating(const uint8_t *lent, const uint8_t *b, size_t n, size_t index)
 {
     struct second_rating s = second_parental_rating(b, n, index);
-    lohitunga_parental_rating_answer a = lohitunga_parental_rating(lent, n, index);
-    long long library[] = {a.number, a.country_code, a.rating};
+    lohitunga_parental_rating_answer a = lohitunga_read_parental_rating(lent, n, index);
+    long long library[] = {a.number, a.item.country_code, a.item.rating};
     long long second[] = {s.number, OR_0(s.number, letters(s.country)), OR_0(s.number, s.rating)};
     SAME("number country_code rating", library, second);
 }
@@ -432,10 +436,11 @@ static void compare_rating(const uint8_t *lent, const uint8_t *b, size_t n, size
 static void compare_local(const uint8_t *lent, const uint8_t *b, size_t n, size_t index)
 {
     struct second_local s = second_local_time_offset(b, n, index);
-    lohitunga_local_time_offset_answer a = lohitunga_local_time_offset(lent, n, index);
-    long long library[] = {a.number, a.country_code, a.country_region_id, a.local_time_offset, a.time_of_change.undefined,
-                           a.time_of_change.mjd, a.time_of_change.hour, a.time_of_change.minute, a.time_of_change.second,
-                           a.next_time_offset};
+    lohitunga_local_time_offset_answer a = lohitunga_read_local_time_offset(lent, n, index);
+    lohitunga_local_time_offset_item f = a.item;
+    long long library[] = {a.number, f.country_code, f.country_region_id, f.local_time_offset, f.time_of_change.undefined,
+                           f.time_of_change.mjd, f.time_of_change.hour, f.time_of_change.minute, f.time_of_change.second,
+                           f.next_time_offset};
     long long second[] = {s.number, OR_0(s.number, letters(s.country)), OR_0(s.number, s.region), OR_0(s.number, s.offset),
                           OR_0(s.number, s.change.undefined), OR_0(s.number, s.change.mjd), OR_0(s.number, s.change.hour),
                           OR_0(s.number, s.change.minute), OR_0(s.number, s.change.second), OR_0(s.number, s.next)};
@@ -447,10 +452,11 @@ static void compare_local(const uint8_t *lent, const uint8_t *b, size_t n, size_
 static void compare_terrestrial(const uint8_t *lent, const uint8_t *b, size_t n)
 {
     struct second_terrestrial s = second_terrestrial(b, n);
-    lohitunga_terrestrial_answer a = lohitunga_terrestrial(lent, n);
-    long long library[] = {a.number, a.centre_frequency.steps, a.bandwidth, a.priority, a.time_slicing_indicator, a.mpe_fec_indicator,
-                           a.constellation, a.hierarchy_information, a.code_rate_hp_stream, a.code_rate_lp_stream, a.guard_interval,
-                           a.transmission_mode, a.other_frequency_flag, (long long)lohitunga_terrestrial_hertz(a.centre_frequency)};
+    lohitunga_terrestrial_answer a = lohitunga_read_terrestrial(lent, n);
+    lohitunga_terrestrial f = a.terrestrial;
+    long long library[] = {a.number, f.centre_frequency.steps, f.bandwidth, f.priority, f.time_slicing_indicator, f.mpe_fec_indicator,
+                           f.constellation, f.hierarchy_information, f.code_rate_hp_stream, f.code_rate_lp_stream, f.guard_interval,
+                           f.transmission_mode, f.other_frequency_flag, (long long)lohitunga_terrestrial_hertz(f.centre_frequency)};
     long long second[] = {s.number, s.frequency, s.bandwidth, s.priority, s.time_slicing, s.mpe_fec, s.constellation, s.hierarchy,
                           s.code_rate_hp, s.code_rate_lp, s.guard_interval, s.transmission_mode, s.other_frequency,
                           s.frequency * 10LL};
@@ -557,9 +563,9 @@ static void prepare_times(void)
 static void compare_time(const uint8_t b[5])
 {
     struct second_time s = second_time(b);
-    call_begins("lohitunga_time", AT_END);
+    call_begins("lohitunga_read_time", AT_END);
     call_piece("time", b, 5);
-    lohitunga_time_answer a = lohitunga_time((uint16_t)(b[0] * 256 + b[1]), b[2], b[3], b[4]);
+    lohitunga_time_answer a = lohitunga_read_time((uint16_t)(b[0] * 256 + b[1]), b[2], b[3], b[4]);
     long long library[] = {a.number, a.time.undefined, a.time.mjd, a.time.hour, a.time.minute, a.time.second};
     long long second[] = {s.number, s.undefined, OR_0(s.number, s.mjd), OR_0(s.number, s.hour), OR_0(s.number, s.minute),
                           OR_0(s.number, s.second)};
@@ -573,10 +579,10 @@ static void compare_time(const uint8_t b[5])
 static void compare_duration(const uint8_t b[3])
 {
     struct second_duration s = second_duration(b);
-    call_begins("lohitunga_duration", AT_END);
+    call_begins("lohitunga_read_duration", AT_END);
     call_piece("duration", b, 3);
-    lohitunga_duration_answer a = lohitunga_duration(b[0], b[1], b[2]);
-    long long library[] = {a.number, a.hour, a.minute, a.second};
+    lohitunga_duration_answer a = lohitunga_read_duration(b[0], b[1], b[2]);
+    long long library[] = {a.number, a.duration.hour, a.duration.minute, a.duration.second};
     long long second[] = {s.number, OR_0(s.number, s.hours), OR_0(s.number, s.minutes), OR_0(s.number, s.seconds)};
     SAME("number hour minute second", library, second);
     met_number("duration", s.number);
@@ -585,11 +591,11 @@ static void compare_duration(const uint8_t b[3])
 static void compare_offset(uint8_t behind, uint8_t hour, uint8_t minute)
 {
     struct second_offset s = second_offset(behind != 0, hour, minute);
-    call_begins("lohitunga_offset", AT_END);
+    call_begins("lohitunga_read_offset", AT_END);
     call_number("behind", behind);
     call_number("hour", hour);
     call_number("minute", minute);
-    lohitunga_offset_answer a = lohitunga_offset(behind, hour, minute);
+    lohitunga_offset_answer a = lohitunga_read_offset(behind, hour, minute);
     long long library[] = {a.number, a.minutes};
     long long second[] = {s.number, OR_0(s.number, s.minutes)};
     SAME("number minutes", library, second);
@@ -599,10 +605,10 @@ static void compare_offset(uint8_t behind, uint8_t hour, uint8_t minute)
 static void compare_date(unsigned mjd)
 {
     struct second_date s = second_date(mjd);
-    call_begins("lohitunga_date", AT_END);
+    call_begins("lohitunga_read_date", AT_END);
     call_number("mjd", mjd);
-    lohitunga_date_answer a = lohitunga_date((uint16_t)mjd);
-    long long library[] = {a.number, a.year, a.month, a.day};
+    lohitunga_date_answer a = lohitunga_read_date((uint16_t)mjd);
+    long long library[] = {a.number, a.date.year, a.date.month, a.date.day};
     long long second[] = {s.number, s.year, s.month, s.day};
     SAME("number year month day", library, second);
     met_number("date", s.number);

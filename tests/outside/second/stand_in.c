@@ -118,25 +118,25 @@ static lohitunga_part part(unsigned number, size_t start, size_t size)
     return p;
 }
 
-lohitunga_text_answer lohitunga_network_name(const uint8_t *b, size_t n)
+lohitunga_text_answer lohitunga_read_network_name(const uint8_t *b, size_t n)
 {
     struct second_text s = second_network_name(b, n);
     lohitunga_text_answer a = {s.number, part(s.number, s.at, s.size)};
     return a;
 }
 
-lohitunga_text_answer lohitunga_stuffing(const uint8_t *b, size_t n)
+lohitunga_text_answer lohitunga_read_stuffing(const uint8_t *b, size_t n)
 {
     struct second_text s = second_stuffing(b, n);
     lohitunga_text_answer a = {s.number, part(s.number, s.at, s.size)};
     return a;
 }
 
-lohitunga_service_answer lohitunga_service(const uint8_t *b, size_t n)
+lohitunga_service_answer lohitunga_read_service(const uint8_t *b, size_t n)
 {
     struct second_service s = second_service(b, n);
-    lohitunga_service_answer a = {s.number, (uint8_t)(s.number ? 0 : s.service_type), part(s.number, s.provider_at, s.provider_size),
-                                  part(s.number, s.name_at, s.name_size)};
+    lohitunga_service_answer a = {s.number, {(uint8_t)(s.number ? 0 : s.service_type), part(s.number, s.provider_at, s.provider_size),
+                                             part(s.number, s.name_at, s.name_size)}};
     return a;
 }
 
@@ -145,11 +145,11 @@ static uint32_t letters(unsigned number, const uint8_t three[3])
     return number ? 0 : three[0] * 65536u + three[1] * 256u + three[2];
 }
 
-lohitunga_short_event_answer lohitunga_short_event(const uint8_t *b, size_t n)
+lohitunga_short_event_answer lohitunga_read_short_event(const uint8_t *b, size_t n)
 {
     struct second_event s = second_short_event(b, n);
-    lohitunga_short_event_answer a = {s.number, letters(s.number, s.language), part(s.number, s.name_at, s.name_size),
-                                      part(s.number, s.text_at, s.text_size)};
+    lohitunga_short_event_answer a = {s.number, {letters(s.number, s.language), part(s.number, s.name_at, s.name_size),
+                                                 part(s.number, s.text_at, s.text_size)}};
     return a;
 }
 
@@ -165,27 +165,27 @@ lohitunga_count_answer lohitunga_content_count(const uint8_t *b, size_t n) { ret
 lohitunga_count_answer lohitunga_parental_rating_count(const uint8_t *b, size_t n) { return count(b, n, 0x55, 4); }
 lohitunga_count_answer lohitunga_local_time_offset_count(const uint8_t *b, size_t n) { return count(b, n, 0x58, 13); }
 
-lohitunga_service_list_answer lohitunga_service_list(const uint8_t *b, size_t n, size_t index)
+lohitunga_service_list_answer lohitunga_read_service_list(const uint8_t *b, size_t n, size_t index)
 {
     struct second_listed s = second_service_list(b, n, index);
-    lohitunga_service_list_answer a = {s.number, (uint16_t)s.service_id, (uint8_t)s.service_type};
+    lohitunga_service_list_answer a = {s.number, {(uint16_t)s.service_id, (uint8_t)s.service_type}};
     /* 11: 66 before 62 */
     if (fault(11) && s.number == 62 && n > 2 && index >= (n - 2) / 3)
         a.number = 66;
     return a;
 }
 
-lohitunga_content_answer lohitunga_content(const uint8_t *b, size_t n, size_t index)
+lohitunga_content_answer lohitunga_read_content(const uint8_t *b, size_t n, size_t index)
 {
     struct second_content s = second_content(b, n, index);
-    lohitunga_content_answer a = {s.number, (uint8_t)s.level_1, (uint8_t)s.level_2, (uint8_t)s.user_byte};
+    lohitunga_content_answer a = {s.number, {(uint8_t)s.level_1, (uint8_t)s.level_2, (uint8_t)s.user_byte}};
     return a;
 }
 
-lohitunga_parental_rating_answer lohitunga_parental_rating(const uint8_t *b, size_t n, size_t index)
+lohitunga_parental_rating_answer lohitunga_read_parental_rating(const uint8_t *b, size_t n, size_t index)
 {
     struct second_rating s = second_parental_rating(b, n, index);
-    lohitunga_parental_rating_answer a = {s.number, letters(s.number, s.country), (uint8_t)s.rating};
+    lohitunga_parental_rating_answer a = {s.number, {letters(s.number, s.country), (uint8_t)s.rating}};
     return a;
 }
 
@@ -202,7 +202,7 @@ static lohitunga_moment moment(unsigned number, const struct second_time *t)
     return m;
 }
 
-lohitunga_local_time_offset_answer lohitunga_local_time_offset(const uint8_t *b, size_t n, size_t index)
+lohitunga_local_time_offset_answer lohitunga_read_local_time_offset(const uint8_t *b, size_t n, size_t index)
 {
     struct second_local s = second_local_time_offset(b, n, index);
     lohitunga_local_time_offset_answer a;
@@ -210,12 +210,12 @@ lohitunga_local_time_offset_answer lohitunga_local_time_offset(const uint8_t *b,
     a.number = s.number;
     if (s.number)
         return a;
-    a.country_code = letters(0, s.country);
-    a.country_region_id = (uint8_t)s.region;
-    a.local_time_offset = (int16_t)s.offset;
-    a.time_of_change = moment(0, &s.change);
+    a.item.country_code = letters(0, s.country);
+    a.item.country_region_id = (uint8_t)s.region;
+    a.item.local_time_offset = (int16_t)s.offset;
+    a.item.time_of_change = moment(0, &s.change);
     /* 12: the polarity signs the first offset alone */
-    a.next_time_offset = (int16_t)(fault(12) && s.next < 0 ? -s.next : s.next);
+    a.item.next_time_offset = (int16_t)(fault(12) && s.next < 0 ? -s.next : s.next);
     return a;
 }
 
@@ -223,7 +223,7 @@ uint64_t lohitunga_satellite_hertz(lohitunga_satellite_frequency f) { return f.s
 uint64_t lohitunga_cable_hertz(lohitunga_cable_frequency f) { return f.steps * 100ull; }
 uint64_t lohitunga_terrestrial_hertz(lohitunga_terrestrial_frequency f) { return fault(13) ? f.steps * 10u : f.steps * 10ull; }
 
-lohitunga_satellite_answer lohitunga_satellite(const uint8_t *b, size_t n)
+lohitunga_satellite_answer lohitunga_read_satellite(const uint8_t *b, size_t n)
 {
     struct second_satellite s = second_satellite(b, n);
     lohitunga_satellite_answer a;
@@ -231,19 +231,19 @@ lohitunga_satellite_answer lohitunga_satellite(const uint8_t *b, size_t n)
     a.number = s.number;
     if (s.number)
         return a;
-    a.frequency.steps = s.frequency;
-    a.orbital_position = s.orbital_position;
-    a.symbol_rate = s.symbol_rate;
-    a.west_east_flag = (uint8_t)s.west_east_flag;
-    a.polarization = (uint8_t)s.polarization;
-    a.modulation_system = (uint8_t)s.modulation_system;
-    a.roll_off = (uint8_t)s.roll_off;
-    a.modulation_type = (uint8_t)s.modulation_type;
-    a.fec_inner = (uint8_t)s.fec_inner;
+    a.satellite.frequency.steps = s.frequency;
+    a.satellite.orbital_position = s.orbital_position;
+    a.satellite.symbol_rate = s.symbol_rate;
+    a.satellite.west_east_flag = (uint8_t)s.west_east_flag;
+    a.satellite.polarization = (uint8_t)s.polarization;
+    a.satellite.modulation_system = (uint8_t)s.modulation_system;
+    a.satellite.roll_off = (uint8_t)s.roll_off;
+    a.satellite.modulation_type = (uint8_t)s.modulation_type;
+    a.satellite.fec_inner = (uint8_t)s.fec_inner;
     return a;
 }
 
-lohitunga_cable_answer lohitunga_cable(const uint8_t *b, size_t n)
+lohitunga_cable_answer lohitunga_read_cable(const uint8_t *b, size_t n)
 {
     struct second_cable s = second_cable(b, n);
     lohitunga_cable_answer a;
@@ -251,25 +251,25 @@ lohitunga_cable_answer lohitunga_cable(const uint8_t *b, size_t n)
     a.number = s.number;
     if (s.number)
         return a;
-    a.frequency.steps = s.frequency;
-    a.symbol_rate = s.symbol_rate;
-    a.fec_outer = (uint8_t)s.fec_outer;
-    a.modulation = (uint8_t)s.modulation;
-    a.fec_inner = (uint8_t)s.fec_inner;
+    a.cable.frequency.steps = s.frequency;
+    a.cable.symbol_rate = s.symbol_rate;
+    a.cable.fec_outer = (uint8_t)s.fec_outer;
+    a.cable.modulation = (uint8_t)s.modulation;
+    a.cable.fec_inner = (uint8_t)s.fec_inner;
     return a;
 }
 
-lohitunga_terrestrial_answer lohitunga_terrestrial(const uint8_t *b, size_t n)
+lohitunga_terrestrial_answer lohitunga_read_terrestrial(const uint8_t *b, size_t n)
 {
     struct second_terrestrial s = second_terrestrial(b, n);
-    lohitunga_terrestrial_answer a = {s.number, {s.frequency}, (uint8_t)s.bandwidth, (uint8_t)s.priority, (uint8_t)s.time_slicing,
-                                      (uint8_t)s.mpe_fec, (uint8_t)s.constellation, (uint8_t)s.hierarchy, (uint8_t)s.code_rate_hp,
-                                      (uint8_t)s.code_rate_lp, (uint8_t)s.guard_interval, (uint8_t)s.transmission_mode,
-                                      (uint8_t)s.other_frequency};
+    lohitunga_terrestrial_answer a = {s.number, {{s.frequency}, (uint8_t)s.bandwidth, (uint8_t)s.priority, (uint8_t)s.time_slicing,
+                                                 (uint8_t)s.mpe_fec, (uint8_t)s.constellation, (uint8_t)s.hierarchy,
+                                                 (uint8_t)s.code_rate_hp, (uint8_t)s.code_rate_lp, (uint8_t)s.guard_interval,
+                                                 (uint8_t)s.transmission_mode, (uint8_t)s.other_frequency}};
     return a;
 }
 
-lohitunga_time_answer lohitunga_time(uint16_t mjd, uint8_t hour, uint8_t minute, uint8_t second)
+lohitunga_time_answer lohitunga_read_time(uint16_t mjd, uint8_t hour, uint8_t minute, uint8_t second)
 {
     uint8_t b[5] = {(uint8_t)(mjd / 256), (uint8_t)mjd, hour, minute, second};
     struct second_time s = second_time(b);
@@ -280,33 +280,33 @@ lohitunga_time_answer lohitunga_time(uint16_t mjd, uint8_t hour, uint8_t minute,
     return a;
 }
 
-lohitunga_duration_answer lohitunga_duration(uint8_t hour, uint8_t minute, uint8_t second)
+lohitunga_duration_answer lohitunga_read_duration(uint8_t hour, uint8_t minute, uint8_t second)
 {
     uint8_t b[3] = {hour, minute, second};
     struct second_duration s = second_duration(b);
-    lohitunga_duration_answer a = {s.number, 0, 0, 0};
+    lohitunga_duration_answer a = {s.number, {0, 0, 0}};
     if (s.number)
         return a;
-    a.hour = (uint8_t)s.hours;
-    a.minute = (uint8_t)s.minutes;
-    a.second = (uint8_t)s.seconds;
+    a.duration.hour = (uint8_t)s.hours;
+    a.duration.minute = (uint8_t)s.minutes;
+    a.duration.second = (uint8_t)s.seconds;
     return a;
 }
 
-lohitunga_offset_answer lohitunga_offset(uint8_t behind, uint8_t hour, uint8_t minute)
+lohitunga_offset_answer lohitunga_read_offset(uint8_t behind, uint8_t hour, uint8_t minute)
 {
     struct second_offset s = second_offset(behind != 0, hour, minute);
     lohitunga_offset_answer a = {s.number, (int16_t)s.minutes};
     return a;
 }
 
-lohitunga_date_answer lohitunga_date(uint16_t mjd)
+lohitunga_date_answer lohitunga_read_date(uint16_t mjd)
 {
     struct second_date s = second_date(mjd);
-    lohitunga_date_answer a = {s.number, (uint16_t)s.year, (uint8_t)s.month, (uint8_t)s.day};
+    lohitunga_date_answer a = {s.number, {(uint16_t)s.year, (uint8_t)s.month, (uint8_t)s.day}};
     /* 15: the last day of the range alone */
     if (fault(15) && mjd == 65535)
-        a.day--;
+        a.date.day--;
     return a;
 }
 

@@ -26,27 +26,27 @@ static void is(const char *what, long long library, long long printed)
 
 static void is_date(const char *what, unsigned mjd, unsigned year, unsigned month, unsigned day)
 {
-    lohitunga_date_answer a = lohitunga_date((uint16_t)mjd);
+    lohitunga_date_answer a = lohitunga_read_date((uint16_t)mjd);
     is(what, a.number, 0);
-    is(what, a.year, year);
-    is(what, a.month, month);
-    is(what, a.day, day);
+    is(what, a.date.year, year);
+    is(what, a.date.month, month);
+    is(what, a.date.day, day);
 }
 
 static void times(void)
 {
-    lohitunga_time_answer t = lohitunga_time(0xC079, 0x12, 0x45, 0x00);
+    lohitunga_time_answer t = lohitunga_read_time(0xC079, 0x12, 0x45, 0x00);
     const char *what = "EN 300 468, 5.2.4 to 5.2.6: 93/10/13 12:45:00 is coded as 0xC079124500";
     is(what, t.number, 0);
     is(what, t.time.undefined, 0);
     is(what, t.time.hour * 10000 + t.time.minute * 100 + t.time.second, 124500);
     is_date(what, t.time.mjd, 1993, 10, 13);
     what = "EN 300 468, 5.2.4: 01:45:30 is coded as 0x014530";
-    lohitunga_duration_answer d = lohitunga_duration(0x01, 0x45, 0x30);
+    lohitunga_duration_answer d = lohitunga_read_duration(0x01, 0x45, 0x30);
     is(what, d.number, 0);
-    is(what, d.hour * 10000 + d.minute * 100 + d.second, 14530);
+    is(what, d.duration.hour * 10000 + d.duration.minute * 100 + d.duration.second, 14530);
     what = "EN 300 468, 5.2.4: an undefined start has all bits 1";
-    t = lohitunga_time(0xFFFF, 0xFF, 0xFF, 0xFF);
+    t = lohitunga_read_time(0xFFFF, 0xFF, 0xFF, 0xFF);
     is(what, t.number, 0);
     is(what, t.time.undefined, 1);
 
@@ -61,32 +61,32 @@ static void times(void)
     is_date("2000-03-01", 51604, 2000, 3, 1);
     is_date("2036-02-29", 64752, 2036, 2, 29);
 
-    is("document 01: MJD 0x3AE6: 65", lohitunga_date(0x3AE6).number, 65);
-    is("document 01: MJD 0x3AE6: 65, in a time", lohitunga_time(0x3AE6, 0, 0, 0).number, 65);
+    is("document 01: MJD 0x3AE6: 65", lohitunga_read_date(0x3AE6).number, 65);
+    is("document 01: MJD 0x3AE6: 65, in a time", lohitunga_read_time(0x3AE6, 0, 0, 0).number, 65);
     is_date("document 01: 0x3AE7: 1900-03-01", 0x3AE7, 1900, 3, 1);
-    t = lohitunga_time(0xFFFF, 0, 0, 0);
+    t = lohitunga_read_time(0xFFFF, 0, 0, 0);
     is("document 01: 0xFFFF at 000000: 2038-04-22", t.number + t.time.undefined, 0);
     is_date("document 01: 0xFFFF at 000000: 2038-04-22", t.time.mjd, 2038, 4, 22);
-    is("document 01: clock 24 00 00: 64", lohitunga_time(0xC079, 0x24, 0, 0).number, 64);
-    is("document 01: clock 12 4A 00: 63", lohitunga_time(0xC079, 0x12, 0x4A, 0).number, 63);
-    is("document 01: an offset of 1 with 0000 is zero", lohitunga_offset(1, 0, 0).minutes, 0);
-    is("document 01: a duration's hours go to 99", lohitunga_duration(0x99, 0x59, 0x59).hour, 99);
-    is("MJD 15,020 is below 15,079: 65", lohitunga_date(15020).number, 65);
+    is("document 01: clock 24 00 00: 64", lohitunga_read_time(0xC079, 0x24, 0, 0).number, 64);
+    is("document 01: clock 12 4A 00: 63", lohitunga_read_time(0xC079, 0x12, 0x4A, 0).number, 63);
+    is("document 01: an offset of 1 with 0000 is zero", lohitunga_read_offset(1, 0, 0).minutes, 0);
+    is("document 01: a duration's hours go to 99", lohitunga_read_duration(0x99, 0x59, 0x59).duration.hour, 99);
+    is("MJD 15,020 is below 15,079: 65", lohitunga_read_date(15020).number, 65);
 
     what = "the first fault, left to right: MJD, hour, minute, second";
-    is(what, lohitunga_time(0xC079, 0x2A, 0x00, 0x00).number, 63);
-    is(what, lohitunga_time(0xC079, 0x24, 0x6A, 0x00).number, 64);
-    is(what, lohitunga_time(0x0000, 0xFF, 0x00, 0x00).number, 65);
-    is(what, lohitunga_time(0xC079, 0x23, 0x59, 0x60).number, 64);
-    t = lohitunga_time(0xC079, 0x23, 0x59, 0x59);
+    is(what, lohitunga_read_time(0xC079, 0x2A, 0x00, 0x00).number, 63);
+    is(what, lohitunga_read_time(0xC079, 0x24, 0x6A, 0x00).number, 64);
+    is(what, lohitunga_read_time(0x0000, 0xFF, 0x00, 0x00).number, 65);
+    is(what, lohitunga_read_time(0xC079, 0x23, 0x59, 0x60).number, 64);
+    t = lohitunga_read_time(0xC079, 0x23, 0x59, 0x59);
     is("the last second of a day", t.number, 0);
     is("the last second of a day", t.time.hour * 10000 + t.time.minute * 100 + t.time.second, 235959);
-    is("a duration of 99 60 00: 64", lohitunga_duration(0x99, 0x60, 0x00).number, 64);
-    is("a duration of FF FF FF: 63", lohitunga_duration(0xFF, 0xFF, 0xFF).number, 63);
-    is("an offset of 01 00 ahead", lohitunga_offset(0, 0x01, 0x00).minutes, 60);
-    is("an offset of 23 59 behind", lohitunga_offset(1, 0x23, 0x59).minutes, -1439);
-    is("an offset of 24 00: 64", lohitunga_offset(0, 0x24, 0x00).number, 64);
-    is("an offset of 00 0A: 63", lohitunga_offset(0, 0x00, 0x0A).number, 63);
+    is("a duration of 99 60 00: 64", lohitunga_read_duration(0x99, 0x60, 0x00).number, 64);
+    is("a duration of FF FF FF: 63", lohitunga_read_duration(0xFF, 0xFF, 0xFF).number, 63);
+    is("an offset of 01 00 ahead", lohitunga_read_offset(0, 0x01, 0x00).minutes, 60);
+    is("an offset of 23 59 behind", lohitunga_read_offset(1, 0x23, 0x59).minutes, -1439);
+    is("an offset of 24 00: 64", lohitunga_read_offset(0, 0x24, 0x00).number, 64);
+    is("an offset of 00 0A: 63", lohitunga_read_offset(0, 0x00, 0x0A).number, 63);
 }
 
 /* Descriptors */
@@ -102,9 +102,10 @@ static long long bits(const char *text)
 }
 
 /* Bandwidth, priority, time slicing and MPE-FEC; the other fields in order. */
-static void is_terrestrial(const char *what, lohitunga_terrestrial_answer t, const char *first, const char *other)
+static void is_terrestrial(const char *what, lohitunga_terrestrial_answer a, const char *first, const char *other)
 {
-    is(what, t.number, 0);
+    is(what, a.number, 0);
+    lohitunga_terrestrial t = a.terrestrial;
     is(what, t.bandwidth * 8 + t.priority * 4 + t.time_slicing_indicator * 2 + t.mpe_fec_indicator, bits(first));
     long long rates = t.constellation * 512 + t.hierarchy_information * 64 + t.code_rate_hp_stream * 8 + t.code_rate_lp_stream;
     is(what, ((rates * 4 + t.guard_interval) * 4 + t.transmission_mode) * 2 + t.other_frequency_flag, bits(other));
@@ -112,58 +113,58 @@ static void is_terrestrial(const char *what, lohitunga_terrestrial_answer t, con
 
 static void delivery(void)
 {
-    lohitunga_cable_answer c = lohitunga_cable(BYTES(0x44, 11, 0x03, 0x12, 0x00, 0x00, 0xFF, 0xF2, 0x03, 0x02, 0x74, 0x50, 0x0F));
+    lohitunga_cable_answer c = lohitunga_read_cable(BYTES(0x44, 11, 0x03, 0x12, 0x00, 0x00, 0xFF, 0xF2, 0x03, 0x02, 0x74, 0x50, 0x0F));
     const char *what = "EN 300 468, 6.2.13.1: cable frequency 0312,0000 MHz; document 01: 3,120,000 steps";
     is(what, c.number, 0);
-    is(what, c.frequency.steps, 3120000);
-    is(what, (long long)lohitunga_cable_hertz(c.frequency), 312000000);
+    is(what, c.cable.frequency.steps, 3120000);
+    is(what, (long long)lohitunga_cable_hertz(c.cable.frequency), 312000000);
     what = "EN 300 468, 6.2.13.1: symbol_rate 027,4500 Msymbol/s";
-    is(what, c.symbol_rate, 274500);
-    is("FEC_inner behind the seventh digit", c.fec_inner, 15);
-    is("FEC_outer behind twelve reserved bits", c.fec_outer, 2);
-    is("modulation", c.modulation, 3);
-    c = lohitunga_cable(BYTES(0x44, 11, 0x03, 0x12, 0x00, 0x00, 0x00, 0x02, 0x03, 0x02, 0x74, 0x50, 0x0F));
+    is(what, c.cable.symbol_rate, 274500);
+    is("FEC_inner behind the seventh digit", c.cable.fec_inner, 15);
+    is("FEC_outer behind twelve reserved bits", c.cable.fec_outer, 2);
+    is("modulation", c.cable.modulation, 3);
+    c = lohitunga_read_cable(BYTES(0x44, 11, 0x03, 0x12, 0x00, 0x00, 0x00, 0x02, 0x03, 0x02, 0x74, 0x50, 0x0F));
     is("reserved bits of zeros: the same fields", c.number, 0);
-    is("reserved bits of zeros: the same fields", c.fec_outer, 2);
-    is("reserved bits of zeros: the same fields", c.symbol_rate, 274500);
+    is("reserved bits of zeros: the same fields", c.cable.fec_outer, 2);
+    is("reserved bits of zeros: the same fields", c.cable.symbol_rate, 274500);
     is("a frequency's last digit A: 63",
-       lohitunga_cable(BYTES(0x44, 11, 0x03, 0x12, 0x00, 0x0A, 0xFF, 0xF2, 0x03, 0x02, 0x74, 0x50, 0x0F)).number, 63);
+       lohitunga_read_cable(BYTES(0x44, 11, 0x03, 0x12, 0x00, 0x0A, 0xFF, 0xF2, 0x03, 0x02, 0x74, 0x50, 0x0F)).number, 63);
     is("a digit A of the symbol_rate: 63",
-       lohitunga_cable(BYTES(0x44, 11, 0x03, 0x12, 0x00, 0x00, 0xFF, 0xF2, 0x03, 0x02, 0x74, 0x5A, 0x0F)).number, 63);
-    is("a body of ten bytes: 62", lohitunga_cable(BYTES(0x44, 10, 0x03, 0x12, 0x00, 0x00, 0xFF, 0xF2, 0x03, 0x02, 0x74, 0x50)).number, 62);
+       lohitunga_read_cable(BYTES(0x44, 11, 0x03, 0x12, 0x00, 0x00, 0xFF, 0xF2, 0x03, 0x02, 0x74, 0x5A, 0x0F)).number, 63);
+    is("a body of ten bytes: 62", lohitunga_read_cable(BYTES(0x44, 10, 0x03, 0x12, 0x00, 0x00, 0xFF, 0xF2, 0x03, 0x02, 0x74, 0x50)).number, 62);
     is("a satellite descriptor read as a cable one: 61",
-       lohitunga_cable(BYTES(0x43, 11, 0x01, 0x17, 0x57, 0x25, 0x01, 0x92, 0x81, 0x02, 0x74, 0x50, 0x03)).number, 61);
+       lohitunga_read_cable(BYTES(0x43, 11, 0x01, 0x17, 0x57, 0x25, 0x01, 0x92, 0x81, 0x02, 0x74, 0x50, 0x03)).number, 61);
 
-    lohitunga_satellite_answer s = lohitunga_satellite(BYTES(0x43, 11, 0x01, 0x17, 0x57, 0x25, 0x01, 0x92, 0x81, 0x02, 0x74, 0x50, 0x03));
+    lohitunga_satellite_answer s = lohitunga_read_satellite(BYTES(0x43, 11, 0x01, 0x17, 0x57, 0x25, 0x01, 0x92, 0x81, 0x02, 0x74, 0x50, 0x03));
     what = "EN 300 468, 6.2.13.2: satellite frequency 011,75725 GHz; document 01: 1,175,725 steps";
     is(what, s.number, 0);
-    is(what, s.frequency.steps, 1175725);
-    is(what, (long long)lohitunga_satellite_hertz(s.frequency), 11757250000LL);
-    is("EN 300 468, 6.2.13.2: orbital position 019,2 degrees", s.orbital_position, 192);
-    is("EN 300 468, 6.2.13.2: symbol_rate 027,4500 Msymbol/s", s.symbol_rate, 274500);
-    is("EN 300 468, 6.2.13.2: west_east_flag 1 is east", s.west_east_flag, 1);
-    is("DVB-S", s.polarization * 1000 + s.modulation_system * 100 + s.modulation_type * 10 + s.roll_off, 10);
-    is("FEC_inner", s.fec_inner, 3);
-    s = lohitunga_satellite(BYTES(0x43, 11, 0x01, 0x17, 0x57, 0x25, 0x01, 0x92, 0x99, 0x02, 0x74, 0x50, 0x03));
+    is(what, s.satellite.frequency.steps, 1175725);
+    is(what, (long long)lohitunga_satellite_hertz(s.satellite.frequency), 11757250000LL);
+    is("EN 300 468, 6.2.13.2: orbital position 019,2 degrees", s.satellite.orbital_position, 192);
+    is("EN 300 468, 6.2.13.2: symbol_rate 027,4500 Msymbol/s", s.satellite.symbol_rate, 274500);
+    is("EN 300 468, 6.2.13.2: west_east_flag 1 is east", s.satellite.west_east_flag, 1);
+    is("DVB-S", s.satellite.polarization * 1000 + s.satellite.modulation_system * 100 + s.satellite.modulation_type * 10 + s.satellite.roll_off, 10);
+    is("FEC_inner", s.satellite.fec_inner, 3);
+    s = lohitunga_read_satellite(BYTES(0x43, 11, 0x01, 0x17, 0x57, 0x25, 0x01, 0x92, 0x99, 0x02, 0x74, 0x50, 0x03));
     is("DVB-S: the two bits of the roll-off are reserved", s.number, 0);
-    is("DVB-S: the two bits of the roll-off are reserved", s.modulation_system * 10 + s.roll_off, 0);
-    s = lohitunga_satellite(BYTES(0x43, 11, 0x01, 0x17, 0x57, 0x25, 0x01, 0x92, 0x75, 0x02, 0x74, 0x50, 0x03));
+    is("DVB-S: the two bits of the roll-off are reserved", s.satellite.modulation_system * 10 + s.satellite.roll_off, 0);
+    s = lohitunga_read_satellite(BYTES(0x43, 11, 0x01, 0x17, 0x57, 0x25, 0x01, 0x92, 0x75, 0x02, 0x74, 0x50, 0x03));
     what = "DVB-S2, west, polarization 3, roll-off 2";
     is(what, s.number, 0);
-    is(what, s.west_east_flag, 0);
-    is(what, s.polarization * 1000 + s.modulation_system * 100 + s.modulation_type * 10 + s.roll_off, 3112);
+    is(what, s.satellite.west_east_flag, 0);
+    is(what, s.satellite.polarization * 1000 + s.satellite.modulation_system * 100 + s.satellite.modulation_type * 10 + s.satellite.roll_off, 3112);
     is("a digit F of the orbital position: 63",
-       lohitunga_satellite(BYTES(0x43, 11, 0x01, 0x17, 0x57, 0x25, 0x0F, 0x92, 0x81, 0x02, 0x74, 0x50, 0x03)).number, 63);
+       lohitunga_read_satellite(BYTES(0x43, 11, 0x01, 0x17, 0x57, 0x25, 0x0F, 0x92, 0x81, 0x02, 0x74, 0x50, 0x03)).number, 63);
 
     what = "EN 300 468, 6.2.13.4: centre_frequency from 10 Hz to 42 949 672 950 Hz";
-    lohitunga_terrestrial_answer t = lohitunga_terrestrial(BYTES(0x5A, 11, 0, 0, 0, 1, 0, 0, 0, 0, 0, 0, 0));
+    lohitunga_terrestrial_answer t = lohitunga_read_terrestrial(BYTES(0x5A, 11, 0, 0, 0, 1, 0, 0, 0, 0, 0, 0, 0));
     is(what, t.number, 0);
-    is(what, (long long)lohitunga_terrestrial_hertz(t.centre_frequency), 10);
-    t = lohitunga_terrestrial(BYTES(0x5A, 11, 0xFF, 0xFF, 0xFF, 0xFF, 0, 0, 0, 0, 0, 0, 0));
-    is(what, (long long)lohitunga_terrestrial_hertz(t.centre_frequency), 42949672950LL);
-    is_terrestrial("each field apart", lohitunga_terrestrial(BYTES(0x5A, 11, 0, 0, 0, 1, 0x57, 0x9D, 0xCD, 0xFF, 0xFF, 0xFF, 0xFF)),
+    is(what, (long long)lohitunga_terrestrial_hertz(t.terrestrial.centre_frequency), 10);
+    t = lohitunga_read_terrestrial(BYTES(0x5A, 11, 0xFF, 0xFF, 0xFF, 0xFF, 0, 0, 0, 0, 0, 0, 0));
+    is(what, (long long)lohitunga_terrestrial_hertz(t.terrestrial.centre_frequency), 42949672950LL);
+    is_terrestrial("each field apart", lohitunga_read_terrestrial(BYTES(0x5A, 11, 0, 0, 0, 1, 0x57, 0x9D, 0xCD, 0xFF, 0xFF, 0xFF, 0xFF)),
                    "010 1 0 1", "10 011 101 110 01 10 1");
-    is_terrestrial("each field apart, other values", lohitunga_terrestrial(BYTES(0x5A, 11, 0xFF, 0xFF, 0xFF, 0xFF, 0xA8, 0x62, 0x32, 0, 0, 0, 0)),
+    is_terrestrial("each field apart, other values", lohitunga_read_terrestrial(BYTES(0x5A, 11, 0xFF, 0xFF, 0xFF, 0xFF, 0xA8, 0x62, 0x32, 0, 0, 0, 0)),
                    "101 0 1 0", "01 100 010 001 10 01 0");
 }
 
@@ -171,28 +172,28 @@ static void codes(void)
 {
     const char *what = "EN 300 468, 6.2.20: \"GBR\" is 0100 0111 0100 0010 0101 0010";
     lohitunga_local_time_offset_answer l =
-        lohitunga_local_time_offset(BYTES(0x58, 13, 'G', 'B', 'R', 0x02, 0, 0, 0xC0, 0x79, 0x12, 0x45, 0, 0x01, 0), 0);
+        lohitunga_read_local_time_offset(BYTES(0x58, 13, 'G', 'B', 'R', 0x02, 0, 0, 0xC0, 0x79, 0x12, 0x45, 0, 0x01, 0), 0);
     is(what, l.number, 0);
-    is(what, l.country_code, bits("0100 0111 0100 0010 0101 0010"));
-    is("an offset of 0100 ahead", l.next_time_offset, 60);
+    is(what, l.item.country_code, bits("0100 0111 0100 0010 0101 0010"));
+    is("an offset of 0100 ahead", l.item.next_time_offset, 60);
     what = "EN 300 468, 6.2.28: \"GBR\", and a rating of 0x04 is at least 7 years old: rating + 3";
-    lohitunga_parental_rating_answer r = lohitunga_parental_rating(BYTES(0x55, 4, 'G', 'B', 'R', 0x04), 0);
+    lohitunga_parental_rating_answer r = lohitunga_read_parental_rating(BYTES(0x55, 4, 'G', 'B', 'R', 0x04), 0);
     is(what, r.number, 0);
-    is(what, r.country_code, bits("0100 0111 0100 0010 0101 0010"));
-    is(what, r.rating + 3, 7);
+    is(what, r.item.country_code, bits("0100 0111 0100 0010 0101 0010"));
+    is(what, r.item.rating + 3, 7);
     what = "EN 300 468, 6.2.37: \"fre\" is 0110 0110 0111 0010 0110 0101";
-    lohitunga_short_event_answer e = lohitunga_short_event(BYTES(0x4D, 5, 'f', 'r', 'e', 0, 0));
+    lohitunga_short_event_answer e = lohitunga_read_short_event(BYTES(0x4D, 5, 'f', 'r', 'e', 0, 0));
     is(what, e.number, 0);
-    is(what, e.language_code, bits("0110 0110 0111 0010 0110 0101"));
+    is(what, e.short_event.language_code, bits("0110 0110 0111 0010 0110 0101"));
     what = "NBR 15603-2: \"BRA\" is 0100 0010 0101 0010 0100 0001";
-    r = lohitunga_parental_rating(BYTES(0x55, 8, 'G', 'B', 'R', 0x04, 'B', 'R', 'A', 0x01), 1);
-    is(what, r.country_code, bits("0100 0010 0101 0010 0100 0001"));
+    r = lohitunga_read_parental_rating(BYTES(0x55, 8, 'G', 'B', 'R', 0x04, 'B', 'R', 'A', 0x01), 1);
+    is(what, r.item.country_code, bits("0100 0010 0101 0010 0100 0001"));
     what = "NBR 15603-2: \"por\" is 0111 0000 0110 1111 0111 0010";
-    e = lohitunga_short_event(BYTES(0x4D, 5, 'p', 'o', 'r', 0, 0));
-    is(what, e.language_code, bits("0111 0000 0110 1111 0111 0010"));
+    e = lohitunga_read_short_event(BYTES(0x4D, 5, 'p', 'o', 'r', 0, 0));
+    is(what, e.short_event.language_code, bits("0111 0000 0110 1111 0111 0010"));
     what = "NBR 15603-2: service_ids 0001000000100000 and 0001000000111000";
-    is(what, lohitunga_service_list(BYTES(0x41, 6, 0x10, 0x20, 1, 0x10, 0x38, 2), 0).service_id, bits("0001000000100000"));
-    is(what, lohitunga_service_list(BYTES(0x41, 6, 0x10, 0x20, 1, 0x10, 0x38, 2), 1).service_id, bits("0001000000111000"));
+    is(what, lohitunga_read_service_list(BYTES(0x41, 6, 0x10, 0x20, 1, 0x10, 0x38, 2), 0).item.service_id, bits("0001000000100000"));
+    is(what, lohitunga_read_service_list(BYTES(0x41, 6, 0x10, 0x20, 1, 0x10, 0x38, 2), 1).item.service_id, bits("0001000000111000"));
 }
 
 /* Texts and lists: the parts, the number of items, and each way not to fit. */
@@ -206,76 +207,76 @@ static void is_text(const char *what, const uint8_t *descriptor, lohitunga_part 
 static void texts(void)
 {
     const uint8_t name[] = {0x40, 3, 'B', 'R', 'A'};
-    lohitunga_text_answer n = lohitunga_network_name(name, sizeof name);
+    lohitunga_text_answer n = lohitunga_read_network_name(name, sizeof name);
     is("network name", n.number, 0);
     is_text("network name", name, n.text, "BRA");
-    n = lohitunga_network_name(BYTES(0x40, 0));
+    n = lohitunga_read_network_name(BYTES(0x40, 0));
     is("network name of no byte", n.number + n.text.size, 0);
-    is("no byte: 61", lohitunga_network_name(name, 0).number, 61);
-    is("another tag: 61", lohitunga_network_name(BYTES(0x41, 3, 'B', 'R', 'A')).number, 61);
-    is("no length byte: 62", lohitunga_network_name(BYTES(0x40)).number, 62);
-    is("a byte behind the body: 62", lohitunga_network_name(BYTES(0x40, 2, 'B', 'R', 'A')).number, 62);
-    n = lohitunga_stuffing(BYTES(0x42, 2, 0xFF, 0x00));
+    is("no byte: 61", lohitunga_read_network_name(name, 0).number, 61);
+    is("another tag: 61", lohitunga_read_network_name(BYTES(0x41, 3, 'B', 'R', 'A')).number, 61);
+    is("no length byte: 62", lohitunga_read_network_name(BYTES(0x40)).number, 62);
+    is("a byte behind the body: 62", lohitunga_read_network_name(BYTES(0x40, 2, 'B', 'R', 'A')).number, 62);
+    n = lohitunga_read_stuffing(BYTES(0x42, 2, 0xFF, 0x00));
     is("stuffing", n.number, 0);
     is("stuffing", (long long)n.text.size, 2);
 
     const uint8_t service[] = {0x48, 9, 1, 3, 'G', 'B', 'R', 3, 'p', 'o', 'r'};
-    lohitunga_service_answer s = lohitunga_service(service, sizeof service);
+    lohitunga_service_answer s = lohitunga_read_service(service, sizeof service);
     is("service", s.number, 0);
-    is("service", s.service_type, 1);
-    is_text("service: provider", service, s.service_provider_name, "GBR");
-    is_text("service: name", service, s.service_name, "por");
-    s = lohitunga_service(BYTES(0x48, 3, 1, 0, 0));
-    is("service without names", s.number + s.service_provider_name.size + s.service_name.size, 0);
-    is("service of two bytes: 62", lohitunga_service(BYTES(0x48, 2, 1, 0)).number, 62);
+    is("service", s.service.service_type, 1);
+    is_text("service: provider", service, s.service.service_provider_name, "GBR");
+    is_text("service: name", service, s.service.service_name, "por");
+    s = lohitunga_read_service(BYTES(0x48, 3, 1, 0, 0));
+    is("service without names", s.number + s.service.service_provider_name.size + s.service.service_name.size, 0);
+    is("service of two bytes: 62", lohitunga_read_service(BYTES(0x48, 2, 1, 0)).number, 62);
 
     const uint8_t event[] = {0x4D, 11, 'p', 'o', 'r', 3, 'B', 'R', 'A', 3, 'G', 'B', 'R'};
-    lohitunga_short_event_answer e = lohitunga_short_event(event, sizeof event);
+    lohitunga_short_event_answer e = lohitunga_read_short_event(event, sizeof event);
     is("short event", e.number, 0);
-    is_text("short event: name", event, e.event_name, "BRA");
-    is_text("short event: text", event, e.text, "GBR");
-    is("a byte behind the text: 62", lohitunga_short_event(BYTES(0x4D, 6, 'f', 'r', 'e', 0, 0, 0)).number, 62);
-    is("a text longer than the body: 62", lohitunga_short_event(BYTES(0x4D, 5, 'f', 'r', 'e', 0, 1)).number, 62);
+    is_text("short event: name", event, e.short_event.event_name, "BRA");
+    is_text("short event: text", event, e.short_event.text, "GBR");
+    is("a byte behind the text: 62", lohitunga_read_short_event(BYTES(0x4D, 6, 'f', 'r', 'e', 0, 0, 0)).number, 62);
+    is("a text longer than the body: 62", lohitunga_read_short_event(BYTES(0x4D, 5, 'f', 'r', 'e', 0, 1)).number, 62);
 }
 
 static void lists(void)
 {
     const uint8_t services[] = {0x41, 6, 0x10, 0x20, 1, 0x10, 0x38, 2};
     is("service list: items", (long long)lohitunga_service_list_count(services, sizeof services).count, 2);
-    is("service list: types", lohitunga_service_list(services, sizeof services, 0).service_type, 1);
-    is("service list: types", lohitunga_service_list(services, sizeof services, 1).service_type, 2);
-    is("index past the end: 66", lohitunga_service_list(services, sizeof services, 2).number, 66);
-    is("two bytes are no item: 62", lohitunga_service_list(BYTES(0x41, 2, 0x10, 0x20), 0).number, 62);
-    is("an empty list has no item 0: 66", lohitunga_service_list(BYTES(0x41, 0), 0).number, 66);
+    is("service list: types", lohitunga_read_service_list(services, sizeof services, 0).item.service_type, 1);
+    is("service list: types", lohitunga_read_service_list(services, sizeof services, 1).item.service_type, 2);
+    is("index past the end: 66", lohitunga_read_service_list(services, sizeof services, 2).number, 66);
+    is("two bytes are no item: 62", lohitunga_read_service_list(BYTES(0x41, 2, 0x10, 0x20), 0).number, 62);
+    is("an empty list has no item 0: 66", lohitunga_read_service_list(BYTES(0x41, 0), 0).number, 66);
 
     is("content: items", (long long)lohitunga_content_count(BYTES(0x54, 2, 0x51, 0xA0)).count, 1);
-    lohitunga_content_answer c = lohitunga_content(BYTES(0x54, 2, 0x51, 0xA0), 0);
+    lohitunga_content_answer c = lohitunga_read_content(BYTES(0x54, 2, 0x51, 0xA0), 0);
     is("content", c.number, 0);
-    is("content", c.content_nibble_level_1 * 100000 + c.content_nibble_level_2 * 1000 + c.user_byte, 501160);
-    is("three bytes are no item: 62", lohitunga_content(BYTES(0x54, 3, 0x51, 0xA0, 0), 0).number, 62);
+    is("content", c.item.content_nibble_level_1 * 100000 + c.item.content_nibble_level_2 * 1000 + c.item.user_byte, 501160);
+    is("three bytes are no item: 62", lohitunga_read_content(BYTES(0x54, 3, 0x51, 0xA0, 0), 0).number, 62);
 
     is("parental rating: items", (long long)lohitunga_parental_rating_count(BYTES(0x55, 8, 'G', 'B', 'R', 4, 'B', 'R', 'A', 1)).count, 2);
-    is("parental rating", lohitunga_parental_rating(BYTES(0x55, 8, 'G', 'B', 'R', 4, 'B', 'R', 'A', 1), 1).rating, 1);
+    is("parental rating", lohitunga_read_parental_rating(BYTES(0x55, 8, 'G', 'B', 'R', 4, 'B', 'R', 'A', 1), 1).item.rating, 1);
 }
 
 static void offsets(void)
 {
     const uint8_t one[] = {0x58, 13, 'G', 'B', 'R', 0x02, 0, 0, 0xC0, 0x79, 0x12, 0x45, 0, 0x01, 0};
     is("local time offset: items", (long long)lohitunga_local_time_offset_count(one, sizeof one).count, 1);
-    lohitunga_local_time_offset_answer l = lohitunga_local_time_offset(one, sizeof one, 0);
-    is("local time offset", l.country_region_id + l.local_time_offset, 0);
-    is("local time offset: time of change", l.time_of_change.hour * 10000 + l.time_of_change.minute * 100 + l.time_of_change.second, 124500);
-    is_date("local time offset: time of change", l.time_of_change.mjd, 1993, 10, 13);
-    is("index past the end: 66", lohitunga_local_time_offset(one, sizeof one, 1).number, 66);
-    l = lohitunga_local_time_offset(BYTES(0x58, 13, 'G', 'B', 'R', 0xFF, 0, 0, 0xFF, 0xFF, 0xFF, 0xFF, 0xFF, 0x01, 0), 0);
-    is("region 63, polarity 1", l.country_region_id, 63);
-    is("region 63, polarity 1: zero is zero", l.local_time_offset, 0);
-    is("region 63, polarity 1", l.next_time_offset, -60);
-    is("region 63: undefined", l.time_of_change.undefined, 1);
+    lohitunga_local_time_offset_answer l = lohitunga_read_local_time_offset(one, sizeof one, 0);
+    is("local time offset", l.item.country_region_id + l.item.local_time_offset, 0);
+    is("local time offset: time of change", l.item.time_of_change.hour * 10000 + l.item.time_of_change.minute * 100 + l.item.time_of_change.second, 124500);
+    is_date("local time offset: time of change", l.item.time_of_change.mjd, 1993, 10, 13);
+    is("index past the end: 66", lohitunga_read_local_time_offset(one, sizeof one, 1).number, 66);
+    l = lohitunga_read_local_time_offset(BYTES(0x58, 13, 'G', 'B', 'R', 0xFF, 0, 0, 0xFF, 0xFF, 0xFF, 0xFF, 0xFF, 0x01, 0), 0);
+    is("region 63, polarity 1", l.item.country_region_id, 63);
+    is("region 63, polarity 1: zero is zero", l.item.local_time_offset, 0);
+    is("region 63, polarity 1", l.item.next_time_offset, -60);
+    is("region 63: undefined", l.item.time_of_change.undefined, 1);
     const char *what = "the first fault, left to right: offset, time of change, next offset";
-    is(what, lohitunga_local_time_offset(BYTES(0x58, 13, 'G', 'B', 'R', 0x02, 0, 0x60, 0, 0, 0x12, 0x45, 0, 0x01, 0x0A), 0).number, 64);
-    is(what, lohitunga_local_time_offset(BYTES(0x58, 13, 'G', 'B', 'R', 0x02, 0, 0, 0, 0, 0x12, 0x45, 0, 0x01, 0x0A), 0).number, 65);
-    is(what, lohitunga_local_time_offset(BYTES(0x58, 13, 'G', 'B', 'R', 0x02, 0, 0, 0xC0, 0x79, 0x12, 0x45, 0, 0x01, 0x0A), 0).number, 63);
+    is(what, lohitunga_read_local_time_offset(BYTES(0x58, 13, 'G', 'B', 'R', 0x02, 0, 0x60, 0, 0, 0x12, 0x45, 0, 0x01, 0x0A), 0).number, 64);
+    is(what, lohitunga_read_local_time_offset(BYTES(0x58, 13, 'G', 'B', 'R', 0x02, 0, 0, 0, 0, 0x12, 0x45, 0, 0x01, 0x0A), 0).number, 65);
+    is(what, lohitunga_read_local_time_offset(BYTES(0x58, 13, 'G', 'B', 'R', 0x02, 0, 0, 0xC0, 0x79, 0x12, 0x45, 0, 0x01, 0x0A), 0).number, 63);
 }
 
 /* Sections */

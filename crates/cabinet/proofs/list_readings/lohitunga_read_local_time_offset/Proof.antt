@@ -1,0 +1,45 @@
+-- The item, or the refusal.
+use borrow.Author.Needs.{needs}
+use Rattle.cabinet.proofs.list_readings.lohitunga_read_local_time_offset.Statement.{statement}
+use Rattle.cabinet.proofs.list_readings.lohitunga_read_local_time_offset.Tie as tie
+
+read-requires : tie.Need-read-requires
+read-requires c κs = search needs
+
+enum-known-item : tie.Need-enum-known-item
+enum-known-item c = search needs
+
+local-time-offset-of-requires : tie.Need-local-time-offset-of-requires
+local-time-offset-of-requires c κs = search needs
+
+enum-known-why : tie.Need-enum-known-why
+enum-known-why c = search needs
+
+of-refusal-requires : tie.Need-of-refusal-requires
+of-refusal-requires c κs = search needs
+
+no-local-time-offset-requires : tie.Need-no-local-time-offset-requires
+no-local-time-offset-requires c κs = search needs
+
+returns : tie.Need-returns
+returns c =
+    let is = c .before .before in
+    rw (← is .before .before .read .ensures, is .item .given .1, c .local-time-offset-of .ensures)
+
+returns-2 : tie.Need-returns-2
+returns-2 c =
+    let refused = c .before .before .before in
+    rw (← refused .before .before .read .ensures, refused .why .given .1, c .before .of-refusal .ensures, c .no-local-time-offset .ensures)
+
+pub lohitunga-read-local-time-offset-spec : {M : Type 1} → statement M
+lohitunga-read-local-time-offset-spec =
+    tie.close
+    (tie.spec
+    read-requires
+    enum-known-item
+    local-time-offset-of-requires
+    enum-known-why
+    of-refusal-requires
+    no-local-time-offset-requires
+    returns
+    returns-2)

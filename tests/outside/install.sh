@@ -1,0 +1,50 @@
+#!/bin/sh
+# The library as a user of C gets it: installed, and out of the tar file, with the header's own first program against the static and the shared library.
+set -eu
+cd "$(dirname "$0")/../.."
+. tools/x86-64
+compiler
+emulator
+need make make
+need pkg-config pkgconf
+room=$(mktemp -d)
+trap 'rm -rf "$room"' EXIT
+quiet() { "$@" >"$room/log" 2>&1 || { cat "$room/log"; exit 1; }; }
+
+quiet make install PREFIX="$room/usr"
+quiet make dist
+version=$(sed -n 's/^#define LOHITUNGA_VERSION "\(.*\)"$/\1/p' include/lohitunga.h)
+interface=$(sed -n 's/^#define LOHITUNGA_INTERFACE //p' include/lohitunga.h)
+tar xzf "target/lohitunga-$version-x86_64-linux.tar.gz" -C "$room"
+
+# the program at the head of the header, as it stands there
+sed -n '/^ \*     #include/,/^ \*     }$/s/^ \*     //p' include/lohitunga.h >"$room/first.c"
+lines=$(wc -l <"$room/first.c")
+[ "$lines" -ge 8 ] || { echo "install: the header's first program has $lines lines"; exit 1; }
+# samples/services.py packs four, three and two whole sections, and one that loses a packet
+sections=9
+
+says() { # WHAT WORDS: the program says how many sections the shipped stream has
+    what=$1
+    shift
+    "$@" <samples/services.ts >"$room/said" || { echo "install: $what: the program fails"; exit 1; }
+    grep -q "^$sections sections of " "$room/said" || { echo "install: $what: the program says $(cat "$room/said")"; exit 1; }
+}
+for place in "$room/usr" "$room/lohitunga-$version-x86_64-linux"; do
+    # nothing of this folder and no kit: the user has the installed files alone
+    asked() { (cd / && env -i PATH=/usr/bin:/bin PKG_CONFIG_PATH="$place/lib/pkgconfig" pkg-config "$@" lohitunga); }
+    [ "$(asked --modversion)" = "$version" ] || { echo "install: pkg-config says $(asked --modversion)"; exit 1; }
+    $cc -std=c99 -Wall -Wextra -Werror -pedantic $static $(asked --cflags) "$room/first.c" "$(asked --variable=libdir)/liblohitunga.a" -o "$room/static"
+    says "static, $place" $before "$room/static"
+    $cc -std=c99 -Wall -Wextra -Werror -pedantic $(asked --cflags) "$room/first.c" $(asked --libs) -o "$room/shared"
+    $objdump -p "$room/shared" | grep -q "NEEDED *liblohitunga.so.$interface\$" || { echo "install: the program does not name liblohitunga.so.$interface"; exit 1; }
+    # where programs are emulated there is no C library to share
+    [ -n "$static" ] || says "shared, $place" env LD_LIBRARY_PATH="$place/lib" "$room/shared"
+done
+[ -e "$room/usr/share/doc/lohitunga/LICENSE" ] || { echo "install: no LICENSE among the documents"; exit 1; }
+
+# the shared library has the header's calls and no other name
+grep -o '^[a-z].* \**lohitunga_[a-z0-9_]*(' include/lohitunga.h | sed 's/.*\(lohitunga_[a-z0-9_]*\)($/\1/' | sort >"$room/declared"
+"${objdump%objdump}nm" -D --defined-only "$room/usr/lib/liblohitunga.so" | sed 's/.* //' | sort >"$room/exported"
+cmp -s "$room/declared" "$room/exported" || { echo "install: declared and exported differ:"; diff "$room/declared" "$room/exported"; exit 1; }
+echo "install: the header's first program, $lines lines, runs with the installed library and with that of the tar file, static and shared"
