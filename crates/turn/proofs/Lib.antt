@@ -5,6 +5,7 @@ pub mod Contained
 pub mod AllOnes
 pub mod SheetSize
 pub mod RoundTrips
+pub mod MadeOnes
 pub mod PieceLaws
 pub mod HeadLaws
 pub mod CountLaws
