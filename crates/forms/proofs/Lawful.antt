@@ -59,6 +59,10 @@ pub record Lawful {A : Type 0} (c : Form A) : Type 0 where
 pub read-on : {A B : Type 0} {x : Reading A} {a : A} (f : A → Reading B) → x ≡ value a → (x >>= f) ≡ f a
 read-on f e = ap (λ y. y >>= f) e
 
+-- a refusal stays
+pub stays : {A B : Type 0} {x : Reading A} {k : ℕ} (f : A → Reading B) → x ≡ refused k → (x >>= f) ≡ refused k
+stays f e = ap (λ y. y >>= f) e
+
 -- ---- one by one
 
 pub mute-lawful : {A : Type 0} (v : A) → Lawful (mute v)

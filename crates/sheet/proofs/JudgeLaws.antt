@@ -16,14 +16,13 @@ use Rattle.wire.specs.Reading.{value, refused, _>>=_}
 use Rattle.tables.specs.Tables.{cell, rowOf, rowAt}
 use Rattle.forms.specs.Form.{rawRead, raw, suchRead}
 use Rattle.forms.specs.Room.{sum}
-use Rattle.forms.proofs.Lawful.{read-on}
+use Rattle.forms.proofs.Lawful.{read-on, stays}
 use Rattle.forms.proofs.Puts.{sum-fits, sum-past}
 use Rattle.sheet.specs.Content.{Content}
 use Rattle.sheet.specs.Sheet.{behindId, sheetRead, sheetOf, sheet}
 use Rattle.sheet.specs.Section.{sectionLength, readSheet}
 use Rattle.sheet.specs.Reads.{judgedSheet, Ends, cut, gain, countAt, spare, lengthBy, judgedLength, Known}
 use Rattle.sheet.proofs.SheetLaws.{sheet-lawful}
-use Rattle.sheet.proofs.ReadLaws.{stays}
 use Rattle.sheet.proofs.Sizes.{section-spare}
 
 -- ---- the table_id
@@ -46,7 +45,7 @@ module _ (a : ℕ) (t : List ℕ) where
   unfolding suchRead
   id-read h = read-on _ one-byte ∙ rw (lt-ltb (rowOf a) 6 h)
 
-  known-id : rowOf a < 6 → sheetRead (a ∷ t) ≡ (behindId (rowOf a) .read t >>= λ c. value ((a, c .0), c .1))
+  pub known-id : rowOf a < 6 → sheetRead (a ∷ t) ≡ (behindId (rowOf a) .read t >>= λ c. value ((a, c .0), c .1))
   unfolding sheetRead
   known-id h = read-on _ (id-read h)
 

@@ -2,4 +2,6 @@ pub mod SheetLaws
 pub mod ReadLaws
 pub mod Sizes
 pub mod JudgeLaws
+pub mod SectionSize
+pub mod Exactly
 pub mod Once

@@ -16,7 +16,7 @@ use Rattle.tables.specs.Tables.{cell, rowAt}
 use Rattle.forms.specs.Form.{Form, mute, rawRead, raw, bothRead, _then_, suchRead, such, eachRead, each}
 use Rattle.forms.specs.Fields.{kept, reserved, belowRead, below, sheetField, sheetFields}
 use Rattle.forms.specs.Lists.{timesRead, times, countedRead, counted}
-use Rattle.forms.proofs.Lawful.{read-on}
+use Rattle.forms.proofs.Lawful.{read-on, stays}
 use Rattle.sheet.specs.Content.{Item, plain, numbers, version, flags, filler, bare, frame, common, headOf, entryOf, sideOf, Entries}
 use Rattle.sheet.specs.Sheet.{inOrder, sheetItem, descriptorRead, descriptor, sheetLoop, sheetTop, sheetEntries}
 use Rattle.sheet.specs.Reads.{Reads, Onward, Follows, Common, entryBy, sideBy, entryWith, topBy}
@@ -24,10 +24,6 @@ use Rattle.sheet.specs.declared.End.{End}
 use Rattle.sheet.specs.declared.End.the-variants.{At, EndsEarly, TooWide}
 
 -- ---- one behind the other
-
--- a refusal stays
-pub stays : {A B : Type 0} {x : Reading A} {k : ℕ} (f : A → Reading B) → x ≡ refused k → (x >>= f) ≡ refused k
-stays f e = ap (λ y. y >>= f) e
 
 -- h reads what c reads, and then what d reads
 module _ {A B C : Type 0} (c : Form A) (d : Form B) (h : Form C) (g : A → B → C)

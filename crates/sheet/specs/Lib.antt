@@ -3,3 +3,4 @@ pub mod Content
 pub mod Sheet
 pub mod Section
 pub mod Reads
+pub mod Faults
