@@ -21,7 +21,9 @@ use Rattle.forms.proofs.Puts.{sum-fits, sum-past}
 use Rattle.sheet.specs.Content.{Content}
 use Rattle.sheet.specs.Sheet.{behindId, sheetRead, sheetOf, sheet}
 use Rattle.sheet.specs.Section.{sectionLength, readSheet}
-use Rattle.sheet.specs.Reads.{judgedSheet, Ends, cut, gain, countAt, spare, lengthBy, judgedLength, Known}
+use Rattle.sheet.specs.Reads.{judgedSheet}
+use Rattle.sheet.specs.Inner.Places.{Ends, Known}
+use Rattle.sheet.specs.Inner.Lengths.{cut, gain, countAt, spare, lengthBy, judgedLength}
 use Rattle.sheet.proofs.SheetLaws.{sheet-lawful}
 use Rattle.sheet.proofs.Sizes.{section-spare}
 

@@ -19,7 +19,7 @@ use Rattle.forms.specs.Lists.{timesRead, times, countedRead, counted}
 use Rattle.forms.proofs.Lawful.{read-on, stays}
 use Rattle.sheet.specs.Content.{Item, plain, numbers, version, flags, filler, bare, frame, common, headOf, entryOf, sideOf, Entries}
 use Rattle.sheet.specs.Sheet.{inOrder, sheetItem, descriptorRead, descriptor, sheetLoop, sheetTop, sheetEntries}
-use Rattle.sheet.specs.Reads.{Reads, Onward, Follows, Common, entryBy, sideBy, entryWith, topBy}
+use Rattle.sheet.specs.Inner.Places.{Reads, Onward, Follows, Common, entryBy, sideBy, entryWith, topBy}
 use Rattle.sheet.specs.declared.End.{End}
 use Rattle.sheet.specs.declared.End.the-variants.{At, EndsEarly, TooWide}
 

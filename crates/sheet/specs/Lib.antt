@@ -4,3 +4,4 @@ pub mod Sheet
 pub mod Section
 pub mod Reads
 pub mod Faults
+pub mod Inner

@@ -24,6 +24,7 @@ use Rattle.sheet.specs.Content.{Item, plain, numbers, packed, bare, status, fra
 use Rattle.sheet.specs.Sheet.{inOrder, descriptor}
 use Rattle.sheet.specs.Section.{sectionItem, sectionLoop, sectionEntry, sectionTop, sectionEntries, sectionBody, bodyBytes, sectionLength, front, seal, sectionOf, middle, contentOf}
 use Rattle.sheet.proofs.SheetLaws.{descriptor-complete}
+use Rattle.sheet.proofs.SectionSize.{second, front-is, front-length, seal-length, section-length}
 
 -- ---- each part is read as it is shown
 
@@ -186,29 +187,6 @@ no-top row l e = rw e refl
 
 -- ---- what a section holds is read from it again
 
-pub seal-length : (c : Content) → rowIn c < 6 → length (seal c) ≡ 4 * rowAt (rowIn c) .crc
-unfolding seal
-seal-length c k = go (eqb (rowAt (rowIn c) .crc) 1) refl
-  where
-    zero-or : (x : ℕ) → x ≤ 1 → eqb x 1 ≡ false → x ≡ 0
-    zero-or zero h f = refl
-    zero-or (suc zero) h f = let y : _≡_ {A = ℕ} 0 1 = cc in absurd (omega arith)
-    zero-or (suc (suc x)) h f = absurd (omega arith)
-
-    go : (b : Bool) → eqb (rowAt (rowIn c) .crc) 1 ≡ b → length (if b then bytesOf (crc (front c)) else []) ≡ 4 * rowAt (rowIn c) .crc
-    go true e = let h = eqb-true (rowAt (rowIn c) .crc) 1 e in omega arith
-    go false e = let h = zero-or (rowAt (rowIn c) .crc) (numbers-of (rowIn c) k .crc-bit) e in omega arith
-
-abbrev pub second : Content → ℕ
-second c = rowAt (rowIn c) .syntax * 128 + pack frame (frameOf c) * 16 + sectionLength c / 256
-
-pub front-is : (c : Content) → front c ≡ tableOf c ∷ second c ∷ (sectionLength c % 256) ∷ bodyBytes c
-unfolding front
-front-is c = refl
-
-pub front-length : (c : Content) → length (front c) ≡ 3 + length (bodyBytes c)
-front-length c = ap length (front-is c) ∙ omega arith
-
 -- its first two bytes
 pub first-byte : (c : Content) → getD (sectionOf c) 0 0 ≡ tableOf c
 unfolding sectionOf
@@ -221,14 +199,6 @@ second-byte c = ap (λ x. getD (x ++ seal c) 1 0) (front-is c)
 pub third-byte : (c : Content) → getD (sectionOf c) 2 0 ≡ sectionLength c % 256
 unfolding sectionOf
 third-byte c = ap (λ x. getD (x ++ seal c) 2 0) (front-is c)
-
-pub section-length : (c : Content) → Holds c → length (sectionOf c) ≡ 3 + sectionLength c
-unfolding sectionOf sectionLength
-section-length c h =
-    let a = length-append (front c) (seal c) in
-    let b = front-length c in
-    let d = seal-length c (h .known) in
-    omega arith
 
 pub frame-lt : (c : Content) → Holds c → pack frame (frameOf c) < 8
 unfolding room
