@@ -16,4 +16,5 @@ pub mod BodyLaws
 pub mod WholeLaws
 pub mod Once
 pub mod Demand2
+pub mod Refusals
 pub mod AtWork

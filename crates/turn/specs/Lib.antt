@@ -3,4 +3,5 @@ pub mod Turn
 pub mod Ones
 pub mod Answers
 pub mod Demand2
+pub mod Refusals
 pub mod Inner
