@@ -4,4 +4,5 @@ pub mod Sizes
 pub mod JudgeLaws
 pub mod SectionSize
 pub mod Exactly
+pub mod Limits
 pub mod Once

@@ -4,4 +4,5 @@ pub mod Sheet
 pub mod Section
 pub mod Reads
 pub mod Faults
+pub mod Limits
 pub mod Inner

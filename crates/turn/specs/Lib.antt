@@ -4,4 +4,5 @@ pub mod Ones
 pub mod Answers
 pub mod Demand2
 pub mod Refusals
+pub mod AtWork
 pub mod Inner
