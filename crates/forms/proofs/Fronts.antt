@@ -9,13 +9,13 @@ use borrow.Author.Tests.{lt-leb, le-ltb}
 use lib.ListN.{length, take, drop, replicate, length-append, length-replicate, take-append-drop}
 use lib.Pow.{pow-pos}
 use lib.Seq.{length-take-le}
-use Rattle.wire.specs.If.{if_then_else_}
 use Rattle.wire.specs.Bytes.{Bytes}
 use Rattle.wire.specs.Reading.{value, refused, _>>=_}
 use Rattle.forms.specs.Form.{Form, mute, rawRead, raw, bothRead, _then_, eachRead, eachShow, EachOk, each}
 use Rattle.forms.specs.Fields.{Field, kept, reserved, belowRead, below, sheetField, sheetFields}
-use Rattle.forms.specs.Lists.{timesRead, all, All, none, one, times, countedRead, countedShow, counted}
-use Rattle.forms.proofs.Lawful.{Lawful, Complete, read-on, stays, raw-read, bytes-behind}
+use Rattle.forms.specs.Lists.{timesRead, all, none, one, times, countedRead, countedShow, counted}
+use Rattle.forms.specs.Laws.{Lawful, Complete}
+use Rattle.forms.proofs.Lawful.{read-on, stays, raw-read, bytes-behind}
 use Rattle.forms.proofs.FieldLaws.{field-lawful}
 
 -- a whole value and what follows it; the beginning of a value, which u ends; or bytes that are refused, whatever follows
@@ -32,7 +32,8 @@ pub record Seen {A : Type 0} (c : Form A) : Type 0 where
 -- h reads and shows what c does, and then what d does
 module _ {A B C : Type 0} (c : Form A) (d : Form B) (h : Form C) (g : A → B → C)
     (by : (s : List ℕ) → h .read s ≡ (c .read s >>= λ a. d .read (a .1) >>= λ b. value (g (a .0) (b .0), b .1)))
-    (shows : (a : A) (b : B) → h .show (g a b) ≡ c .show a ++ d .show b) (ok : (a : A) (b : B) → c .Ok a → d .Ok b → h .Ok (g a b))
+    (shows : (a : A) (b : B) → h .show (g a b) ≡ c .show a ++ d .show b)
+    (ok : (a : A) (b : B) → c .Ok a → d .Ok b → h .Ok (g a b))
     (complete : Complete c) (first : Seen c) (second : Seen d) where
   both-view : (s : List ℕ) → Bytes s → View h s
   both-view s w = front (first .view s w)
@@ -40,22 +41,32 @@ module _ {A B C : Type 0} (c : Form A) (d : Form B) (h : Form C) (g : A → B �
       behind : (a : A) (r : List ℕ) → c .Ok a → s ≡ c .show a ++ r → View d r → View h s
       behind a r o e (whole b t p q) =
           whole (g a b) t (ok a b o p)
-          (e ∙ ap (λ x. c .show a ++ x) q ∙ sym (append-assoc (c .show a) (d .show b) t) ∙ ap (λ x. x ++ t) (sym (shows a b)))
+          (e ∙ ap (λ x. c .show a ++ x) q
+          ∙ sym (append-assoc (c .show a) (d .show b) t)
+          ∙ ap (λ x. x ++ t) (sym (shows a b)))
       behind a r o e (early b u p q n) =
-          early (g a b) u (ok a b o p) (ap (λ x. x ++ u) e ∙ append-assoc (c .show a) r u ∙ ap (λ x. c .show a ++ x) q ∙ sym (shows a b))
+          early (g a b) u (ok a b o p)
+          (ap (λ x. x ++ u) e ∙ append-assoc (c .show a) r u ∙ ap (λ x. c .show a ++ x) q ∙ sym (shows a b))
           (ap (h .read) e ∙ by (c .show a ++ r) ∙ read-on _ (complete a r o) ∙ stays _ n)
       behind a r o e (wide f) =
-          wide (λ u. ap (h .read) (ap (λ x. x ++ u) e ∙ append-assoc (c .show a) r u) ∙ by (c .show a ++ (r ++ u)) ∙ read-on _ (complete a (r ++ u) o) ∙ stays _ (f u))
+          wide (λ u. ap (h .read) (ap (λ x. x ++ u) e ∙ append-assoc (c .show a) r u)
+          ∙ by (c .show a ++ (r ++ u))
+          ∙ read-on _ (complete a (r ++ u) o)
+          ∙ stays _ (f u))
 
       front : View c s → View h s
       front (whole a r o e) = behind a r o e (second .view r (bytes-behind (c .show a) r e w))
       front (early a u o e n) =
           let b = second .some .0 in
-          early (g a b) (u ++ d .show b) (ok a b o (second .some .1)) (sym (append-assoc s u (d .show b)) ∙ ap (λ x. x ++ d .show b) e ∙ sym (shows a b)) (by s ∙ stays _ n)
+          early (g a b) (u ++ d .show b) (ok a b o (second .some .1))
+          (sym (append-assoc s u (d .show b)) ∙ ap (λ x. x ++ d .show b) e ∙ sym (shows a b)) (by s ∙ stays _ n)
       front (wide f) = wide (λ u. by (s ++ u) ∙ stays _ (f u))
 
   both-seen : Seen h
-  both-seen = record { some = (g (first .some .0) (second .some .0), ok _ _ (first .some .1) (second .some .1)); view = both-view }
+  both-seen = record {
+    some = (g (first .some .0) (second .some .0), ok _ _ (first .some .1) (second .some .1));
+    view = both-view;
+  }
 
 pub then-seen : {A B : Type 0} {c : Form A} {d : Form B} → Complete c → Seen c → Seen d → Seen (c then d)
 unfolding bothRead
@@ -85,7 +96,8 @@ below-seen n p = record { some = (0, p); view = λ s w. go s }
   where
     tested : (b : ℕ) (r : List ℕ) → Dec (b < n) → View (below n) (b ∷ r)
     tested b r (yes h) = whole b r h refl
-    tested b r (no h) = let i : n ≤ b = omega arith in wide (λ u. read-on _ (raw-read 1 (b ∷ []) (r ++ u) refl) ∙ rw (le-ltb b n i))
+    tested b r (no h) =
+        let i : n ≤ b = omega arith in wide (λ u. read-on _ (raw-read 1 (b ∷ []) (r ++ u) refl) ∙ rw (le-ltb b n i))
 
     go : (s : List ℕ) → View (below n) s
     go [] = early 0 (0 ∷ []) p refl (stays _ (raw-short 1 [] (omega arith)))
@@ -99,7 +111,9 @@ module _ {X A : Type 0} (f : X → Form A) (l : (x : X) → Lawful (f x)) (v : (
   pub each-seen : (xs : List X) → Seen (each f xs)
   unfolding eachRead eachShow EachOk
   each-seen [] = record { some = ([], tt); view = λ s w. whole [] s tt refl }
-  each-seen (x ∷ xs) = both-seen (f x) (each f xs) (each f (x ∷ xs)) (λ a m. a ∷ m) (λ s. refl) (λ a m. refl) (λ a m o p. (o, p)) (l x .complete) (v x) (each-seen xs)
+  each-seen (x ∷ xs) =
+      both-seen (f x) (each f xs) (each f (x ∷ xs)) (λ a m. a ∷ m) (λ s. refl) (λ a m. refl) (λ a m o p. (o, p))
+      (l x .complete) (v x) (each-seen xs)
 
 pub fields-seen : (fs : List Field) → Seen (sheetFields fs)
 fields-seen = each-seen sheetField field-lawful field-seen
@@ -108,7 +122,9 @@ module _ {A : Type 0} (c : Form A) (l : Lawful c) (v : Seen c) where
   times-seen : (k : ℕ) → Seen (times c k)
   unfolding timesRead all
   times-seen zero = record { some = ([], (refl, none)); view = λ s w. whole [] s (refl, none) refl }
-  times-seen (suc k) = both-seen c (times c k) (times c (suc k)) (λ a m. a ∷ m) (λ s. refl) (λ a m. refl) (λ a m o p. (ap suc (p .0), one o (p .1))) (l .complete) v (times-seen k)
+  times-seen (suc k) =
+      both-seen c (times c k) (times c (suc k)) (λ a m. a ∷ m) (λ s. refl) (λ a m. refl)
+      (λ a m o p. (ap suc (p .0), one o (p .1))) (l .complete) v (times-seen k)
 
   -- the number of the items stands in two bytes
   shown : (i j : ℕ) (m : List A) → length m ≡ i * 256 + j → j < 256 → countedShow c m ≡ i ∷ j ∷ all c m
@@ -120,12 +136,15 @@ module _ {A : Type 0} (c : Form A) (l : Lawful c) (v : Seen c) where
 
   counted-view : (s : List ℕ) → Bytes s → View (counted c) s
   unfolding countedRead all
-  counted-view [] w = early [] (0 ∷ 0 ∷ []) (omega arith, none) (sym (shown 0 0 [] refl (omega arith))) (stays _ (raw-short 2 [] (omega arith)))
+  counted-view [] w =
+      early [] (0 ∷ 0 ∷ []) (omega arith, none) (sym (shown 0 0 [] refl (omega arith)))
+      (stays _ (raw-short 2 [] (omega arith)))
   counted-view (b ∷ []) w =
       let m = times-seen (b * 256) .some in
       let h = w 0 in
       let n : length (m .0) ≡ b * 256 + 0 = m .1 .0 ∙ omega arith in
-      early (m .0) (0 ∷ all c (m .0)) (omega arith, m .1 .1) (sym (shown b 0 (m .0) n (omega arith))) (stays _ (raw-short 2 (b ∷ []) (omega arith)))
+      early (m .0) (0 ∷ all c (m .0)) (omega arith, m .1 .1) (sym (shown b 0 (m .0) n (omega arith)))
+      (stays _ (raw-short 2 (b ∷ []) (omega arith)))
   counted-view (i ∷ j ∷ r) w = go (times-seen (i * 256 + j) .view r (λ n. w (suc (suc n))))
     where
       go : View (times c (i * 256 + j)) r → View (counted c) (i ∷ j ∷ r)
@@ -138,7 +157,8 @@ module _ {A : Type 0} (c : Form A) (l : Lawful c) (v : Seen c) where
           let h = w 0 in
           let k = w 1 in
           let z = o .0 in
-          early m u (omega arith, o .1) (ap (λ x. i ∷ j ∷ x) e ∙ sym (shown i j m (o .0) k)) (read-on _ (raw-read 2 (i ∷ j ∷ []) r refl) ∙ n)
+          early m u (omega arith, o .1) (ap (λ x. i ∷ j ∷ x) e ∙ sym (shown i j m (o .0) k))
+          (read-on _ (raw-read 2 (i ∷ j ∷ []) r refl) ∙ n)
       go (wide f) = wide (λ u. read-on _ (raw-read 2 (i ∷ j ∷ []) (r ++ u) refl) ∙ f u)
 
   pub counted-seen : Seen (counted c)

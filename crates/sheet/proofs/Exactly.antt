@@ -1,5 +1,5 @@
 -- Refusals 22 to 26 exactly if: whatever bytes a sheet has, one of document 01's sentences is true of them, and it is the one that the judge says.
-use Prim.Native.Nat.{ℕ, zero, suc, _+_, _<_, _≤_}
+use Prim.Native.Nat.{ℕ, suc, _+_, _<_, _≤_}
 use mathlib.Core.Path.{_≡_, refl, sym, ap, _∙_, subst}
 use mathlib.Core.Logic.{_⊎_, inl, inr}
 use mathlib.Core.Bool.{Bool, true, false}
@@ -15,9 +15,8 @@ use Rattle.wire.specs.Reading.{value, refused, _>>=_}
 use Rattle.wire.proofs.ReadingLaws.{value-is, refused-is, never}
 use Rattle.tables.specs.Tables.{holds, first, rowOf, rowAt, InRow}
 use Rattle.tables.proofs.RowLaws.{row-in, row-below}
-use Rattle.forms.specs.Form.{Form, mute, raw, suchRead, such, each}
-use Rattle.forms.specs.Fields.{Field, sheetFields}
-use Rattle.forms.specs.Lists.{counted}
+use Rattle.forms.specs.Form.{Form, raw, suchRead, such, each}
+use Rattle.forms.specs.Fields.{Field}
 use Rattle.forms.proofs.Lawful.{read-on, stays, raw-read}
 use Rattle.forms.proofs.FieldLaws.{fields-lawful}
 use Rattle.forms.proofs.Fronts.{View, whole, early, wide, Seen, then-seen, mute-seen, raw-short, raw-seen, each-seen, fields-seen, counted-seen}
@@ -27,7 +26,7 @@ use Rattle.sheet.specs.Section.{sectionLength, sectionOf, readSheet}
 use Rattle.sheet.specs.Reads.{judgedSheet}
 use Rattle.sheet.specs.Faults as faults
 use Rattle.sheet.specs.Faults.{SheetFault, AcceptedSheet, RefusedExactlyIf, AcceptedExactlyIf}
-use Rattle.sheet.proofs.SheetLaws.{item-lawful, items-lawful, descriptor-lawful, loop-lawful, entry-lawful, top-lawful, sheet-lawful}
+use Rattle.sheet.proofs.SheetLaws.{item-lawful, items-lawful, descriptor-lawful, entry-lawful, top-lawful, sheet-lawful}
 use Rattle.sheet.proofs.SectionSize.{section-length}
 use Rattle.sheet.proofs.JudgeLaws.{judged-unknown, known-id}
 
@@ -45,7 +44,8 @@ numbers-seen = record { some = (0 ∷ 0 ∷ [], (refl, refl)); view = λ s w. go
 
     go : (s : List ℕ) → View (such (raw 2) 24 inOrder) s
     go [] = early (0 ∷ 0 ∷ []) (0 ∷ 0 ∷ []) (refl, refl) refl (stays _ (raw-short 2 [] (omega arith)))
-    go (i ∷ []) = early (i ∷ i ∷ []) (i ∷ []) (refl, le-leb i i (omega arith)) refl (stays _ (raw-short 2 (i ∷ []) (omega arith)))
+    go (i ∷ []) =
+        early (i ∷ i ∷ []) (i ∷ []) (refl, le-leb i i (omega arith)) refl (stays _ (raw-short 2 (i ∷ []) (omega arith)))
     go (i ∷ j ∷ r) = tested i j r (decLe i j)
 
 item-seen : (x : Item) → Seen (sheetItem x)
@@ -61,22 +61,27 @@ unfolding descriptorRead
 descriptor-seen = record { some = (record { tag = 0; body = [] }, omega arith); view = go }
   where
     go : (s : List ℕ) → Bytes s → View descriptor s
-    go [] w = early (record { tag = 0; body = [] }) (0 ∷ 0 ∷ []) (omega arith) refl (stays _ (raw-short 2 [] (omega arith)))
-    go (t ∷ []) w = early (record { tag = t; body = [] }) (0 ∷ []) (omega arith) refl (stays _ (raw-short 2 (t ∷ []) (omega arith)))
+    go [] w =
+        early (record { tag = 0; body = [] }) (0 ∷ 0 ∷ []) (omega arith) refl (stays _ (raw-short 2 [] (omega arith)))
+    go (t ∷ []) w =
+        early (record { tag = t; body = [] }) (0 ∷ []) (omega arith) refl (stays _ (raw-short 2 (t ∷ []) (omega arith)))
     go (t ∷ n ∷ r) w = behind (raw-seen n .view r (λ i. w (suc (suc i))))
       where
         behind : View (raw n) r → View descriptor (t ∷ n ∷ r)
         behind (whole b u o e) =
             let h = w 1 in
-            whole (record { tag = t; body = b }) u (omega (arith, o)) (ap (λ x. t ∷ n ∷ x) e ∙ ap (λ k. t ∷ k ∷ (b ++ u)) (sym o))
+            whole (record { tag = t; body = b }) u (omega (arith, o))
+            (ap (λ x. t ∷ n ∷ x) e ∙ ap (λ k. t ∷ k ∷ (b ++ u)) (sym o))
         behind (early b u o e f) =
             let h = w 1 in
-            early (record { tag = t; body = b }) u (omega (arith, o)) (ap (λ x. t ∷ n ∷ x) e ∙ ap (λ k. t ∷ k ∷ b) (sym o))
+            early (record { tag = t; body = b }) u (omega (arith, o))
+            (ap (λ x. t ∷ n ∷ x) e ∙ ap (λ k. t ∷ k ∷ b) (sym o))
             (read-on _ (raw-read 2 (t ∷ n ∷ []) r refl) ∙ stays _ f)
         behind (wide f) = wide (λ u. read-on _ (raw-read 2 (t ∷ n ∷ []) (r ++ u) refl) ∙ stays _ (f u))
 
 loop-seen : (fs : List Field) → Seen (sheetLoop fs)
-loop-seen fs = then-seen (fields-lawful fs .complete) (fields-seen fs) (counted-seen descriptor descriptor-lawful descriptor-seen)
+loop-seen fs =
+    then-seen (fields-lawful fs .complete) (fields-seen fs) (counted-seen descriptor descriptor-lawful descriptor-seen)
 
 entry-seen : (row : ℕ) → Seen (sheetEntry row)
 entry-seen row = then-seen (items-lawful (entryOf row) .complete) (items-seen (entryOf row)) (loop-seen (sideOf row))
@@ -93,12 +98,14 @@ entries-seen : (row : ℕ) → Seen (sheetEntries row)
 unfolding sheetEntries
 entries-seen row =
     if-seen (eqb (rowAt row .fixed) 0) (mute-seen ([], []))
-    (then-seen (fields-lawful _ .complete) (fields-seen (if eqb (rowAt row .top) 1 then bare else [])) (counted-seen (sheetEntry row) (entry-lawful row) (entry-seen row)))
+    (then-seen (fields-lawful _ .complete) (fields-seen (if eqb (rowAt row .top) 1 then bare else []))
+    (counted-seen (sheetEntry row) (entry-lawful row) (entry-seen row)))
 
 behind-seen : (row : ℕ) → Seen (behindId row)
 behind-seen row =
     then-seen (fields-lawful frame .complete) (fields-seen frame)
-    (then-seen (items-lawful (headOf row) .complete) (items-seen (headOf row)) (then-seen (top-lawful row .complete) (top-seen row) (entries-seen row)))
+    (then-seen (items-lawful (headOf row) .complete) (items-seen (headOf row))
+    (then-seen (top-lawful row .complete) (top-seen row) (entries-seen row)))
 
 -- ---- the whole sheet
 
@@ -113,7 +120,8 @@ nothing : Front []
 unfolding sheetOf SheetOk sheetRead suchRead rowOf first holds
 nothing =
     let b = behind-seen (rowOf 0x70) .some in
-    begun (0x70, b .0) (0x70 ∷ behindId (rowOf 0x70) .show (b .0)) (omega arith, b .1) refl (stays _ (stays _ (raw-short 1 [] (omega arith))))
+    begun (0x70, b .0) (0x70 ∷ behindId (rowOf 0x70) .show (b .0)) (omega arith, b .1) refl
+    (stays _ (stays _ (raw-short 1 [] (omega arith))))
 
 known-front : (a : ℕ) (t : List ℕ) → rowOf a < 6 → View (behindId (rowOf a)) t → Front (a ∷ t)
 unfolding sheetOf SheetOk
@@ -165,13 +173,19 @@ no-row id h i k g = let l = row-below id i k g in omega arith
 -- the judge's word, and that it is true
 module _ (s : List ℕ) (w : Bytes s) where
   abbrev Said : Type 0
-  Said = ((n : ℕ) × (judgedSheet s ≡ value n) × AcceptedSheet s n) ⊎ ((k : ℕ) × (judgedSheet s ≡ refused k) × SheetFault s k)
+  Said = ((n : ℕ) × (judgedSheet s ≡ value n) × AcceptedSheet s n)
+      ⊎ ((k : ℕ) × (judgedSheet s ≡ refused k) × SheetFault s k)
 
   said : Said
   said = go (front s w)
     where
       alone : (c : Content) → SheetOk c → s ≡ sheetOf c → Dec (sectionLength c ≤ rowAt (rowIn c) .most) → Said
-      alone c o e (yes h) = inl (sectionLength c, fits-so s c o e h, record { content = c; ok = o; is = e; size = size-so s c o; most = h })
+      alone c o e (yes h) =
+          inl (
+            sectionLength c,
+            fits-so s c o e h,
+            record { content = c; ok = o; is = e; size = size-so s c o; most = h },
+          )
       alone c o e (no h) =
           let n = size-so s c o in
           inr (26, long-so s c o e (omega arith), faults.long c o e (omega arith))
@@ -189,11 +203,16 @@ module _ (s : List ℕ) (w : Bytes s) where
       go (begun c u o e f) = missing c u o e f
       go (unknown-id h k) = inr (23, judged-unknown s h k, faults.unknown h (no-row (getD s 0 0) k))
       go (too-wide h k f) =
-          inr (24, refused-so s 24 (ap sheetRead (sym (append-nil s)) ∙ f []), faults.wide (rowOf (getD s 0 0)) h k (row-in (getD s 0 0) k)
-          (λ c more rest o e. never (sym (read-so (s ++ more) c o rest e) ∙ f more)))
+          inr (
+            24,
+            refused-so s 24 (ap sheetRead (sym (append-nil s)) ∙ f []),
+            faults.wide (rowOf (getD s 0 0)) h k (row-in (getD s 0 0) k)
+                (λ c more rest o e. never (sym (read-so (s ++ more) c o rest e) ∙ f more)),
+          )
 
   -- two of the sentences are not true of the same bytes
-  begins : (c : Content) (missing : List ℕ) → SheetOk c → s ++ missing ≡ sheetOf c → 0 < length s → getD s 0 0 ≡ tableOf c
+  begins : (c : Content) (missing : List ℕ) → SheetOk c → s ++ missing ≡ sheetOf c → 0 < length s
+      → getD s 0 0 ≡ tableOf c
   unfolding sheetOf
   begins c u o e h = go s h e
     where
@@ -210,7 +229,8 @@ module _ (s : List ℕ) (w : Bytes s) where
 
       go : Front s → judgedSheet s ≡ refused 22
       go (whole-sheet d r p q) =
-          let x : sheetRead (s ++ u) ≡ value (d, r ++ u) = read-so (s ++ u) d p (r ++ u) (ap (λ y. y ++ u) q ∙ append-assoc (sheetOf d) r u) in
+          let x : sheetRead (s ++ u) ≡ value (d, r ++ u) =
+          read-so (s ++ u) d p (r ++ u) (ap (λ y. y ++ u) q ∙ append-assoc (sheetOf d) r u) in
           let z : _≡_ {A = Content × List ℕ} (d, r ++ u) (c, []) = value-is (sym x ∙ read) in
           let n : length (r ++ u) ≡ 0 = ap (λ (y : Content × List ℕ). length (y .1)) z in
           let m = length-append r u in
@@ -219,7 +239,9 @@ module _ (s : List ℕ) (w : Bytes s) where
       go (unknown-id k l) = let t = begins c u o e k in let i = o .0 in absurd (omega (arith, ap rowOf t))
       go (too-wide k l f) = absurd (never (sym read ∙ f u))
 
-  wide-so : 0 < length s → rowOf (getD s 0 0) < 6 → ((c : Content) (more rest : List ℕ) → SheetOk c → s ++ more ≡ sheetOf c ++ rest → ⊥) → judgedSheet s ≡ refused 24
+  wide-so : 0 < length s → rowOf (getD s 0 0) < 6
+      → ((c : Content) (more rest : List ℕ) → SheetOk c → s ++ more ≡ sheetOf c ++ rest → ⊥)
+      → judgedSheet s ≡ refused 24
   wide-so h k f = go (front s w)
     where
       go : Front s → judgedSheet s ≡ refused 24

@@ -11,10 +11,22 @@ use Rattle.sheet.specs.Reads.{judgedSheet}
 use Rattle.sheet.specs.Limits.{Limits}
 
 pub limits : Limits
-unfolding judgedSheet readSheet sheetRead rawRead bothRead suchRead eachRead eachShow belowRead timesRead countedRead descriptorRead all loopShow room pack headOf entryOf sideOf sheetTop sheetEntries sectionTop sectionEntries sectionLength cell holds first rowOf
+unfolding judgedSheet readSheet sheetRead rawRead bothRead suchRead eachRead eachShow belowRead timesRead countedRead
+    descriptorRead all loopShow room pack headOf entryOf sideOf sheetTop sheetEntries sectionTop sectionEntries
+    sectionLength cell holds first rowOf
 limits = record {
-  service = record { greatest = refl; version = refl; current = refl; number = refl; schedule = refl; following = refl; running-status = refl; free-ca-mode = refl };
-  event = record { greatest = refl; version = refl; current = refl; number = refl; running-status = refl; free-ca-mode = refl };
+  service = record {
+    greatest = refl;
+    version = refl;
+    current = refl;
+    number = refl;
+    schedule = refl;
+    following = refl;
+    running-status = refl;
+    free-ca-mode = refl;
+  };
+  event = record
+      { greatest = refl; version = refl; current = refl; number = refl; running-status = refl; free-ca-mode = refl };
   network = record { greatest = refl; version = refl; current = refl; number = refl };
   bouquet = record { greatest = refl; version = refl; current = refl; number = refl };
   services = record { whole = refl; less = refl; more = refl };

@@ -30,7 +30,8 @@ pub seal-length : (c : Content) → rowIn c < 6 → length (seal c) ≡ 4 * rowA
 unfolding seal
 seal-length c k = go (eqb (rowAt (rowIn c) .crc) 1) refl
   where
-    go : (b : Bool) → eqb (rowAt (rowIn c) .crc) 1 ≡ b → length (if b then bytesOf (crc (front c)) else []) ≡ 4 * rowAt (rowIn c) .crc
+    go : (b : Bool) → eqb (rowAt (rowIn c) .crc) 1 ≡ b
+        → length (if b then bytesOf (crc (front c)) else []) ≡ 4 * rowAt (rowIn c) .crc
     go true e = let h = eqb-true (rowAt (rowIn c) .crc) 1 e in omega arith
     go false e = let h = shape (rowIn c) k .bare (eqb-false _ _ e) .0 in omega arith
 

@@ -1,11 +1,10 @@
 -- The six tables of `specs/AtWork`: each section is computed from its sheet, CRC_32 and all; the rest is demand 2's.
-use Prim.Native.Nat.{ℕ, zero, suc, _<_}
+use Prim.Native.Nat.{ℕ, zero, suc}
 use mathlib.Core.Path.{_≡_, refl}
 use mathlib.Core.Bool.{Bool, true, false, _&&_}
 use mathlib.Core.List.{List, [], _∷_}
 use native.Mathlib.Omega.{arith}
 use borrow.Author.Tests.{ltb-true}
-use lib.ListN.{getD}
 use lib.Dec.{ltb}
 use Rattle.wire.specs.Bytes.{Bytes}
 use Rattle.crc.specs.Crc.{feed, feedBits, feedBytes, crc}
@@ -43,33 +42,30 @@ both-ways s t b e =
     let x = sheet-and-back 4096 5120 s t w (omega arith) e in
     record { forth = e; is-accepted = x .0; ones = made-ones 4096 s t w e; back = x .1 }
 
-nit : BothWays nitSheet nitSection
-unfolding small toSection readSheet sheetRead rawRead bothRead suchRead eachRead eachShow belowRead timesRead countedRead descriptorRead all loopShow room pack headOf entryOf sideOf sheetTop sheetEntries sectionTop sectionEntries sectionLength front seal sectionOf feed feedBits feedBytes crc cell holds first rowOf
-nit = both-ways nitSheet nitSection refl refl
-
-sdt : BothWays sdtSheet sdtSection
-unfolding small toSection readSheet sheetRead rawRead bothRead suchRead eachRead eachShow belowRead timesRead countedRead descriptorRead all loopShow room pack headOf entryOf sideOf sheetTop sheetEntries sectionTop sectionEntries sectionLength front seal sectionOf feed feedBits feedBytes crc cell holds first rowOf
-sdt = both-ways sdtSheet sdtSection refl refl
-
-bat : BothWays batSheet batSection
-unfolding small toSection readSheet sheetRead rawRead bothRead suchRead eachRead eachShow belowRead timesRead countedRead descriptorRead all loopShow room pack headOf entryOf sideOf sheetTop sheetEntries sectionTop sectionEntries sectionLength front seal sectionOf feed feedBits feedBytes crc cell holds first rowOf
-bat = both-ways batSheet batSection refl refl
-
-eit : BothWays eitSheet eitSection
-unfolding small toSection readSheet sheetRead rawRead bothRead suchRead eachRead eachShow belowRead timesRead countedRead descriptorRead all loopShow room pack headOf entryOf sideOf sheetTop sheetEntries sectionTop sectionEntries sectionLength front seal sectionOf feed feedBits feedBytes crc cell holds first rowOf
-eit = both-ways eitSheet eitSection refl refl
-
-tdt : BothWays tdtSheet tdtSection
-unfolding small toSection readSheet sheetRead rawRead bothRead suchRead eachRead eachShow belowRead timesRead countedRead descriptorRead all loopShow room pack headOf entryOf sideOf sheetTop sheetEntries sectionTop sectionEntries sectionLength front seal sectionOf feed feedBits feedBytes crc cell holds first rowOf
-tdt = both-ways tdtSheet tdtSection refl refl
-
-tot : BothWays totSheet totSection
-unfolding small toSection readSheet sheetRead rawRead bothRead suchRead eachRead eachShow belowRead timesRead countedRead descriptorRead all loopShow room pack headOf entryOf sideOf sheetTop sheetEntries sectionTop sectionEntries sectionLength front seal sectionOf feed feedBits feedBytes crc cell holds first rowOf
-tot = both-ways totSheet totSection refl refl
+-- the CRC_32 is computed bit by bit
+made :
+    (toSection 4096 nitSheet ≡ gives nitSection) × (toSection 4096 sdtSheet ≡ gives sdtSection)
+    × (toSection 4096 batSheet ≡ gives batSection)
+    × (toSection 4096 eitSheet ≡ gives eitSection) × (toSection 4096 tdtSheet ≡ gives tdtSection)
+    × (toSection 4096 totSheet ≡ gives totSection)
+unfolding toSection readSheet sheetRead rawRead bothRead suchRead eachRead eachShow belowRead timesRead countedRead
+    descriptorRead all loopShow room pack headOf entryOf sideOf sheetTop sheetEntries sectionTop sectionEntries
+    sectionLength front seal sectionOf feed feedBits feedBytes crc cell holds first rowOf
+made = (refl, refl, refl, refl, refl, refl)
 
 pub all-six : AllSix
-all-six = record { nit = nit; sdt = sdt; bat = bat; eit = eit; tdt = tdt; tot = tot }
+unfolding small
+all-six = record {
+  nit = both-ways nitSheet nitSection refl (made .0);
+  sdt = both-ways sdtSheet sdtSection refl (made .1);
+  bat = both-ways batSheet batSection refl (made .2);
+  eit = both-ways eitSheet eitSection refl (made .3);
+  tdt = both-ways tdtSheet tdtSection refl (made .4);
+  tot = both-ways totSheet totSection refl (made .5);
+}
 
 pub unseen : Unseen
-unfolding toSheet contentOf judged read opening header wrongSyntax lengthOutside sizeDiffers crcFails aboveLast inside topped section.plain _andThen_ sheetOf rawRead bothRead suchRead eachRead eachShow room unpack headOf sheetTop sheetEntries sectionTop sectionEntries cell holds first rowOf
+unfolding toSheet contentOf judged read opening header wrongSyntax lengthOutside sizeDiffers crcFails aboveLast inside
+    topped section.plain _andThen_ sheetOf rawRead bothRead suchRead eachRead eachShow room unpack headOf sheetTop
+    sheetEntries sectionTop sectionEntries cell holds first rowOf
 unseen = refl

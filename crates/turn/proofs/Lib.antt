@@ -17,4 +17,5 @@ pub mod WholeLaws
 pub mod Once
 pub mod Demand2
 pub mod Refusals
+pub mod Rooms
 pub mod AtWork

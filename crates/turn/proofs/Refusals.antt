@@ -6,7 +6,6 @@ use native.Mathlib.Omega.{arith}
 use native.Mathlib.Decide.{decLt}
 use borrow.Author.Tests.{lt-ltb, le-ltb}
 use lib.ListN.{length}
-use Rattle.wire.specs.If.{if_then_else_}
 use Rattle.wire.specs.Bytes.{Bytes}
 use Rattle.wire.specs.Reading as reading
 use Rattle.verdict.specs.Verdict as verdict
@@ -39,7 +38,7 @@ told-is e = (cc, cc)
 wrote-is : {m n : ℕ} → wrote m ≡ wrote n → m ≡ n
 wrote-is e = cc
 
-not-both : {n k q : ℕ} → wrote n ≡ refused k q → ⊥
+pub not-both : {n k q : ℕ} → wrote n ≡ refused k q → ⊥
 not-both e = let z : _≡_ {A = ℕ} 0 1 = cc in omega arith
 
 -- ---- the numbers of the refusals
@@ -104,7 +103,9 @@ section-said n s w = go (decLt n 4096)
         let l = section-length (x .content) (held s (x .content) w (x .reads) .holds .known) in
         let i : length (sectionOf (x .content)) ≡ 3 + m = l ∙ ap (λ y. 3 + y) (sym (x .length-is)) in
         made (ap answer (x .gives) ∙ ap wrote i) h (sheets.accepted-exactly-if s w m .0 e)
-    read h (reading.refused k) e = refusal (ap answer (section-refused n s k h e)) (refusals.SectionRefusal.faulty h (sheets.refused-exactly-if s w k .0 e))
+    read h (reading.refused k) e =
+        refusal (ap answer (section-refused n s k h e))
+        (refusals.SectionRefusal.faulty h (sheets.refused-exactly-if s w k .0 e))
 
     go : Dec (n < 4096) → SectionSaid n s (answer (toSection n s))
     go (yes h) = refusal (ap answer (section-small n s h)) (refusals.SectionRefusal.small h)
@@ -112,10 +113,14 @@ section-said n s w = go (decLt n 4096)
 
 section-refusal-told : (n : ℕ) (s : List ℕ) → Bytes s → {k q : ℕ} → SectionRefusal n s k q → toSection n s ≡ refuses k q
 section-refusal-told n s w (refusals.SectionRefusal.small h) = section-small n s h
-section-refusal-told n s w (refusals.SectionRefusal.faulty {k = k} h f) = section-refused n s k h (sheets.refused-exactly-if s w k .1 f)
+section-refusal-told n s w (refusals.SectionRefusal.faulty {k = k} h f) =
+    section-refused n s k h (sheets.refused-exactly-if s w k .1 f)
 
 pub section-refused-exactly-if : SectionRefusedExactlyIf
-section-refused-exactly-if s o o' r w p k q = (λ e. go (section-said (length o) s w) (sym (p .0) ∙ e), λ x. p .0 ∙ ap answer (section-refusal-told (length o) s w x))
+section-refused-exactly-if s o o' r w p k q = (
+  λ e. go (section-said (length o) s w) (sym (p .0) ∙ e),
+  λ x. p .0 ∙ ap answer (section-refusal-told (length o) s w x),
+)
   where
     go : {t : Told} → SectionSaid (length o) s t → t ≡ refused k q → SectionRefusal (length o) s k q
     go (refusal {q = place} f x) e =
@@ -126,7 +131,8 @@ section-refused-exactly-if s o o' r w p k q = (λ e. go (section-said (length o)
 pub section-made-exactly-if : SectionMadeExactlyIf
 section-made-exactly-if s o o' r w p m = (λ e. go (section-said (length o) s w) (sym (p .0) ∙ ap toldSection e), back)
   where
-    go : {t : Told} → SectionSaid (length o) s t → t ≡ wrote m → (4096 ≤ length o) × ((n : ℕ) × AcceptedSheet s n × (m ≡ 3 + n))
+    go : {t : Told} → SectionSaid (length o) s t → t ≡ wrote m
+        → (4096 ≤ length o) × ((n : ℕ) × AcceptedSheet s n × (m ≡ 3 + n))
     go (refusal f x) e = absurd (not-both (sym e ∙ f))
     go (made {m = n} f h a) e = (h, (n, a, wrote-is (sym e ∙ f)))
 
@@ -139,8 +145,10 @@ section-made-exactly-if s o o' r w p m = (λ e. go (section-said (length o) s w)
         section-once r (section.Wrote m) (p .0 ∙ ap answer (x .gives) ∙ ap wrote i)
 
 pub section-room-first : SectionRoomFirst
-section-room-first s o o' r w p =
-    (λ e. go (section-refused-exactly-if s o o' r w p 21 0 .0 (ap toldSection e)), λ h. section-once r section.Room (p .0 ∙ ap answer (section-small (length o) s h)))
+section-room-first s o o' r w p = (
+  λ e. go (section-refused-exactly-if s o o' r w p 21 0 .0 (ap toldSection e)),
+  λ h. section-once r section.Room (p .0 ∙ ap answer (section-small (length o) s h)),
+)
   where
     go : SectionRefusal (length o) s 21 0 → length o < 4096
     go (refusals.SectionRefusal.small h) = h
@@ -165,7 +173,8 @@ sheet-said n s = go (decLt n 5120)
   where
     read : 5120 ≤ n → (x : verdict.Said) → judged s ≡ x → SheetSaid n s (answer (sheetIf x (sheetFrom (contentOf s))))
     read h verdict.accepted e = SheetSaid.made refl h e
-    read h (verdict.refused k q) e = SheetSaid.refusal refl (refusals.SheetRefusal.faulty h (judging.refused-exactly-if s k q .0 e))
+    read h (verdict.refused k q) e =
+        SheetSaid.refusal refl (refusals.SheetRefusal.faulty h (judging.refused-exactly-if s k q .0 e))
 
     go : Dec (n < 5120) → SheetSaid n s (answer (toSheet n s))
     go (yes h) = SheetSaid.refusal (ap answer (sheet-small n s h)) (refusals.SheetRefusal.small h)
@@ -179,7 +188,10 @@ sheet-refusal-told n s (refusals.SheetRefusal.faulty {k = k} {q = q} h f) =
     sheet-large n s h ∙ ap (λ x. sheetIf x (sheetFrom (contentOf s))) (judging.refused-exactly-if s k q .1 f)
 
 pub sheet-refused-exactly-if : SheetRefusedExactlyIf
-sheet-refused-exactly-if s o o' r w p k q = (λ e. go (sheet-said (length o) s) (sym (p .0) ∙ e), λ x. p .0 ∙ ap answer (sheet-refusal-told (length o) s x))
+sheet-refused-exactly-if s o o' r w p k q = (
+  λ e. go (sheet-said (length o) s) (sym (p .0) ∙ e),
+  λ x. p .0 ∙ ap answer (sheet-refusal-told (length o) s x),
+)
   where
     go : {t : Told} → SheetSaid (length o) s t → t ≡ refused k q → SheetRefusal (length o) s k q
     go (SheetSaid.refusal {q = place} f x) e =
@@ -190,7 +202,8 @@ sheet-refused-exactly-if s o o' r w p k q = (λ e. go (sheet-said (length o) s) 
 pub sheet-made-exactly-if : SheetMadeExactlyIf
 sheet-made-exactly-if s o o' r w p = (λ x. go (sheet-said (length o) s) (sym (p .0) ∙ ap toldSheet (x .1)), back)
   where
-    go : {t : Told} {n : ℕ} → SheetSaid (length o) s t → t ≡ wrote n → (5120 ≤ length o) × ((loops : List (List Placed)) × Section s loops)
+    go : {t : Told} {n : ℕ} → SheetSaid (length o) s t → t ≡ wrote n
+        → (5120 ≤ length o) × ((loops : List (List Placed)) × Section s loops)
     go (SheetSaid.refusal f x) e = absurd (not-both (sym e ∙ f))
     go (SheetSaid.made f h a) e = (h, judging.accepted-exactly-if s .0 a)
 
@@ -200,8 +213,10 @@ sheet-made-exactly-if s o o' r w p = (λ x. go (sheet-said (length o) s) (sym (p
         (_, sheet-once r (sheet.Wrote _) (p .0 ∙ ap answer (y .gives)))
 
 pub sheet-room-first : SheetRoomFirst
-sheet-room-first s o o' r w p =
-    (λ e. go (sheet-refused-exactly-if s o o' r w p 21 0 .0 (ap toldSheet e)), λ h. sheet-once r sheet.Room (p .0 ∙ ap answer (sheet-small (length o) s h)))
+sheet-room-first s o o' r w p = (
+  λ e. go (sheet-refused-exactly-if s o o' r w p 21 0 .0 (ap toldSheet e)),
+  λ h. sheet-once r sheet.Room (p .0 ∙ ap answer (sheet-small (length o) s h)),
+)
   where
     go : SheetRefusal (length o) s 21 0 → length o < 5120
     go (refusals.SheetRefusal.small h) = h
