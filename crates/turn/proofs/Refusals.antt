@@ -4,7 +4,7 @@ use mathlib.Core.Path.{_≡_, refl, sym, ap, _∙_, subst}
 use mathlib.Core.List.{List}
 use native.Mathlib.Omega.{arith}
 use native.Mathlib.Decide.{decLt}
-use borrow.Author.Tests.{lt-ltb, le-ltb}
+use borrow.Author.Tests.{le-ltb}
 use lib.ListN.{length}
 use Rattle.wire.specs.Bytes.{Bytes}
 use Rattle.wire.specs.Reading as reading
@@ -27,7 +27,7 @@ use Rattle.turn.specs.Answers.{toldSection, toldSheet}
 use Rattle.turn.specs.Refusals as refusals
 use Rattle.turn.specs.Refusals.{SectionRefusal, SheetRefusal, SectionRefusedExactlyIf, SectionMadeExactlyIf, SheetRefusedExactlyIf, SheetMadeExactlyIf, SectionRoomFirst, SheetRoomFirst}
 use Rattle.turn.proofs.Held.{held}
-use Rattle.turn.proofs.WholeLaws.{section-refused, section-made, sheet-made}
+use Rattle.turn.proofs.WholeLaws.{section-no-room, section-refused, section-made, sheet-no-room, sheet-made}
 use Rattle.turn.proofs.Once.{section-once, sheet-once}
 use Rattle.turn.specs.declared.SectionAnswer.the-variants as section
 use Rattle.turn.specs.declared.SheetAnswer.the-variants as sheet
@@ -90,10 +90,6 @@ data SectionSaid (n : ℕ) (s : List ℕ) (t : Told) : Type 0 where
   refusal : {k q : ℕ} → t ≡ refused k q → SectionRefusal n s k q → SectionSaid n s t
   made : {m : ℕ} → t ≡ wrote (3 + m) → 4096 ≤ n → AcceptedSheet s m → SectionSaid n s t
 
-section-small : (n : ℕ) (s : List ℕ) → n < 4096 → toSection n s ≡ refuses 21 0
-unfolding toSection
-section-small n s h = rw (lt-ltb n 4096 h)
-
 section-said : (n : ℕ) (s : List ℕ) → Bytes s → SectionSaid n s (answer (toSection n s))
 section-said n s w = go (decLt n 4096)
   where
@@ -108,11 +104,11 @@ section-said n s w = go (decLt n 4096)
         (refusals.SectionRefusal.faulty h (sheets.refused-exactly-if s w k .0 e))
 
     go : Dec (n < 4096) → SectionSaid n s (answer (toSection n s))
-    go (yes h) = refusal (ap answer (section-small n s h)) (refusals.SectionRefusal.small h)
+    go (yes h) = refusal (ap answer (section-no-room n s h)) (refusals.SectionRefusal.small h)
     go (no h) = read (omega arith) (judgedSheet s) refl
 
 section-refusal-told : (n : ℕ) (s : List ℕ) → Bytes s → {k q : ℕ} → SectionRefusal n s k q → toSection n s ≡ refuses k q
-section-refusal-told n s w (refusals.SectionRefusal.small h) = section-small n s h
+section-refusal-told n s w (refusals.SectionRefusal.small h) = section-no-room n s h
 section-refusal-told n s w (refusals.SectionRefusal.faulty {k = k} h f) =
     section-refused n s k h (sheets.refused-exactly-if s w k .1 f)
 
@@ -147,7 +143,7 @@ section-made-exactly-if s o o' r w p m = (λ e. go (section-said (length o) s w)
 pub section-room-first : SectionRoomFirst
 section-room-first s o o' r w p = (
   λ e. go (section-refused-exactly-if s o o' r w p 21 0 .0 (ap toldSection e)),
-  λ h. section-once r section.Room (p .0 ∙ ap answer (section-small (length o) s h)),
+  λ h. section-once r section.Room (p .0 ∙ ap answer (section-no-room (length o) s h)),
 )
   where
     go : SectionRefusal (length o) s 21 0 → length o < 4096
@@ -159,10 +155,6 @@ section-room-first s o o' r w p = (
 data SheetSaid (n : ℕ) (s : List ℕ) (t : Told) : Type 0 where
   refusal : {k q : ℕ} → t ≡ refused k q → SheetRefusal n s k q → SheetSaid n s t
   made : {m : ℕ} → t ≡ wrote m → 5120 ≤ n → judged s ≡ verdict.accepted → SheetSaid n s t
-
-sheet-small : (n : ℕ) (s : List ℕ) → n < 5120 → toSheet n s ≡ refuses 21 0
-unfolding toSheet
-sheet-small n s h = rw (lt-ltb n 5120 h)
 
 sheet-large : (n : ℕ) (s : List ℕ) → 5120 ≤ n → toSheet n s ≡ sheetIf (judged s) (sheetFrom (contentOf s))
 unfolding toSheet
@@ -177,13 +169,13 @@ sheet-said n s = go (decLt n 5120)
         SheetSaid.refusal refl (refusals.SheetRefusal.faulty h (judging.refused-exactly-if s k q .0 e))
 
     go : Dec (n < 5120) → SheetSaid n s (answer (toSheet n s))
-    go (yes h) = SheetSaid.refusal (ap answer (sheet-small n s h)) (refusals.SheetRefusal.small h)
+    go (yes h) = SheetSaid.refusal (ap answer (sheet-no-room n s h)) (refusals.SheetRefusal.small h)
     go (no h) =
         let k : 5120 ≤ n = omega arith in
         subst (λ x. SheetSaid n s (answer x)) (sym (sheet-large n s k)) (read k (judged s) refl)
 
 sheet-refusal-told : (n : ℕ) (s : List ℕ) {k q : ℕ} → SheetRefusal n s k q → toSheet n s ≡ refuses k q
-sheet-refusal-told n s (refusals.SheetRefusal.small h) = sheet-small n s h
+sheet-refusal-told n s (refusals.SheetRefusal.small h) = sheet-no-room n s h
 sheet-refusal-told n s (refusals.SheetRefusal.faulty {k = k} {q = q} h f) =
     sheet-large n s h ∙ ap (λ x. sheetIf x (sheetFrom (contentOf s))) (judging.refused-exactly-if s k q .1 f)
 
@@ -215,7 +207,7 @@ sheet-made-exactly-if s o o' r w p = (λ x. go (sheet-said (length o) s) (sym (p
 pub sheet-room-first : SheetRoomFirst
 sheet-room-first s o o' r w p = (
   λ e. go (sheet-refused-exactly-if s o o' r w p 21 0 .0 (ap toldSheet e)),
-  λ h. sheet-once r sheet.Room (p .0 ∙ ap answer (sheet-small (length o) s h)),
+  λ h. sheet-once r sheet.Room (p .0 ∙ ap answer (sheet-no-room (length o) s h)),
 )
   where
     go : SheetRefusal (length o) s 21 0 → length o < 5120
