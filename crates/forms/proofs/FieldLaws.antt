@@ -16,7 +16,8 @@ use Rattle.wire.proofs.ReadingLaws.{value-is, never, through}
 use Rattle.wire.proofs.IfLaws.{if-case}
 use Rattle.forms.specs.Form.{Front, Form, rawRead, EachOk}
 use Rattle.forms.specs.Fields.{Field, kept, reserved, width, belowRead, below, sheetField, sheetFields, room, pack, unpack, Fit, byteRead, byteOf}
-use Rattle.forms.proofs.Lawful.{Lawful, Sound, Complete, read-on, mute-lawful, raw-read, raw-shown, one-of, each-lawful, each-ok}
+use Rattle.forms.specs.Laws.{Lawful, Sound, Complete}
+use Rattle.forms.proofs.Lawful.{read-on, mute-lawful, raw-read, raw-shown, one-of, each-lawful, each-ok}
 
 -- ---- one byte read
 

@@ -1,19 +1,19 @@
 -- The two laws of a form, and the forms that carry them: what is read is what is shown, and what is shown is read.
 use Prim.{tt}
-use Prim.Native.Nat.{ℕ, zero, suc, _+_, _≤_, _<_}
+use Prim.Native.Nat.{ℕ, zero, suc, _+_, _<_}
 use mathlib.Core.Path.{_≡_, refl, sym, ap, ap₂, _∙_, subst}
 use mathlib.Core.List.{List, [], _∷_, _++_, append-assoc}
-use mathlib.Core.Bool.{Bool, true, false}
+use mathlib.Core.Bool.{Bool, true}
 use native.Mathlib.Omega.{arith}
 use borrow.Author.Tests.{leb-true, le-leb}
 use lib.ListN.{length, getD, take, drop, length-append, take-append-drop}
 use lib.Seq.{take-at, drop-at, getD-append-add, length-take-le}
 use lib.Dec.{leb}
-use Rattle.wire.specs.If.{if_then_else_}
 use Rattle.wire.specs.Bytes.{Bytes}
 use Rattle.wire.specs.Reading.{Reading, value, refused, _>>=_}
 use Rattle.wire.proofs.ReadingLaws.{value-is, never, through}
 use Rattle.wire.proofs.IfLaws.{if-case}
+use Rattle.forms.specs.Laws.{Complete, Sound, Lawful}
 use Rattle.forms.specs.Form.{Front, Form, mute, rawRead, raw, bothRead, _then_, suchRead, such, eachRead, eachShow, EachOk, each}
 
 -- ---- lists of bytes
@@ -41,23 +41,15 @@ bytes-front x r e h = go x (subst Bytes e h)
     go (a ∷ x) h zero = h 0
     go (a ∷ x) h (suc i) = go x (λ j. h (suc j)) i
 
--- ---- the laws
-
--- what is shown is read
-abbrev pub Complete : {A : Type 0} → Form A → Type 0
-Complete c = (a : _) (r : List ℕ) → c .Ok a → c .read (c .show a ++ r) ≡ value (a, r)
-
--- what is read is what is shown
-abbrev pub Sound : {A : Type 0} → Form A → Type 0
-Sound c = (s : List ℕ) (a : _) (r : List ℕ) → Bytes s → c .read s ≡ value (a, r) → (s ≡ c .show a ++ r) × c .Ok a
-
-pub record Lawful {A : Type 0} (c : Form A) : Type 0 where
-  pub sound : Sound c
-  pub complete : Complete c
+-- ---- readings
 
 -- a reading that goes on with what was read
 pub read-on : {A B : Type 0} {x : Reading A} {a : A} (f : A → Reading B) → x ≡ value a → (x >>= f) ≡ f a
 read-on f e = ap (λ y. y >>= f) e
+
+-- a refusal stays
+pub stays : {A B : Type 0} {x : Reading A} {k : ℕ} (f : A → Reading B) → x ≡ refused k → (x >>= f) ≡ refused k
+stays f e = ap (λ y. y >>= f) e
 
 -- ---- one by one
 
@@ -71,7 +63,8 @@ mute-lawful {A} v = record {
 
 pub raw-read : (n : ℕ) (a r : List ℕ) → length a ≡ n → rawRead n (a ++ r) ≡ value (a, r)
 unfolding rawRead
-raw-read n a r e = let l = length-append a r in simp (le-leb n (length (a ++ r)) (omega arith), take-at a r n e, drop-at a r n e)
+raw-read n a r e =
+    let l = length-append a r in simp (le-leb n (length (a ++ r)) (omega arith), take-at a r n e, drop-at a r n e)
 
 pub raw-shown : (n : ℕ) (s a r : List ℕ) → rawRead n s ≡ value (a, r) → (s ≡ a ++ r) × (length a ≡ n)
 unfolding rawRead
@@ -110,11 +103,18 @@ module _ {A B : Type 0} (c : Form A) (d : Form B) where
       let k = f s a r w (x .1) in
       let l = g r b u (bytes-behind (c .show a) r (k .0) w) (y .1) in
       let q : _≡_ {A = (A × B) × List ℕ} ((a, b), u) (p, t) = value-is (y .2) in
-      let h : s ≡ (c .show a ++ d .show b) ++ u = k .0 ∙ ap (λ m. c .show a ++ m) (l .0) ∙ sym (append-assoc (c .show a) (d .show b) u) in
-      subst (λ (z : (A × B) × List ℕ). (s ≡ (c .show (z .0 .0) ++ d .show (z .0 .1)) ++ z .1) × (c .Ok (z .0 .0) × d .Ok (z .0 .1))) q (h, (k .1, l .1))
+      let h : s ≡ (c .show a ++ d .show b) ++ u =
+      k .0 ∙ ap (λ m. c .show a ++ m) (l .0) ∙ sym (append-assoc (c .show a) (d .show b) u) in
+      subst
+      (λ (z : (A × B) × List ℕ). (s ≡ (c .show (z .0 .0) ++ d .show (z .0 .1)) ++ z .1)
+      × (c .Ok (z .0 .0) × d .Ok (z .0 .1)))
+      q (h, (k .1, l .1))
 
   pub then-lawful : Lawful c → Lawful d → Lawful (c then d)
-  then-lawful f g = record { sound = then-sound (f .sound) (g .sound); complete = then-complete (f .complete) (g .complete) }
+  then-lawful f g = record {
+    sound = then-sound (f .sound) (g .sound);
+    complete = then-complete (f .complete) (g .complete);
+  }
 
 module _ {A : Type 0} (c : Form A) (k : ℕ) (test : A → Bool) where
   pub such-complete : Complete c → Complete (such c k test)
@@ -167,14 +167,20 @@ module _ {X A : Type 0} (f : X → Form A) where
       let p = h x s a r w (y .1) in
       let v = each-sound h xs r m u (bytes-behind (f x .show a) r (p .0) w) (z .1) in
       let q : _≡_ {A = List A × List ℕ} (a ∷ m, u) (l, t) = value-is (z .2) in
-      let g : s ≡ (f x .show a ++ eachShow f xs m) ++ u = p .0 ∙ ap (λ j. f x .show a ++ j) (v .0) ∙ sym (append-assoc (f x .show a) (eachShow f xs m) u) in
-      subst (λ (z : List A × List ℕ). (s ≡ eachShow f (x ∷ xs) (z .0) ++ z .1) × EachOk f (x ∷ xs) (z .0)) q (g, (p .1, v .1))
+      let g : s ≡ (f x .show a ++ eachShow f xs m) ++ u =
+      p .0 ∙ ap (λ j. f x .show a ++ j) (v .0) ∙ sym (append-assoc (f x .show a) (eachShow f xs m) u) in
+      subst (λ (z : List A × List ℕ). (s ≡ eachShow f (x ∷ xs) (z .0) ++ z .1) × EachOk f (x ∷ xs) (z .0)) q
+      (g, (p .1, v .1))
 
   pub each-lawful : ((x : X) → Lawful (f x)) → (xs : List X) → Lawful (each f xs)
-  each-lawful h xs = record { sound = each-sound (λ x. h x .sound) xs; complete = each-complete (λ x. h x .complete) xs }
+  each-lawful h xs = record {
+    sound = each-sound (λ x. h x .sound) xs;
+    complete = each-complete (λ x. h x .complete) xs;
+  }
 
 -- what is right in one form of each value is right in another
-pub each-ok : {X A : Type 0} (f g : X → Form A) → ((x : X) (a : A) → f x .Ok a → g x .Ok a) → (xs : List X) (l : List A) → EachOk f xs l → EachOk g xs l
+pub each-ok : {X A : Type 0} (f g : X → Form A) → ((x : X) (a : A) → f x .Ok a → g x .Ok a) → (xs : List X) (l : List A)
+    → EachOk f xs l → EachOk g xs l
 unfolding EachOk
 each-ok f g h [] [] o = tt
 each-ok f g h [] (a ∷ l) o = absurd o

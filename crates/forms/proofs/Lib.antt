@@ -2,4 +2,5 @@ pub mod Puts
 pub mod Lawful
 pub mod FieldLaws
 pub mod ListLaws
+pub mod Fronts
 pub mod Turns

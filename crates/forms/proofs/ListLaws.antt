@@ -11,7 +11,8 @@ use Rattle.wire.proofs.ReadingLaws.{value-is, never, through}
 use Rattle.forms.specs.Form.{Front, Form, rawRead}
 use Rattle.forms.specs.Fields.{Field, room, pack, unpack, Fit}
 use Rattle.forms.specs.Lists.{timesRead, all, All, none, one, times, countedRead, countedShow, counted, untilRead, fillingRead, filling, loopRead, loopShow, loop}
-use Rattle.forms.proofs.Lawful.{Lawful, Sound, Complete, read-on, raw-read, raw-shown, two-of, bytes-behind}
+use Rattle.forms.specs.Laws.{Lawful, Sound, Complete}
+use Rattle.forms.proofs.Lawful.{read-on, raw-read, raw-shown, two-of, bytes-behind}
 use Rattle.forms.proofs.FieldLaws.{pack-lt, unpack-pack}
 
 module _ {A : Type 0} (c : Form A) where

@@ -16,14 +16,15 @@ use Rattle.wire.specs.Reading.{value, refused, _>>=_}
 use Rattle.tables.specs.Tables.{cell, rowOf, rowAt}
 use Rattle.forms.specs.Form.{rawRead, raw, suchRead}
 use Rattle.forms.specs.Room.{sum}
-use Rattle.forms.proofs.Lawful.{read-on}
+use Rattle.forms.proofs.Lawful.{read-on, stays}
 use Rattle.forms.proofs.Puts.{sum-fits, sum-past}
 use Rattle.sheet.specs.Content.{Content}
-use Rattle.sheet.specs.Sheet.{behindId, sheetRead, sheetOf, sheet}
+use Rattle.sheet.specs.Sheet.{behindId, sheetRead, sheetOf}
 use Rattle.sheet.specs.Section.{sectionLength, readSheet}
-use Rattle.sheet.specs.Reads.{judgedSheet, Ends, cut, gain, countAt, spare, lengthBy, judgedLength, Known}
+use Rattle.sheet.specs.Reads.{judgedSheet}
+use Rattle.sheet.specs.Inner.Places.{Ends, Known}
+use Rattle.sheet.specs.Inner.Lengths.{cut, gain, countAt, spare, lengthBy, judgedLength}
 use Rattle.sheet.proofs.SheetLaws.{sheet-lawful}
-use Rattle.sheet.proofs.ReadLaws.{stays}
 use Rattle.sheet.proofs.Sizes.{section-spare}
 
 -- ---- the table_id
@@ -46,7 +47,7 @@ module _ (a : ℕ) (t : List ℕ) where
   unfolding suchRead
   id-read h = read-on _ one-byte ∙ rw (lt-ltb (rowOf a) 6 h)
 
-  known-id : rowOf a < 6 → sheetRead (a ∷ t) ≡ (behindId (rowOf a) .read t >>= λ c. value ((a, c .0), c .1))
+  pub known-id : rowOf a < 6 → sheetRead (a ∷ t) ≡ (behindId (rowOf a) .read t >>= λ c. value ((a, c .0), c .1))
   unfolding sheetRead
   known-id h = read-on _ (id-read h)
 
@@ -85,9 +86,12 @@ module _ (a : ℕ) (t : List ℕ) (known : rowOf a < 6) where
 
     read-to-the-end : e ≡ length s → judgedSheet s ≡ judgedLength limit (sectionLength content)
     unfolding judgedSheet judgedLength
-    read-to-the-end h = ap (λ x. x >>= λ c. value (sectionLength c)) (read-whole h) ∙ go (ltb limit (sectionLength content))
+    read-to-the-end h =
+        ap (λ x. x >>= λ c. value (sectionLength c)) (read-whole h) ∙ go (ltb limit (sectionLength content))
       where
-        go : (b : Bool) → ((if b then refused 26 else value content) >>= λ c. value (sectionLength c)) ≡ (if b then refused 26 else value (sectionLength content))
+        go : (b : Bool)
+            → ((if b then refused 26 else value content) >>= λ c. value (sectionLength c))
+            ≡ (if b then refused 26 else value (sectionLength content))
         go true = refl
         go false = refl
 
@@ -132,42 +136,52 @@ length-judged row m s h b e = go (decLe (length s + gain row) (2 ^ 64 - 1))
     n = sum (length s) (gain row) - spare row s
 
     go : Dec (length s + gain row ≤ 2 ^ 64 - 1) → judgedLength (rowAt row .most) m ≡ judgedLength (rowAt row .most) n
-    go (yes f) = let i = sum-fits (length s) (gain row) (omega arith) in let j : m ≡ n = omega arith in ap (judgedLength (rowAt row .most)) j
+    go (yes f) =
+        let i = sum-fits (length s) (gain row) (omega arith) in let j : m ≡ n =
+        omega arith in ap (judgedLength (rowAt row .most)) j
     go (no f) =
         let i = sum-past (length s) (gain row) (omega arith) in
         let j = spare-small row s h b in
         let k = most-small row h in
         rw (lt-ltb (rowAt row .most) m (omega arith), lt-ltb (rowAt row .most) n (omega arith))
 
-module _ (a : ℕ) (t : List ℕ) (known : rowOf a < 6) (bytes : Bytes (a ∷ t)) (e : ℕ) (p : Ends (behindId (rowOf a)) (a ∷ t) 1 e) (end : e ≡ length (a ∷ t)) where
+module _ (a : ℕ) (t : List ℕ) (known : rowOf a < 6) (bytes : Bytes (a ∷ t)) (e : ℕ)
+    (p : Ends (behindId (rowOf a)) (a ∷ t) 1 e) (end : e ≡ length (a ∷ t)) where
   whole-sheet : judgedSheet (a ∷ t) ≡ judgedLength (rowAt (rowOf a) .most) (lengthBy (rowOf a) (a ∷ t))
   unfolding content
   whole-sheet =
       let c : Content = (a, p .value-read) in
-      let r : sheetRead (a ∷ t) ≡ value (c, []) = whole-read a t known e p ∙ ap (λ n. value (c, drop n (a ∷ t))) end ∙ ap (λ l. value (c, l)) (drop-length (a ∷ t)) in
+      let r : sheetRead (a ∷ t) ≡ value (c, []) =
+      whole-read a t known e p
+      ∙ ap (λ n. value (c, drop n (a ∷ t))) end
+      ∙ ap (λ l. value (c, l)) (drop-length (a ∷ t)) in
       let w = sheet-lawful .sound (a ∷ t) c [] bytes r in
       let q : sheetOf c ≡ a ∷ t = sym (w .0 ∙ append-nil (sheetOf c)) in
       read-to-the-end a t known e p end
-      ∙ length-judged (rowOf a) (sectionLength c) (a ∷ t) known bytes (subst (λ l. sectionLength c + spare (rowOf a) l ≡ length l + gain (rowOf a)) q (section-spare c (w .1)))
+      ∙ length-judged (rowOf a) (sectionLength c) (a ∷ t) known bytes
+      (subst (λ l. sectionLength c + spare (rowOf a) l ≡ length l + gain (rowOf a)) q (section-spare c (w .1)))
 
 -- ---- as the judge knows it
 
 module _ (row : ℕ) where
-  pub judged-refused : (s : List ℕ) (k : ℕ) → Known s row → behindId row .read (drop 1 s) ≡ refused k → judgedSheet s ≡ refused k
+  pub judged-refused : (s : List ℕ) (k : ℕ) → Known s row → behindId row .read (drop 1 s) ≡ refused k
+      → judgedSheet s ≡ refused k
   judged-refused [] k h e = let l = h .there in absurd (omega arith)
   judged-refused (a ∷ t) k h e =
       let i = h .has in
       let j = h .known in
       refused-behind a t (omega arith) k (subst (λ n. behindId n .read t ≡ refused k) (sym i) e)
 
-  pub judged-after : (s : List ℕ) {e : ℕ} → Known s row → Ends (behindId row) s 1 e → e < length s → judgedSheet s ≡ refused 25
+  pub judged-after : (s : List ℕ) {e : ℕ} → Known s row → Ends (behindId row) s 1 e → e < length s
+      → judgedSheet s ≡ refused 25
   judged-after [] h p g = let l = h .there in absurd (omega arith)
   judged-after (a ∷ t) {e} h p g =
       let i = h .has in
       let j = h .known in
       read-after a t (omega arith) e (subst (λ n. Ends (behindId n) (a ∷ t) 1 e) (sym i) p) g
 
-  pub judged-whole : (s : List ℕ) {e : ℕ} → Known s row → Ends (behindId row) s 1 e → length s ≤ e → judgedSheet s ≡ judgedLength (rowAt row .most) (lengthBy row s)
+  pub judged-whole : (s : List ℕ) {e : ℕ} → Known s row → Ends (behindId row) s 1 e → length s ≤ e
+      → judgedSheet s ≡ judgedLength (rowAt row .most) (lengthBy row s)
   judged-whole [] h p g = let l = h .there in absurd (omega arith)
   judged-whole (a ∷ t) {e} h p g =
       let i = h .has in

@@ -10,24 +10,20 @@ use lib.Seq.{drop-drop, getD-take, getD-drop}
 use lib.Dec.{ltb, leb}
 use Rattle.wire.specs.If.{if_then_else_}
 use Rattle.wire.specs.Number.{number, numberAt}
-use Rattle.wire.specs.Reading.{Reading, value, refused, _>>=_}
+use Rattle.wire.specs.Reading.{value, refused, _>>=_}
 use Rattle.wire.proofs.PartLaws.{two-front}
 use Rattle.tables.specs.Tables.{cell, rowAt}
 use Rattle.forms.specs.Form.{Form, mute, rawRead, raw, bothRead, _then_, suchRead, such, eachRead, each}
 use Rattle.forms.specs.Fields.{kept, reserved, belowRead, below, sheetField, sheetFields}
 use Rattle.forms.specs.Lists.{timesRead, times, countedRead, counted}
-use Rattle.forms.proofs.Lawful.{read-on}
+use Rattle.forms.proofs.Lawful.{read-on, stays}
 use Rattle.sheet.specs.Content.{Item, plain, numbers, version, flags, filler, bare, frame, common, headOf, entryOf, sideOf, Entries}
 use Rattle.sheet.specs.Sheet.{inOrder, sheetItem, descriptorRead, descriptor, sheetLoop, sheetTop, sheetEntries}
-use Rattle.sheet.specs.Reads.{Reads, Onward, Follows, Common, entryBy, sideBy, entryWith, topBy}
+use Rattle.sheet.specs.Inner.Places.{Reads, Onward, Follows, Common, entryBy, sideBy, entryWith, topBy}
 use Rattle.sheet.specs.declared.End.{End}
 use Rattle.sheet.specs.declared.End.the-variants.{At, EndsEarly, TooWide}
 
 -- ---- one behind the other
-
--- a refusal stays
-pub stays : {A B : Type 0} {x : Reading A} {k : ℕ} (f : A → Reading B) → x ≡ refused k → (x >>= f) ≡ refused k
-stays f e = ap (λ y. y >>= f) e
 
 -- h reads what c reads, and then what d reads
 module _ {A B C : Type 0} (c : Form A) (d : Form B) (h : Form C) (g : A → B → C)
@@ -43,8 +39,12 @@ module _ {A B C : Type 0} (c : Form A) (d : Form B) (h : Form C) (g : A → B �
         from = omega arith;
         within = j .within;
       }
-  onward-both (At a) (At b) EndsEarly p q = λ w. let i = p w in by (drop a s) ∙ read-on _ (i .reads) ∙ stays _ (q (i .within))
-  onward-both (At a) (At b) TooWide p q = λ w. let i = p w in by (drop a s) ∙ read-on _ (i .reads) ∙ stays _ (q (i .within))
+  onward-both (At a) (At b) EndsEarly p q = λ w. let i = p w in by (drop a s)
+      ∙ read-on _ (i .reads)
+      ∙ stays _ (q (i .within))
+  onward-both (At a) (At b) TooWide p q = λ w. let i = p w in by (drop a s)
+      ∙ read-on _ (i .reads)
+      ∙ stays _ (q (i .within))
   onward-both (At a) EndsEarly z p q = λ w. subst (Reads h s a) (sym q) (by (drop a s) ∙ stays _ (p w))
   onward-both (At a) TooWide z p q = λ w. subst (Reads h s a) (sym q) (by (drop a s) ∙ stays _ (p w))
   onward-both EndsEarly y z p q = subst (λ v. Onward d s v z) p q
@@ -76,7 +76,8 @@ module _ {X A : Type 0} (f : X → Form A) {s : List ℕ} where
   unfolding eachRead
   follows-nil {x} = follows-none (each f []) [] (λ s. refl) s x
 
-  pub follows-cons : (a : X) (l : List X) {x y z : End} → Follows (f a) s x y → Follows (each f l) s y z → Follows (each f (a ∷ l)) s x z
+  pub follows-cons : (a : X) (l : List X) {x y z : End} → Follows (f a) s x y → Follows (each f l) s y z
+      → Follows (each f (a ∷ l)) s x z
   unfolding eachRead
   follows-cons a l = follows-both (f a) (each f l) (each f (a ∷ l)) (λ b m. b ∷ m) (λ s. refl) s
 
@@ -88,13 +89,16 @@ module _ {A : Type 0} (c : Form A) {s : List ℕ} where
   unfolding timesRead
   follows-zero {x} = follows-none (times c 0) [] (λ s. refl) s x
 
-  pub follows-suc : (k : ℕ) {x y z : End} → Follows c s x y → Follows (times c k) s y z → Follows (times c (suc k)) s x z
+  pub follows-suc : (k : ℕ) {x y z : End} → Follows c s x y → Follows (times c k) s y z
+      → Follows (times c (suc k)) s x z
   unfolding timesRead
   follows-suc k = follows-both c (times c k) (times c (suc k)) (λ b m. b ∷ m) (λ s. refl) s
 
   -- one of k items more
-  pub follows-item : {k : ℕ} {x y z : End} → 0 < k → Follows c s x y → Follows (times c (k - 1)) s y z → Follows (times c k) s x z
-  follows-item {k} {x} {y} {z} h p q = let e : suc (k - 1) ≡ k = omega arith in subst (λ n. Follows (times c n) s x z) e (follows-suc (k - 1) p q)
+  pub follows-item : {k : ℕ} {x y z : End} → 0 < k → Follows c s x y → Follows (times c (k - 1)) s y z
+      → Follows (times c k) s x z
+  follows-item {k} {x} {y} {z} h p q =
+      let e : suc (k - 1) ≡ k = omega arith in subst (λ n. Follows (times c n) s x z) e (follows-suc (k - 1) p q)
 
 -- what is known of the place before, or of the answer
 module _ {A : Type 0} (c : Form A) {s : List ℕ} where
@@ -129,7 +133,15 @@ module _ (s : List ℕ) (at : ℕ) where
   byte-front n i h = getD-take n (drop at s) i 0 h ∙ getD-drop at s i 0
 
   pub reads-raw : (n : ℕ) → n ≤ length s - at → Follows (raw n) s (At at) (At (at + n))
-  reads-raw n h = record { onward = λ w. record { value-read = take n (drop at s); reads = raw-whole n (omega arith); from = omega arith; within = omega arith } }
+  reads-raw n h = record {
+    onward = λ w.
+        record {
+          value-read = take n (drop at s);
+          reads = raw-whole n (omega arith);
+          from = omega arith;
+          within = omega arith;
+        };
+  }
 
   pub early-raw : (n : ℕ) → length s - at < n → Follows (raw n) s (At at) EndsEarly
   early-raw n h = record { onward = λ w. raw-short n h }
@@ -137,7 +149,8 @@ module _ (s : List ℕ) (at : ℕ) where
   -- ---- a byte below n
 
   module _ (n : ℕ) where
-    first-byte : at + 1 ≤ length s → belowRead n (drop at s) ≡ (if ltb (getD s at 0) n then value (getD s at 0, drop (at + 1) s) else refused 24)
+    first-byte : at + 1 ≤ length s
+        → belowRead n (drop at s) ≡ (if ltb (getD s at 0) n then value (getD s at 0, drop (at + 1) s) else refused 24)
     unfolding belowRead
     first-byte h =
         let e : at + 0 ≡ at = omega arith in
@@ -165,15 +178,19 @@ module _ (s : List ℕ) (at : ℕ) where
 
   -- ---- section_number and last_section_number
 
-  two-bytes : at + 2 ≤ length s → suchRead (raw 2) 24 inOrder (drop at s) ≡ (if leb (getD s at 0) (getD s (at + 1) 0) then value (take 2 (drop at s), drop (at + 2) s) else refused 24)
+  two-bytes : at + 2 ≤ length s
+      → suchRead (raw 2) 24 inOrder (drop at s)
+      ≡ (if leb (getD s at 0) (getD s (at + 1) 0) then value (take 2 (drop at s), drop (at + 2) s) else refused 24)
   unfolding suchRead
   two-bytes h =
       let e : at + 0 ≡ at = omega arith in
       let a : getD (take 2 (drop at s)) 0 0 ≡ getD s at 0 = byte-front 2 0 (omega arith) ∙ ap (λ k. getD s k 0) e in
       let b : getD (take 2 (drop at s)) 1 0 ≡ getD s (at + 1) 0 = byte-front 2 1 (omega arith) in
-      read-on _ (raw-whole 2 h) ∙ ap₂ (λ (a b : ℕ). if leb a b then value (take 2 (drop at s), drop (at + 2) s) else refused 24) a b
+      read-on _ (raw-whole 2 h)
+      ∙ ap₂ (λ (a b : ℕ). if leb a b then value (take 2 (drop at s), drop (at + 2) s) else refused 24) a b
 
-  pub reads-numbers : 2 ≤ length s - at → getD s at 0 ≤ getD s (at + 1) 0 → Follows (such (raw 2) 24 inOrder) s (At at) (At (at + 2))
+  pub reads-numbers : 2 ≤ length s - at → getD s at 0 ≤ getD s (at + 1) 0
+      → Follows (such (raw 2) 24 inOrder) s (At at) (At (at + 2))
   reads-numbers h g =
       record {
         onward = λ w.
@@ -185,7 +202,8 @@ module _ (s : List ℕ) (at : ℕ) where
             };
       }
 
-  pub wide-numbers : 2 ≤ length s - at → getD s (at + 1) 0 < getD s at 0 → Follows (such (raw 2) 24 inOrder) s (At at) TooWide
+  pub wide-numbers : 2 ≤ length s - at → getD s (at + 1) 0 < getD s at 0
+      → Follows (such (raw 2) 24 inOrder) s (At at) TooWide
   wide-numbers h g = record { onward = λ w. two-bytes (omega arith) ∙ rw (lt-leb (getD s at 0) (getD s (at + 1) 0) g) }
 
   pub early-numbers : length s - at < 2 → Follows (such (raw 2) 24 inOrder) s (At at) EndsEarly
@@ -198,7 +216,8 @@ module _ (s : List ℕ) (at : ℕ) where
   size-front : getD (take 2 (drop at s)) 1 0 ≡ getD s (at + 1) 0
   size-front = byte-front s at 2 1 (omega arith)
 
-  pub reads-descriptor : 2 + getD s (at + 1) 0 ≤ length s - at → Follows descriptor s (At at) (At (at + 2 + getD s (at + 1) 0))
+  pub reads-descriptor : 2 + getD s (at + 1) 0
+      ≤ length s - at → Follows descriptor s (At at) (At (at + 2 + getD s (at + 1) 0))
   unfolding descriptorRead
   reads-descriptor h =
       let n : ℕ = getD s (at + 1) 0 in
@@ -206,7 +225,9 @@ module _ (s : List ℕ) (at : ℕ) where
         onward = λ w.
             record {
               value-read = record { tag = getD (take 2 (drop at s)) 0 0; body = take n (drop (at + 2) s) };
-              reads = read-on _ (raw-whole s at 2 (omega arith)) ∙ read-on _ (ap (λ k. rawRead k (drop (at + 2) s)) size-front ∙ raw-whole s (at + 2) n (omega arith));
+              reads =
+                  read-on _ (raw-whole s at 2 (omega arith))
+                  ∙ read-on _ (ap (λ k. rawRead k (drop (at + 2) s)) size-front ∙ raw-whole s (at + 2) n (omega arith));
               from = omega arith;
               within = omega arith;
             };
@@ -220,7 +241,10 @@ module _ (s : List ℕ) (at : ℕ) where
   unfolding descriptorRead
   early-body h g =
       let n : ℕ = getD s (at + 1) 0 in
-      record { onward = λ w. read-on _ (raw-whole s at 2 (omega arith)) ∙ stays _ (ap (λ k. rawRead k (drop (at + 2) s)) size-front ∙ raw-short s (at + 2) n (omega arith)) }
+      record {
+        onward = λ w. read-on _ (raw-whole s at 2 (omega arith))
+            ∙ stays _ (ap (λ k. rawRead k (drop (at + 2) s)) size-front ∙ raw-short s (at + 2) n (omega arith));
+      }
 
 -- ---- a list after the number of its items
 
@@ -233,14 +257,17 @@ module _ {A : Type 0} (c : Form A) (s : List ℕ) (at : ℕ) where
   unfolding countedRead
   counted-whole h = read-on _ (raw-whole s at 2 h) ∙ ap (λ k. timesRead c k (drop (at + 2) s)) (count-front h)
 
-  counted-onward : at + 2 ≤ length s → (r : End) → Reads (times c (numberAt 2 s at)) s (at + 2) r → Reads (counted c) s at r
+  counted-onward : at + 2 ≤ length s → (r : End) → Reads (times c (numberAt 2 s at)) s (at + 2) r
+      → Reads (counted c) s at r
   counted-onward h (At e) p =
       let f = p .from in
       record { value-read = p .value-read; reads = counted-whole h ∙ p .reads; from = omega arith; within = p .within }
   counted-onward h EndsEarly p = counted-whole h ∙ p
   counted-onward h TooWide p = counted-whole h ∙ p
 
-  pub follows-counted : {k : ℕ} {r : End} → 2 ≤ length s - at → k ≡ numberAt 2 s at → Follows (times c k) s (At (at + 2)) r → Follows (counted c) s (At at) r
+  pub follows-counted : {k : ℕ} {r : End}
+      → 2 ≤ length s - at → k ≡ numberAt 2 s at → Follows (times c k) s (At (at + 2)) r
+      → Follows (counted c) s (At at) r
   follows-counted {k} {r} h e p =
       let q = subst (λ n. Follows (times c n) s (At (at + 2)) r) e p in
       record { onward = λ w. counted-onward (omega arith) r (q .onward (omega arith)) }
@@ -274,7 +301,12 @@ module _ {A : Type 0} (c : Form A) {s : List ℕ} {at n p k : ℕ} (rest : Rest 
 -- two forms that read alike
 module _ {A : Type 0} (c h : Form A) (by : (s : List ℕ) → h .read s ≡ c .read s) (s : List ℕ) where
   reads-alike : (a : ℕ) (r : End) → Reads c s a r → Reads h s a r
-  reads-alike a (At e) p = record { value-read = p .value-read; reads = by (drop a s) ∙ p .reads; from = p .from; within = p .within }
+  reads-alike a (At e) p = record {
+    value-read = p .value-read;
+    reads = by (drop a s) ∙ p .reads;
+    from = p .from;
+    within = p .within;
+  }
   reads-alike a EndsEarly p = by (drop a s) ∙ p
   reads-alike a TooWide p = by (drop a s) ∙ p
 
@@ -288,15 +320,19 @@ module _ {A : Type 0} (c h : Form A) (by : (s : List ℕ) → h .read s ≡ c .r
 
 module _ {s : List ℕ} where
   -- two fields, the greatest values of which are 2 ^ v - 1 and 2 ^ w - 1
-  two-kept : (v w : ℕ) {x y : End} → Follows (each below (2 ^ v ∷ 2 ^ w ∷ [])) s x y → Follows (sheetFields (kept v ∷ kept w ∷ [])) s x y
+  two-kept : (v w : ℕ) {x y : End} → Follows (each below (2 ^ v ∷ 2 ^ w ∷ [])) s x y
+      → Follows (sheetFields (kept v ∷ kept w ∷ [])) s x y
   unfolding eachRead
   two-kept v w p = follows-alike (each below (2 ^ v ∷ 2 ^ w ∷ [])) (sheetFields (kept v ∷ kept w ∷ [])) (λ s. refl) s p
 
   -- a reserved field before them
-  three-fields : (u v w : ℕ) {x y : End} → Follows (each below (2 ^ v ∷ 2 ^ w ∷ [])) s x y → Follows (sheetFields (reserved u ∷ kept v ∷ kept w ∷ [])) s x y
-  three-fields u v w p = follows-cons sheetField (reserved u) (kept v ∷ kept w ∷ []) (follows-mute (2 ^ u - 1)) (two-kept v w p)
+  three-fields : (u v w : ℕ) {x y : End} → Follows (each below (2 ^ v ∷ 2 ^ w ∷ [])) s x y
+      → Follows (sheetFields (reserved u ∷ kept v ∷ kept w ∷ [])) s x y
+  three-fields u v w p =
+      follows-cons sheetField (reserved u) (kept v ∷ kept w ∷ []) (follows-mute (2 ^ u - 1)) (two-kept v w p)
 
-  pub side-status : {b : Bool} {x y : End} → b ≡ true → Follows (each below (8 ∷ 2 ∷ [])) s x y → Follows (sheetFields (sideBy b)) s x y
+  pub side-status : {b : Bool} {x y : End} → b ≡ true → Follows (each below (8 ∷ 2 ∷ [])) s x y
+      → Follows (sheetFields (sideBy b)) s x y
   side-status {x = x} {y} e p = subst (λ b. Follows (sheetFields (sideBy b)) s x y) (sym e) (two-kept 3 1 p)
 
   side-reserved : {x : End} → Follows (sheetFields bare) s x x
@@ -308,10 +344,12 @@ module _ {s : List ℕ} where
   items-alone : {n : ℕ} {x y : End} → Follows (raw n) s x y → Follows (each sheetItem (plain n ∷ [])) s x y
   items-alone {n} p = follows-one sheetItem (plain n) p
 
-  pub items-plain : {b : Bool} {n : ℕ} {x y : End} → b ≡ false → Follows (raw n) s x y → Follows (each sheetItem (entryBy n b)) s x y
+  pub items-plain : {b : Bool} {n : ℕ} {x y : End} → b ≡ false → Follows (raw n) s x y
+      → Follows (each sheetItem (entryBy n b)) s x y
   items-plain {n = n} {x} {y} e p = subst (λ b. Follows (each sheetItem (entryBy n b)) s x y) (sym e) (items-alone p)
 
-  pub items-flagged : {b : Bool} {n : ℕ} {x y z : End} → b ≡ true → Follows (raw n) s x y → Follows (each below (2 ∷ 2 ∷ [])) s y z → Follows (each sheetItem (entryBy n b)) s x z
+  pub items-flagged : {b : Bool} {n : ℕ} {x y z : End} → b ≡ true → Follows (raw n) s x y
+      → Follows (each below (2 ∷ 2 ∷ [])) s y z → Follows (each sheetItem (entryBy n b)) s x z
   items-flagged {n = n} {x} {z = z} e p q =
       subst (λ b. Follows (each sheetItem (entryBy n b)) s x z) (sym e)
       (follows-cons sheetItem (plain n) (flags ∷ []) p (follows-one sheetItem flags (three-fields 6 1 1 q)))
@@ -320,9 +358,12 @@ module _ {s : List ℕ} where
   top-there {x = x} {y} e p = subst (λ n. Follows (topBy n) s x y) (sym e) (follows-then side-reserved p)
 
   pub top-none : {n : ℕ} {x : End} → (n ≡ 1 → ⊥) → Follows (topBy n) s x x
-  top-none {n} {x} h = subst (λ b. Follows (if b then sheetLoop bare else mute ([], [])) s x x) (sym (ne-eqb n 1 h)) (follows-mute ([], []))
+  top-none {n} {x} h =
+      subst (λ b. Follows (if b then sheetLoop bare else mute ([], [])) s x x) (sym (ne-eqb n 1 h))
+      (follows-mute ([], []))
 
-  pub head-common : {x y z v : End} → Follows (raw 2) s x y → Follows (each below (32 ∷ 2 ∷ [])) s y z → Follows (sheetItem numbers) s z v → Common s x v
+  pub head-common : {x y z v : End} → Follows (raw 2) s x y → Follows (each below (32 ∷ 2 ∷ [])) s y z
+      → Follows (sheetItem numbers) s z v → Common s x v
   head-common p q r more e h =
       follows-cons sheetItem (plain 2) (version ∷ numbers ∷ more) p
       (follows-cons sheetItem version (numbers ∷ more) (three-fields 2 5 1 q) (follows-cons sheetItem numbers more r h))
@@ -348,28 +389,34 @@ heads-time (suc (suc (suc (suc (suc zero))))) h f = refl
 heads-time (suc (suc (suc (suc (suc (suc n)))))) h f = absurd (omega arith)
 
 module _ (row : ℕ) {s : List ℕ} where
-  heads-are : {xs : List Item} {x y : End} → headOf row ≡ xs → Follows (each sheetItem xs) s x y → Follows (each sheetItem (headOf row)) s x y
+  heads-are : {xs : List Item} {x y : End} → headOf row ≡ xs → Follows (each sheetItem xs) s x y
+      → Follows (each sheetItem (headOf row)) s x y
   heads-are {x = x} {y} e p = subst (λ l. Follows (each sheetItem l) s x y) (sym e) p
 
   pub head-time : {x y : End} → 4 ≤ row → row < 6 → Follows (raw 5) s x y → Follows (each sheetItem (headOf row)) s x y
   head-time h f p = heads-are (heads-time row h f) (items-alone p)
 
-  pub head-alone : {x y : End} → row < 4 → (row ≡ 1 → ⊥) → (row ≡ 3 → ⊥) → Common s x y → Follows (each sheetItem (headOf row)) s x y
+  pub head-alone : {x y : End} → row < 4 → (row ≡ 1 → ⊥) → (row ≡ 3 → ⊥) → Common s x y
+      → Follows (each sheetItem (headOf row)) s x y
   head-alone {x} {y} h f g p = heads-are (heads-alone row h f g) (p [] y (follows-nil sheetItem))
 
-  pub head-service : {x y z : End} → row ≡ 1 → Common s x y → Follows (raw 2) s y z → Follows (each sheetItem (headOf row)) s x z
+  pub head-service : {x y z : End} → row ≡ 1 → Common s x y → Follows (raw 2) s y z
+      → Follows (each sheetItem (headOf row)) s x z
   unfolding headOf
   head-service {x} {y} {z} e p q =
       heads-are (ap headOf e) (p (plain 2 ∷ filler ∷ []) z
-      (follows-cons sheetItem (plain 2) (filler ∷ []) q (follows-one sheetItem filler (follows-one sheetField (reserved 8) (follows-mute 255)))))
+      (follows-cons sheetItem (plain 2) (filler ∷ []) q
+      (follows-one sheetItem filler (follows-one sheetField (reserved 8) (follows-mute 255)))))
 
-  pub head-event : {x y z : End} → row ≡ 3 → Common s x y → Follows (raw 6) s y z → Follows (each sheetItem (headOf row)) s x z
+  pub head-event : {x y z : End} → row ≡ 3 → Common s x y → Follows (raw 6) s y z
+      → Follows (each sheetItem (headOf row)) s x z
   unfolding headOf
   head-event {x} {y} {z} e p q = heads-are (ap headOf e) (p (plain 6 ∷ []) z (items-alone q))
 
   -- ---- entries
 
-  entries-are : {x y : End} (c : Form Entries) → _≡_ {A = Form Entries} (sheetEntries row) c → Follows c s x y → Follows (sheetEntries row) s x y
+  entries-are : {x y : End} (c : Form Entries) → _≡_ {A = Form Entries} (sheetEntries row) c → Follows c s x y
+      → Follows (sheetEntries row) s x y
   entries-are {x} {y} c e p = subst (λ d. Follows d s x y) (sym e) p
 
   pub entries-none : {x : End} → 4 ≤ row → Follows (sheetEntries row) s x x
@@ -385,19 +432,29 @@ module _ (row : ℕ) {s : List ℕ} where
       go (suc (suc (suc (suc (suc zero))))) h = refl
       go (suc (suc (suc (suc (suc (suc n)))))) h = refl
 
-  pub entries-service : {x y : End} → row ≡ 1 → Follows (counted (entryWith 2 true true)) s x y → Follows (sheetEntries row) s x y
+  pub entries-service : {x y : End} → row ≡ 1 → Follows (counted (entryWith 2 true true)) s x y
+      → Follows (sheetEntries row) s x y
   unfolding sheetEntries cell entryOf sideOf
-  entries-service e p = entries-are (sheetFields [] then counted (entryWith 2 true true)) (ap sheetEntries e) (follows-then (follows-nil sheetField) p)
+  entries-service e p =
+      entries-are (sheetFields [] then counted (entryWith 2 true true)) (ap sheetEntries e)
+      (follows-then (follows-nil sheetField) p)
 
-  pub entries-event : {x y : End} → row ≡ 3 → Follows (counted (entryWith 10 false true)) s x y → Follows (sheetEntries row) s x y
+  pub entries-event : {x y : End} → row ≡ 3 → Follows (counted (entryWith 10 false true)) s x y
+      → Follows (sheetEntries row) s x y
   unfolding sheetEntries cell entryOf sideOf
-  entries-event e p = entries-are (sheetFields [] then counted (entryWith 10 false true)) (ap sheetEntries e) (follows-then (follows-nil sheetField) p)
+  entries-event e p =
+      entries-are (sheetFields [] then counted (entryWith 10 false true)) (ap sheetEntries e)
+      (follows-then (follows-nil sheetField) p)
 
-  pub entries-stream : {x y : End} → row < 4 → (row ≡ 1 → ⊥) → (row ≡ 3 → ⊥) → Follows (counted (entryWith 4 false false)) s x y → Follows (sheetEntries row) s x y
+  pub entries-stream : {x y : End} → row < 4 → (row ≡ 1 → ⊥) → (row ≡ 3 → ⊥)
+      → Follows (counted (entryWith 4 false false)) s x y → Follows (sheetEntries row) s x y
   unfolding sheetEntries cell entryOf sideOf
-  entries-stream h f g p = entries-are (sheetFields bare then counted (entryWith 4 false false)) (go row h f g) (follows-then side-reserved p)
+  entries-stream h f g p =
+      entries-are (sheetFields bare then counted (entryWith 4 false false)) (go row h f g)
+      (follows-then side-reserved p)
     where
-      go : (row : ℕ) → row < 4 → (row ≡ 1 → ⊥) → (row ≡ 3 → ⊥) → _≡_ {A = Form Entries} (sheetEntries row) (sheetFields bare then counted (entryWith 4 false false))
+      go : (row : ℕ) → row < 4 → (row ≡ 1 → ⊥) → (row ≡ 3 → ⊥)
+          → _≡_ {A = Form Entries} (sheetEntries row) (sheetFields bare then counted (entryWith 4 false false))
       go zero h f g = refl
       go (suc zero) h f g = absurd (f refl)
       go (suc (suc zero)) h f g = refl
@@ -410,8 +467,11 @@ module _ (row : ℕ) {s : List ℕ} where
 
 -- the bits before section_length stand in no sheet
 pub frame-none : {s : List ℕ} {x : End} → Follows (sheetFields frame) s x x
-frame-none = follows-cons sheetField (reserved 1) (reserved 2 ∷ []) (follows-mute 1) (follows-one sheetField (reserved 2) (follows-mute 3))
+frame-none =
+    follows-cons sheetField (reserved 1) (reserved 2 ∷ []) (follows-mute 1)
+    (follows-one sheetField (reserved 2) (follows-mute 3))
 
 -- a reading from a place, by its answer
-pub seen : {A : Type 0} {c : Form A} {s : List ℕ} {at : ℕ} {x y : End} → x ≡ y → Follows c s (At at) x → at ≤ length s → Reads c s at y
+pub seen : {A : Type 0} {c : Form A} {s : List ℕ} {at : ℕ} {x y : End} → x ≡ y → Follows c s (At at) x → at ≤ length s
+    → Reads c s at y
 seen {c = c} {s} {at} e h w = subst (Reads c s at) e (h .onward w)

@@ -15,7 +15,8 @@ use Rattle.tables.specs.Tables.{rowOf, rowAt}
 use Rattle.forms.specs.Form.{Form, mute, rawRead, raw, _then_, such, each}
 use Rattle.forms.specs.Fields.{Field, sheetFields}
 use Rattle.forms.specs.Lists.{counted}
-use Rattle.forms.proofs.Lawful.{Lawful, Sound, Complete, read-on, mute-lawful, raw-read, raw-shown, one-of, two-of, raw-lawful, then-lawful, such-lawful, each-lawful, bytes-behind}
+use Rattle.forms.specs.Laws.{Lawful, Sound, Complete}
+use Rattle.forms.proofs.Lawful.{read-on, mute-lawful, raw-read, raw-shown, one-of, two-of, raw-lawful, then-lawful, such-lawful, each-lawful, bytes-behind}
 use Rattle.forms.proofs.FieldLaws.{fields-lawful}
 use Rattle.forms.proofs.ListLaws.{counted-lawful}
 use Rattle.sheet.specs.Content.{Item, plain, numbers, packed, bare, frame, headOf, entryOf, sideOf, Descriptor, Loop, Entry, Entries, Body, Content, tableOf, rowIn}

@@ -15,7 +15,7 @@ use Rattle.forms.specs.Fields.{Field, kept, reserved, sheetField, sheetFields}
 use Rattle.forms.specs.Lists.{all, All, none, one, countedShow, counted, loopShow, loop, filling}
 use Rattle.sheet.specs.Content.{Item, plain, numbers, packed, bare, frame, headOf, entryOf, sideOf, Fields, Loop, Entry, Entries, Body, Content, tableOf, rowIn}
 use Rattle.sheet.specs.Sheet.{sheetItem, descriptor, sheetLoop, sheetEntry, sheetTop, sheetEntries, behindId, sheetOf, SheetOk}
-use Rattle.sheet.specs.Reads.{cut, gain, countAt, spare}
+use Rattle.sheet.specs.Inner.Lengths.{cut, gain, countAt, spare}
 use Rattle.sheet.specs.Section.{sectionItem, sectionLoop, sectionEntry, sectionTop, sectionEntries, sectionBody, sectionLength}
 
 -- ---- fields and items

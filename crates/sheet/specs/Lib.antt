@@ -3,3 +3,6 @@ pub mod Content
 pub mod Sheet
 pub mod Section
 pub mod Reads
+pub mod Faults
+pub mod Limits
+pub mod Inner

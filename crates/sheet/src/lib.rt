@@ -1,6 +1,8 @@
 // Content sheets: whether bytes are one.
 ghost use mathlib.Core.Path.{_≡_};
-ghost use Rattle.sheet.specs.Reads.{told, judgedSheet, judgedLength, Known};
+ghost use Rattle.sheet.specs.Reads.{told, judgedSheet};
+ghost use Rattle.sheet.specs.Inner.Places.{Known};
+ghost use Rattle.sheet.specs.Inner.Lengths.{judgedLength};
 
 mod read;
 mod size;

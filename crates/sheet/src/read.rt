@@ -9,7 +9,7 @@ ghost use Rattle.tables.specs.Tables.{rowAt};
 ghost use Rattle.sheet.specs.Content.{headOf};
 ghost use Rattle.sheet.specs.Content.Item.{numbers};
 ghost use Rattle.sheet.specs.Sheet.{sheetItem, descriptor, sheetEntries, behindId};
-ghost use Rattle.sheet.specs.Reads.{Follows, Common, entryBy, sideBy, entryWith, topBy};
+ghost use Rattle.sheet.specs.Inner.Places.{Follows, Common, entryBy, sideBy, entryWith, topBy};
 ghost use Rattle.sheet.specs.declared.End.the-variants.{At};
 use crate::End;
 

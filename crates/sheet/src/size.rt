@@ -1,6 +1,6 @@
 // How long the section of a sheet is, from the sheet's length and the number of its entries.
 ghost use mathlib.Core.Path.{_≡_};
-ghost use Rattle.sheet.specs.Reads.{gain, spare, lengthBy};
+ghost use Rattle.sheet.specs.Inner.Lengths.{gain, spare, lengthBy};
 
 fn gained(row: usize) -> usize
     ensures { λ r. ⌜ r ≡ gain row ⌝ }

@@ -27,7 +27,9 @@ use Rattle.forms.proofs.FieldLaws.{pack-lt}
 use Rattle.sheet.specs.Content.{Item, common, plain, numbers, version, bare, frame, headOf, entryOf, sideOf, Fields, Descriptor, Loop, Entry, Entries, Body, Content, tableOf, frameOf, bodyOf, rowIn}
 use Rattle.sheet.specs.Sheet.{inOrder, descriptor}
 use Rattle.sheet.specs.Section.{sectionItem, sectionLoop, sectionEntry, sectionTop, sectionEntries, sectionBody, bodyBytes, sectionLength, front, seal, sectionOf}
-use Rattle.turn.proofs.SectionLaws.{half-bare, half-side, items-size, sizes, shortest, Numbers, numbers-of, Holds, entriesBytes, body-length, seal-length, front-is, front-length, first-byte, second-byte, third-byte, section-length, frame-lt, second, shown-alike}
+use Rattle.sheet.proofs.SectionSize.{seal-length, front-is, front-length, section-length, second}
+use Rattle.turn.specs.Holds.{Holds, entriesBytes}
+use Rattle.turn.proofs.SectionLaws.{half-bare, half-side, items-size, sizes, shortest, Numbers, numbers-of, body-length, first-byte, second-byte, third-byte, frame-lt, shown-alike}
 
 -- ---- loops
 
@@ -175,7 +177,7 @@ module _ (c : Content) (h : Holds c) where
   whole = ap (λ x. x ++ seal c) (front-is c) ∙ append-assoc opened inner (seal c)
 
   long : length (sectionOf c) ≡ 3 + sectionLength c
-  long = section-length c h
+  long = section-length c (h .known)
 
   declares : len12At (sectionOf c) 1 ≡ sectionLength c
   declares =

@@ -17,7 +17,8 @@ use Rattle.sheet.specs.Content.{Item, plain, numbers, packed, bare, frame, head
 use Rattle.sheet.specs.Sheet.{descriptor, sheetItem, sheetLoop, sheetEntry, sheetTop, sheetEntries, SheetOk}
 use Rattle.sheet.specs.Section.{sectionItem, sectionLoop, sectionEntry, sectionTop, sectionEntries}
 use Rattle.turn.specs.Ones.{Ones, ItemOnes, ItemsOnes, EntriesOnes, lengthBits, ReservedOnes}
-use Rattle.turn.proofs.SectionLaws.{descriptor-full, entry-full, Holds, entriesBytes}
+use Rattle.turn.specs.Holds.{Holds, entriesBytes}
+use Rattle.turn.proofs.SectionLaws.{descriptor-full, entry-full}
 
 -- there are no more items than bytes
 pub no-more : {A : Type 0} (c : Form A) → Full c → (l : List A) → All c l → length l ≤ length (all c l)

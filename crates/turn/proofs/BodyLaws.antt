@@ -20,8 +20,8 @@ use Rattle.forms.proofs.Turns.{done-both, done-length}
 use Rattle.sheet.specs.Content.{Entry, Entries, Loop, Body, bare, headOf}
 use Rattle.sheet.specs.Sheet.{sheetItem, sheetLoop, sheetEntry, sheetTop, sheetEntries, sheetBody}
 use Rattle.sheet.specs.Section.{sectionItem, sectionLoop, sectionEntry, sectionTop, sectionEntries, sectionBody}
-use Rattle.turn.specs.Ways.{itemsFrom, itemsTo, loopFrom, entryFrom, topIf, entriesShown, BesideOk, BesideFit, EntriesForth, EntriesBack, EntrySizes}
-use Rattle.turn.specs.Bodies.{SectionOk, BodyForth, BodyBack}
+use Rattle.turn.specs.Inner.Ways.{itemsFrom, itemsTo, loopFrom, entryFrom, topIf, entriesShown, BesideOk, BesideFit, EntriesForth, EntriesBack, EntrySizes}
+use Rattle.turn.specs.Inner.Bodies.{SectionOk, BodyForth, BodyBack}
 use Rattle.turn.proofs.Held.{no-fields}
 use Rattle.forms.specs.declared.Place.{Place}
 

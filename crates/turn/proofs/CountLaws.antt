@@ -20,7 +20,7 @@ use Rattle.forms.proofs.ListLaws.{Full}
 use Rattle.forms.proofs.Puts.{sum-fits}
 use Rattle.sheet.specs.Content.{Descriptor}
 use Rattle.sheet.specs.Sheet.{descriptor}
-use Rattle.turn.specs.Ways.{NumberIn, SizeAt}
+use Rattle.turn.specs.Inner.Ways.{NumberIn, SizeAt}
 use Rattle.turn.proofs.PieceLaws.{part-within, part-byte, part-first-byte}
 
 pub sum-more : (n k m : ℕ) → n < m → m < 2 ^ 64 → 0 < k → n < sum n k

@@ -20,7 +20,7 @@ use Rattle.forms.proofs.Turns.{turned-then, turned-as, turned-nothing, turned-z
 use Rattle.sheet.specs.Content.{Entry, Loop, bare, status, entryOf, sideOf}
 use Rattle.sheet.specs.Sheet.{sheetEntry}
 use Rattle.sheet.specs.Section.{sectionEntry}
-use Rattle.turn.specs.Ways.{itemsFrom, itemsTo, loopFrom, loopTo, entryFrom, entryTo, sideIf, topIf, entriesShown, BesideOk, BesideFit, EntriesForth, EntriesBack, NumberIn, putNumber}
+use Rattle.turn.specs.Inner.Ways.{itemsFrom, itemsTo, loopFrom, loopTo, entryFrom, entryTo, sideIf, topIf, entriesShown, BesideOk, BesideFit, EntriesForth, EntriesBack, NumberIn, putNumber}
 use Rattle.turn.proofs.SectionLaws.{half-bare, entry-full}
 use Rattle.turn.proofs.Accepted.{says}
 use Rattle.turn.proofs.AllOnes.{no-more}

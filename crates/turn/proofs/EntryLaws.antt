@@ -16,7 +16,7 @@ use Rattle.forms.proofs.Puts.{sum-fits}
 use Rattle.sheet.specs.Content.{Entry, entryOf, sideOf}
 use Rattle.sheet.specs.Sheet.{descriptor}
 use Rattle.sheet.specs.Section.{sectionItem, sectionEntry, sectionLoop}
-use Rattle.turn.specs.Ways.{EntrySizes}
+use Rattle.turn.specs.Inner.Ways.{EntrySizes}
 use Rattle.turn.proofs.SectionLaws.{half-side, items-size, sizes, numbers-of}
 use Rattle.turn.proofs.Accepted.{says}
 

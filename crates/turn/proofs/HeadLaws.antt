@@ -10,7 +10,7 @@ use Rattle.forms.specs.Room.{Turned}
 use Rattle.forms.proofs.Turns.{turned-none, turned-one, turned-such}
 use Rattle.sheet.specs.Content.{Item, plain, numbers, version, flags, filler, headOf, entryOf}
 use Rattle.sheet.specs.Sheet.{inOrder}
-use Rattle.turn.specs.Ways.{itemFrom, itemTo, itemsFrom, itemsTo}
+use Rattle.turn.specs.Inner.Ways.{itemFrom, itemTo, itemsFrom, itemsTo}
 use Rattle.forms.specs.declared.Place.{Place}
 
 -- ---- items row by row

@@ -5,6 +5,7 @@ pub mod Contained
 pub mod AllOnes
 pub mod SheetSize
 pub mod RoundTrips
+pub mod MadeOnes
 pub mod PieceLaws
 pub mod HeadLaws
 pub mod CountLaws
@@ -15,4 +16,6 @@ pub mod BodyLaws
 pub mod WholeLaws
 pub mod Once
 pub mod Demand2
+pub mod Refusals
+pub mod Rooms
 pub mod AtWork

@@ -20,7 +20,7 @@ use Rattle.forms.proofs.FieldLaws.{pack-lt}
 use Rattle.sheet.specs.Content.{Descriptor, Loop, bare, status}
 use Rattle.sheet.specs.Sheet.{descriptor, sheetLoop}
 use Rattle.sheet.specs.Section.{sectionLoop}
-use Rattle.turn.specs.Ways.{NumberIn, SizeAt, sideIf, sideAt, sideSize, sideBack, putNumber, loopFrom}
+use Rattle.turn.specs.Inner.Ways.{NumberIn, SizeAt, sideIf, sideAt, sideSize, sideBack, putNumber, loopFrom}
 use Rattle.turn.proofs.SectionLaws.{half-bare, descriptor-full}
 use Rattle.turn.proofs.Accepted.{says}
 use Rattle.turn.proofs.AllOnes.{no-more}

@@ -19,7 +19,7 @@ use Rattle.copy.proofs.Copies.{copies-not}
 use Rattle.sheet.specs.Content.{version, flags, filler}
 use Rattle.sheet.specs.Sheet.{sheetItem}
 use Rattle.sheet.specs.Section.{sectionItem}
-use Rattle.turn.specs.Ways.{itemFrom, itemTo, special, spanOf}
+use Rattle.turn.specs.Inner.Ways.{itemFrom, itemTo, special, spanOf}
 use Rattle.forms.specs.declared.Place.{Place}
 
 -- ---- parts

@@ -1,26 +1,26 @@
 -- Demand 2: "An accepted sheet made into a section and back is the same bytes; an accepted section made into a sheet and back is too, if its
 -- reserved bits were ones."
-use Prim.Native.Nat.{ℕ, _+_, _<_, _≤_}
+use Prim.Native.Nat.{ℕ, _<_, _≤_}
 use mathlib.Core.Path.{_≡_, refl, sym, ap, _∙_, subst}
 use mathlib.Core.List.{List}
 use mathlib.Core.Bool.{Bool, true, false}
 use native.Mathlib.Omega.{arith}
 use borrow.Author.Tests.{le-ltb}
-use lib.ListN.{length, length-append}
+use lib.ListN.{length}
 use lib.Dec.{ltb}
 use Rattle.wire.specs.If.{if_then_else_}
 use Rattle.wire.specs.Bytes.{Bytes}
 use Rattle.wire.specs.Reading as reading
-use Rattle.tables.specs.Tables.{rowAt}
 use Rattle.verdict.specs.Verdict as verdict
 use Rattle.section.specs.Reading.{judged}
-use Rattle.sheet.specs.Content.{Content, bodyOf, rowIn}
+use Rattle.sheet.specs.Content.{Content, rowIn}
 use Rattle.sheet.specs.Sheet.{sheetOf}
 use Rattle.sheet.specs.Section.{sectionLength, sectionOf, contentOf, readSheet}
-use Rattle.turn.specs.Turn.{Outcome, gives, refuses, sectionFrom, toSection, sheetFrom, sheetIf, toSheet}
-use Rattle.turn.specs.Ones.{ReservedOnes, OnesIn, ReservedWereOnes}
-use Rattle.turn.proofs.SectionLaws.{Holds, entriesBytes, body-length, numbers-of, content-again}
-use Rattle.turn.proofs.Held.{Held, held, read-again}
+use Rattle.turn.specs.Turn.{gives, refuses, sectionFrom, toSection, sheetFrom, sheetIf, toSheet}
+use Rattle.turn.specs.Ones.{OnesIn, ReservedWereOnes}
+use Rattle.turn.specs.Holds.{entriesBytes, Holds, SectionsOfContents}
+use Rattle.turn.proofs.SectionLaws.{body-length, numbers-of, content-again}
+use Rattle.turn.proofs.Held.{held, read-again}
 use Rattle.turn.proofs.Accepted.{made-accepted}
 use Rattle.turn.proofs.Contained.{contained}
 use Rattle.turn.proofs.AllOnes.{sheet-ok}
@@ -31,6 +31,11 @@ gives-is e = cc
 
 no-gives : {a : List ℕ} {k p : ℕ} → refuses k p ≡ gives a → ⊥
 no-gives e = let z : _≡_ {A = ℕ} 0 1 = cc in omega arith
+
+-- ---- sections and contents
+
+pub sections-of-contents : SectionsOfContents
+sections-of-contents s w = (contained s w, λ x. ap judged (sym (x .2)) ∙ made-accepted (x .0) (x .1))
 
 -- ---- a turn that ends well
 
@@ -66,32 +71,38 @@ of-accepted s w e =
     let r : contentOf s ≡ reading.value (x .0) = ap contentOf (sym (x .2)) ∙ content-again (x .0) (x .1) in
     record { content = x .0; holds = x .1; is = x .2; reads = r; made = ap sheetFrom r }
 
-pub from-section : (n : ℕ) (s t : List ℕ) → Bytes s → toSheet n s ≡ gives t → (judged s ≡ verdict.accepted) × FromSection s t
+pub from-section : (n : ℕ) (s t : List ℕ) → Bytes s → toSheet n s ≡ gives t
+    → (judged s ≡ verdict.accepted) × FromSection s t
 unfolding toSheet
 from-section n s t w e = roomy (ltb n 5120) e
   where
-    said : (v : verdict.Said) → judged s ≡ v → sheetIf v (sheetFrom (contentOf s)) ≡ gives t → (judged s ≡ verdict.accepted) × FromSection s t
+    said : (v : verdict.Said) → judged s ≡ v → sheetIf v (sheetFrom (contentOf s)) ≡ gives t
+        → (judged s ≡ verdict.accepted) × FromSection s t
     said verdict.accepted q f = (q, subst (FromSection s) (gives-is f) (of-accepted s w q))
     said (verdict.refused k p) q f = absurd (no-gives f)
 
-    roomy : (b : Bool) → (if b then refuses 21 0 else sheetIf (judged s) (sheetFrom (contentOf s))) ≡ gives t → (judged s ≡ verdict.accepted) × FromSection s t
+    roomy : (b : Bool) → (if b then refuses 21 0 else sheetIf (judged s) (sheetFrom (contentOf s))) ≡ gives t
+        → (judged s ≡ verdict.accepted) × FromSection s t
     roomy true f = absurd (no-gives f)
     roomy false f = said (judged s) refl f
 
 -- ---- and when it does
 
-pub to-section : (n : ℕ) (s : List ℕ) (c : Content) → 4096 ≤ n → readSheet s ≡ reading.value c → toSection n s ≡ gives (sectionOf c)
+pub to-section : (n : ℕ) (s : List ℕ) (c : Content) → 4096 ≤ n → readSheet s ≡ reading.value c
+    → toSection n s ≡ gives (sectionOf c)
 unfolding toSection
 to-section n s c h e = rw (le-ltb n 4096 h, e) refl
 
-pub to-sheet : (n : ℕ) (s : List ℕ) (c : Content) → 5120 ≤ n → judged s ≡ verdict.accepted → contentOf s ≡ reading.value c → toSheet n s ≡ gives (sheetOf c)
+pub to-sheet : (n : ℕ) (s : List ℕ) (c : Content) → 5120 ≤ n → judged s ≡ verdict.accepted
+    → contentOf s ≡ reading.value c → toSheet n s ≡ gives (sheetOf c)
 unfolding toSheet
 to-sheet n s c h e f = rw (le-ltb n 5120 h, e, f) refl
 
 -- ---- DEMAND 2
 
 -- an accepted sheet made into a section is accepted by the judge, and back it is the same bytes
-pub sheet-and-back : (n m : ℕ) (s t : List ℕ) → Bytes s → 5120 ≤ m → toSection n s ≡ gives t → (judged t ≡ verdict.accepted) × (toSheet m t ≡ gives s)
+pub sheet-and-back : (n m : ℕ) (s t : List ℕ) → Bytes s → 5120 ≤ m → toSection n s ≡ gives t
+    → (judged t ≡ verdict.accepted) × (toSheet m t ≡ gives s)
 sheet-and-back n m s t w h e =
     let x = from-sheet n s t e in
     let y = held s (x .content) w (x .reads) in
@@ -109,7 +120,8 @@ short c h =
     omega arith
 
 -- an accepted section made into a sheet and back is the same bytes, if its reserved bits were ones
-pub section-and-back : (n m : ℕ) (s t : List ℕ) → Bytes s → 4096 ≤ n → ReservedWereOnes s → toSheet m s ≡ gives t → toSection n t ≡ gives s
+pub section-and-back : (n m : ℕ) (s t : List ℕ) → Bytes s → 4096 ≤ n → ReservedWereOnes s → toSheet m s ≡ gives t
+    → toSection n t ≡ gives s
 section-and-back n m s t w h u e =
     let x = from-section m s t w e .1 in
     let c = x .content in

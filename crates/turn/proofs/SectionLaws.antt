@@ -1,29 +1,28 @@
 -- What a section holds is read from it again, and how long its parts are.
-use Prim.{tt}
 use Prim.Native.Nat.{ℕ, zero, suc, _+_, _-_, _*_, _/_, _%_, _<_, _≤_}
-use mathlib.Core.Path.{_≡_, refl, sym, ap, ap₂, _∙_, subst}
+use mathlib.Core.Path.{_≡_, refl, sym, ap, ap₂, _∙_}
 use mathlib.Core.List.{List, [], _∷_, _++_, append-nil}
 use mathlib.Core.Bool.{Bool, true, false}
 use native.Mathlib.Omega.{arith}
-use borrow.Author.Tests.{eqb-true, eq-eqb}
 use lib.ListN.{length, getD, take, drop, length-append}
 use lib.Seq.{take-at}
 use lib.Dec.{eqb}
 use Rattle.wire.specs.If.{if_then_else_}
-use Rattle.wire.specs.Reading.{Reading, value, _>>=_}
-use Rattle.wire.proofs.IfLaws.{if-case}
-use Rattle.crc.specs.Crc.{crc, bytesOf}
+use Rattle.wire.specs.Reading.{value, _>>=_}
 use Rattle.tables.specs.Tables.{cell, rowOf, rowAt}
-use Rattle.forms.specs.Form.{Form, mute, raw, _then_, such, each, eachShow, EachOk}
-use Rattle.forms.specs.Fields.{Field, room, pack, unpack, Fit, byteOf}
-use Rattle.forms.specs.Lists.{loop, loopShow, filling, all, All}
-use Rattle.forms.proofs.Lawful.{Complete, read-on, mute-lawful, raw-lawful, then-complete, such-complete, each-complete}
+use Rattle.forms.specs.Form.{Form, mute, raw, _then_, each, eachShow, EachOk}
+use Rattle.forms.specs.Fields.{room, pack, unpack}
+use Rattle.forms.specs.Lists.{loop, loopShow, filling}
+use Rattle.forms.specs.Laws.{Complete}
+use Rattle.forms.proofs.Lawful.{read-on, mute-lawful, raw-lawful, then-complete, such-complete, each-complete}
 use Rattle.forms.proofs.FieldLaws.{byte-complete, pack-lt, unpack-pack}
 use Rattle.forms.proofs.ListLaws.{Full, loop-complete, filling-read}
-use Rattle.sheet.specs.Content.{Item, plain, numbers, packed, bare, status, frame, headOf, entryOf, sideOf, Fields, Descriptor, Loop, Entry, Entries, Body, Content, tableOf, frameOf, bodyOf, rowIn}
+use Rattle.sheet.specs.Content.{Item, plain, numbers, packed, bare, status, frame, headOf, entryOf, sideOf, Fields, Loop, Entries, Content, tableOf, frameOf, bodyOf, rowIn}
 use Rattle.sheet.specs.Sheet.{inOrder, descriptor}
 use Rattle.sheet.specs.Section.{sectionItem, sectionLoop, sectionEntry, sectionTop, sectionEntries, sectionBody, bodyBytes, sectionLength, front, seal, sectionOf, middle, contentOf}
+use Rattle.turn.specs.Holds.{entriesBytes, Holds}
 use Rattle.sheet.proofs.SheetLaws.{descriptor-complete}
+use Rattle.sheet.proofs.SectionSize.{second, front-is, seal-length}
 
 -- ---- each part is read as it is shown
 
@@ -58,7 +57,9 @@ entry-complete row =
 
 pub entry-full : (row : ℕ) → Full (sectionEntry row)
 unfolding loopShow
-entry-full row e o = let l = length-append (each sectionItem (entryOf row) .show (e .0)) (sectionLoop (sideOf row) .show (e .1)) in omega arith
+entry-full row e o =
+    let l = length-append (each sectionItem (entryOf row) .show (e .0)) (sectionLoop (sideOf row) .show (e .1)) in
+    omega arith
 
 if-complete : {A : Type 0} (b : Bool) (c d : Form A) → Complete c → Complete d → Complete (if b then c else d)
 if-complete true c d f g = f
@@ -66,18 +67,25 @@ if-complete false c d f g = g
 
 pub top-complete : (row : ℕ) → Complete (sectionTop row)
 unfolding sectionTop
-top-complete row = if-complete (eqb (rowAt row .top) 1) (sectionLoop bare) (mute ([], [])) (loop-complete descriptor descriptor-complete descriptor-full bare half-bare) (mute-lawful ([], []) .complete)
+top-complete row =
+    if-complete (eqb (rowAt row .top) 1) (sectionLoop bare) (mute ([], []))
+    (loop-complete descriptor descriptor-complete descriptor-full bare half-bare) (mute-lawful ([], []) .complete)
 
 pub entries-complete : (row n : ℕ) → Complete (sectionEntries row n)
 unfolding sectionEntries
 entries-complete row n =
-    if-complete (eqb (rowAt row .fixed) 0) (mute ([], [])) (if eqb (rowAt row .top) 1 then loop (sectionEntry row) bare else mute [] then filling (sectionEntry row) n) (mute-lawful ([], []) .complete)
-    (if-complete (eqb (rowAt row .top) 1) (loop (sectionEntry row) bare) (mute [] then filling (sectionEntry row) n) (loop-complete (sectionEntry row) (entry-complete row) (entry-full row) bare half-bare)
-    (then-complete (mute []) (filling (sectionEntry row) n) (mute-lawful [] .complete) (filling-read (sectionEntry row) (entry-complete row) (entry-full row) n)))
+    if-complete (eqb (rowAt row .fixed) 0) (mute ([], []))
+    (if eqb (rowAt row .top) 1 then loop (sectionEntry row) bare else mute [] then filling (sectionEntry row) n)
+    (mute-lawful ([], []) .complete)
+    (if-complete (eqb (rowAt row .top) 1) (loop (sectionEntry row) bare) (mute [] then filling (sectionEntry row) n)
+    (loop-complete (sectionEntry row) (entry-complete row) (entry-full row) bare half-bare)
+    (then-complete (mute []) (filling (sectionEntry row) n) (mute-lawful [] .complete)
+    (filling-read (sectionEntry row) (entry-complete row) (entry-full row) n)))
 
 pub body-complete : (row n : ℕ) → Complete (sectionBody row n)
 body-complete row n =
-    then-complete (each sectionItem (headOf row)) (sectionTop row then sectionEntries row n) (items-complete (headOf row))
+    then-complete (each sectionItem (headOf row)) (sectionTop row then sectionEntries row n)
+    (items-complete (headOf row))
     (then-complete (sectionTop row) (sectionEntries row n) (top-complete row) (entries-complete row n))
 
 -- ---- sizes
@@ -123,25 +131,63 @@ pub record Numbers (row : ℕ) : Type 0 where
 
 pub numbers-of : (row : ℕ) → row < 6 → Numbers row
 unfolding cell headOf entryOf sizes shortest
-numbers-of zero h = record { head = refl; five = omega arith; entry = λ _. refl; syntax = omega arith; most = omega arith; crc-bit = omega arith; least = refl }
-numbers-of (suc zero) h = record { head = refl; five = omega arith; entry = λ _. refl; syntax = omega arith; most = omega arith; crc-bit = omega arith; least = refl }
-numbers-of (suc (suc zero)) h = record { head = refl; five = omega arith; entry = λ _. refl; syntax = omega arith; most = omega arith; crc-bit = omega arith; least = refl }
-numbers-of (suc (suc (suc zero))) h = record { head = refl; five = omega arith; entry = λ _. refl; syntax = omega arith; most = omega arith; crc-bit = omega arith; least = refl }
-numbers-of (suc (suc (suc (suc zero)))) h = record { head = refl; five = omega arith; entry = λ n. absurd (n refl); syntax = omega arith; most = omega arith; crc-bit = omega arith; least = refl }
-numbers-of (suc (suc (suc (suc (suc zero))))) h = record { head = refl; five = omega arith; entry = λ n. absurd (n refl); syntax = omega arith; most = omega arith; crc-bit = omega arith; least = refl }
+numbers-of zero h = record {
+  head = refl;
+  five = omega arith;
+  entry = λ _. refl;
+  syntax = omega arith;
+  most = omega arith;
+  crc-bit = omega arith;
+  least = refl;
+}
+numbers-of (suc zero) h = record {
+  head = refl;
+  five = omega arith;
+  entry = λ _. refl;
+  syntax = omega arith;
+  most = omega arith;
+  crc-bit = omega arith;
+  least = refl;
+}
+numbers-of (suc (suc zero)) h = record {
+  head = refl;
+  five = omega arith;
+  entry = λ _. refl;
+  syntax = omega arith;
+  most = omega arith;
+  crc-bit = omega arith;
+  least = refl;
+}
+numbers-of (suc (suc (suc zero))) h = record {
+  head = refl;
+  five = omega arith;
+  entry = λ _. refl;
+  syntax = omega arith;
+  most = omega arith;
+  crc-bit = omega arith;
+  least = refl;
+}
+numbers-of (suc (suc (suc (suc zero)))) h = record {
+  head = refl;
+  five = omega arith;
+  entry = λ n. absurd (n refl);
+  syntax = omega arith;
+  most = omega arith;
+  crc-bit = omega arith;
+  least = refl;
+}
+numbers-of (suc (suc (suc (suc (suc zero))))) h = record {
+  head = refl;
+  five = omega arith;
+  entry = λ n. absurd (n refl);
+  syntax = omega arith;
+  most = omega arith;
+  crc-bit = omega arith;
+  least = refl;
+}
 numbers-of (suc (suc (suc (suc (suc (suc row)))))) h = absurd (omega arith)
 
 -- ---- what can stand in a section
-
--- the bytes of the entries
-abbrev pub entriesBytes : Content → List ℕ
-entriesBytes c = sectionEntries (rowIn c) 0 .show (bodyOf c .1 .1)
-
-pub record Holds (c : Content) : Type 0 where
-  pub known : rowIn c < 6
-  pub frame-fits : Fit frame (frameOf c)
-  pub body : sectionBody (rowIn c) (length (entriesBytes c)) .Ok (bodyOf c)
-  pub most : sectionLength c ≤ rowAt (rowIn c) .most
 
 -- how entries are shown does not depend on the number of bytes
 pub shown-alike : (row n m : ℕ) (e : Entries) → sectionEntries row n .show e ≡ sectionEntries row m .show e
@@ -149,14 +195,20 @@ unfolding sectionEntries
 shown-alike row n m e = go (eqb (rowAt row .fixed) 0) (eqb (rowAt row .top) 1)
   where
     go : (z t : Bool)
-        → (if z then mute ([], []) else if t then loop (sectionEntry row) bare else mute [] then filling (sectionEntry row) n) .show e
-        ≡ (if z then mute ([], []) else if t then loop (sectionEntry row) bare else mute [] then filling (sectionEntry row) m) .show e
+        → (if z then mute ([], []) else if t then loop (sectionEntry row) bare else mute [] then filling
+        (sectionEntry row) n) .show
+        e
+        ≡ (if z then mute ([], []) else if t then loop (sectionEntry row) bare else mute [] then filling
+        (sectionEntry row) m) .show
+        e
     go true t = refl
     go false true = refl
     go false false = refl
 
 -- the head's bytes, those of the top loop, those of the entries
-pub body-length : (c : Content) → Holds c → 3 + length (bodyBytes c) ≡ rowAt (rowIn c) .before + length (sectionTop (rowIn c) .show (bodyOf c .1 .0)) + length (entriesBytes c)
+pub body-length : (c : Content) → Holds c
+    → 3 + length (bodyBytes c)
+    ≡ rowAt (rowIn c) .before + length (sectionTop (rowIn c) .show (bodyOf c .1 .0)) + length (entriesBytes c)
 body-length c h =
     let row = rowIn c in
     let x = each sectionItem (headOf row) .show (bodyOf c .0) in
@@ -169,13 +221,18 @@ body-length c h =
     omega arith
 
 -- and where they have a length of their own, neither does whether they can be
-ok-at : (row n m : ℕ) (e : Entries) → (eqb (rowAt row .top) 1 ≡ false → n ≡ m) → sectionEntries row n .Ok e → sectionEntries row m .Ok e
+ok-at : (row n m : ℕ) (e : Entries) → (eqb (rowAt row .top) 1 ≡ false → n ≡ m) → sectionEntries row n .Ok e
+    → sectionEntries row m .Ok e
 unfolding sectionEntries
 ok-at row n m e h = go (eqb (rowAt row .fixed) 0) (eqb (rowAt row .top) 1) h
   where
     go : (z t : Bool) → (t ≡ false → n ≡ m)
-        → (if z then mute ([], []) else if t then loop (sectionEntry row) bare else mute [] then filling (sectionEntry row) n) .Ok e
-        → (if z then mute ([], []) else if t then loop (sectionEntry row) bare else mute [] then filling (sectionEntry row) m) .Ok e
+        → (if z then mute ([], []) else if t then loop (sectionEntry row) bare else mute [] then filling
+        (sectionEntry row) n) .Ok
+        e
+        → (if z then mute ([], []) else if t then loop (sectionEntry row) bare else mute [] then filling
+        (sectionEntry row) m) .Ok
+        e
     go true t h o = o
     go false true h o = o
     go false false h o = let l = o .1 .0 in let q = h refl in (o .0, (omega arith, o .1 .1))
@@ -185,29 +242,6 @@ unfolding sectionTop
 no-top row l e = rw e refl
 
 -- ---- what a section holds is read from it again
-
-pub seal-length : (c : Content) → rowIn c < 6 → length (seal c) ≡ 4 * rowAt (rowIn c) .crc
-unfolding seal
-seal-length c k = go (eqb (rowAt (rowIn c) .crc) 1) refl
-  where
-    zero-or : (x : ℕ) → x ≤ 1 → eqb x 1 ≡ false → x ≡ 0
-    zero-or zero h f = refl
-    zero-or (suc zero) h f = let y : _≡_ {A = ℕ} 0 1 = cc in absurd (omega arith)
-    zero-or (suc (suc x)) h f = absurd (omega arith)
-
-    go : (b : Bool) → eqb (rowAt (rowIn c) .crc) 1 ≡ b → length (if b then bytesOf (crc (front c)) else []) ≡ 4 * rowAt (rowIn c) .crc
-    go true e = let h = eqb-true (rowAt (rowIn c) .crc) 1 e in omega arith
-    go false e = let h = zero-or (rowAt (rowIn c) .crc) (numbers-of (rowIn c) k .crc-bit) e in omega arith
-
-abbrev pub second : Content → ℕ
-second c = rowAt (rowIn c) .syntax * 128 + pack frame (frameOf c) * 16 + sectionLength c / 256
-
-pub front-is : (c : Content) → front c ≡ tableOf c ∷ second c ∷ (sectionLength c % 256) ∷ bodyBytes c
-unfolding front
-front-is c = refl
-
-pub front-length : (c : Content) → length (front c) ≡ 3 + length (bodyBytes c)
-front-length c = ap length (front-is c) ∙ omega arith
 
 -- its first two bytes
 pub first-byte : (c : Content) → getD (sectionOf c) 0 0 ≡ tableOf c
@@ -222,14 +256,6 @@ pub third-byte : (c : Content) → getD (sectionOf c) 2 0 ≡ sectionLength c % 
 unfolding sectionOf
 third-byte c = ap (λ x. getD (x ++ seal c) 2 0) (front-is c)
 
-pub section-length : (c : Content) → Holds c → length (sectionOf c) ≡ 3 + sectionLength c
-unfolding sectionOf sectionLength
-section-length c h =
-    let a = length-append (front c) (seal c) in
-    let b = front-length c in
-    let d = seal-length c (h .known) in
-    omega arith
-
 pub frame-lt : (c : Content) → Holds c → pack frame (frameOf c) < 8
 unfolding room
 frame-lt c h = pack-lt frame (frameOf c) (h .frame-fits)
@@ -237,7 +263,8 @@ frame-lt c h = pack-lt frame (frameOf c) (h .frame-fits)
 pub middle-is : (c : Content) → Holds c → middle (sectionOf c) ≡ bodyBytes c
 unfolding sectionOf
 middle-is c h =
-    let n : length (front c) ≡ length (sectionOf c) - 4 * rowAt (rowIn c) .crc = omega (arith, length-append (front c) (seal c), seal-length c (h .known)) in
+    let n : length (front c) ≡ length (sectionOf c) - 4 * rowAt (rowIn c) .crc =
+    omega (arith, length-append (front c) (seal c), seal-length c (h .known)) in
     ap (λ id. drop 3 (take (length (sectionOf c) - 4 * rowAt (rowOf id) .crc) (sectionOf c))) (first-byte c)
     ∙ ap (drop 3) (take-at (front c) (seal c) (length (sectionOf c) - 4 * rowAt (rowIn c) .crc) n)
     ∙ ap (drop 3) (front-is c)
@@ -248,16 +275,23 @@ content-again c h =
     let row = rowIn c in
     let n : ℕ = 3 + length (bodyBytes c) - rowAt row .before in
     let l = body-length c h in
-    let same : eqb (rowAt row .top) 1 ≡ false → length (entriesBytes c) ≡ n = λ e. omega (arith, no-top row (bodyOf c .1 .0) e) in
-    let ok : sectionBody row n .Ok (bodyOf c) = (h .body .0, (h .body .1 .0, ok-at row (length (entriesBytes c)) n (bodyOf c .1 .1) same (h .body .1 .1))) in
+    let same : eqb (rowAt row .top) 1 ≡ false → length (entriesBytes c) ≡ n =
+    λ e. omega (arith, no-top row (bodyOf c .1 .0) e) in
+    let ok : sectionBody row n .Ok (bodyOf c) =
+    (h .body .0, (h .body .1 .0, ok-at row (length (entriesBytes c)) n (bodyOf c .1 .1) same (h .body .1 .1))) in
     let shows : sectionBody row n .show (bodyOf c) ++ [] ≡ bodyBytes c =
     append-nil (sectionBody row n .show (bodyOf c))
-    ∙ ap (λ x. each sectionItem (headOf row) .show (bodyOf c .0) ++ (sectionTop row .show (bodyOf c .1 .0) ++ x)) (shown-alike row n 0 (bodyOf c .1 .1)) in
+    ∙ ap (λ x. each sectionItem (headOf row) .show (bodyOf c .0) ++ (sectionTop row .show (bodyOf c .1 .0) ++ x))
+    (shown-alike row n 0 (bodyOf c .1 .1)) in
     let f = frame-lt c h in
     let m = h .most in
     let k = numbers-of row (h .known) in
     let g : second c / 16 % 8 ≡ pack frame (frameOf c) = omega (arith, k .most, k .syntax) in
-    ap₂ (λ id (b : List ℕ). sectionBody (rowOf id) (3 + length b - rowAt (rowOf id) .before) .read b >>= λ x. value (id, (unpack frame (getD (sectionOf c) 1 0 / 16 % 8), x .0)))
+    ap₂ (λ id (b : List ℕ). sectionBody (rowOf id) (3 + length b - rowAt (rowOf id) .before) .read b
+    >>= λ x. value (id, (unpack frame (getD (sectionOf c) 1 0 / 16 % 8), x .0)))
     (first-byte c) (middle-is c h)
     ∙ read-on _ (ap (sectionBody row n .read) (sym shows) ∙ body-complete row n (bodyOf c) [] ok)
-    ∙ ap (λ v. value (tableOf c, (v, bodyOf c))) (ap (λ x. unpack frame (x / 16 % 8)) (second-byte c) ∙ ap (unpack frame) g ∙ unpack-pack frame (frameOf c) (h .frame-fits))
+    ∙ ap (λ v. value (tableOf c, (v, bodyOf c)))
+    (ap (λ x. unpack frame (x / 16 % 8)) (second-byte c)
+    ∙ ap (unpack frame) g
+    ∙ unpack-pack frame (frameOf c) (h .frame-fits))

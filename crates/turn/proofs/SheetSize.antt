@@ -15,7 +15,9 @@ use Rattle.forms.specs.Lists.{loop, loopShow, filling, counted, countedShow, al
 use Rattle.sheet.specs.Content.{Item, plain, numbers, packed, bare, frame, headOf, entryOf, sideOf, Fields, Loop, Entry, Entries, Content, frameOf, bodyOf, rowIn}
 use Rattle.sheet.specs.Sheet.{descriptor, sheetItem, sheetLoop, sheetEntry, sheetTop, sheetEntries, sheetOf}
 use Rattle.sheet.specs.Section.{sectionItem, sectionLoop, sectionEntry, sectionTop, sectionEntries, sectionLength, sectionOf, bodyBytes}
-use Rattle.turn.proofs.SectionLaws.{sizes, items-size, numbers-of, Numbers, Holds, entriesBytes, body-length, section-length, shown-alike}
+use Rattle.sheet.proofs.SectionSize.{section-length}
+use Rattle.turn.specs.Holds.{Holds, entriesBytes}
+use Rattle.turn.proofs.SectionLaws.{sizes, items-size, numbers-of, Numbers, body-length, shown-alike}
 
 -- ---- the bytes of a sheet's parts
 
@@ -165,7 +167,7 @@ sheet-fits c h =
 
 pub section-fits : (c : Content) → Holds c → length (sectionOf c) ≤ 4096
 section-fits c h =
-    let l = section-length c h in
+    let l = section-length c (h .known) in
     let m = h .most in
     let n = numbers-of (rowIn c) (h .known) .most in
     omega arith

@@ -29,11 +29,13 @@ use Rattle.sheet.specs.Content.{Content, frame, tableOf, frameOf, bodyOf, rowIn
 use Rattle.sheet.specs.Sheet.{sheetBody, sheetOf, SheetOk}
 use Rattle.sheet.specs.Section.{sectionBody, bodyBytes, sectionLength, front, seal, sectionOf, contentOf, readSheet}
 use Rattle.sheet.specs.Reads.{judgedSheet}
-use Rattle.turn.specs.Ways.{putNumber}
-use Rattle.turn.specs.Bodies.{BodyForth, BodyBack, SectionWritten, SheetWritten, AcceptedWritten}
+use Rattle.turn.specs.Inner.Ways.{putNumber}
+use Rattle.turn.specs.Inner.Bodies.{BodyForth, BodyBack, SectionWritten, SheetWritten, AcceptedWritten}
 use Rattle.turn.specs.Turn as turn
 use Rattle.turn.specs.Answers.{toldRefusal}
-use Rattle.turn.proofs.SectionLaws.{Holds, numbers-of, front-is, front-length, second, first-byte, section-length, seal-length, frame-lt}
+use Rattle.sheet.proofs.SectionSize.{front-is, front-length, second, section-length, seal-length}
+use Rattle.turn.specs.Holds.{Holds}
+use Rattle.turn.proofs.SectionLaws.{numbers-of, first-byte, frame-lt}
 use Rattle.turn.proofs.Held.{Held, held}
 use Rattle.turn.proofs.SheetSize.{sheet-fits}
 use Rattle.turn.proofs.RoundTrips.{FromSection, of-accepted, to-section, to-sheet}
@@ -171,7 +173,7 @@ module _ (s o : List ℕ) (w : Bytes s) (lo : length o < 2 ^ 64) (n number : ℕ
     written = λ c r hn hr big.
         let f = fronted c r hn hr big in
         let m = numbers-of (rowIn c) (f .holds .known) in
-        let sl = section-length c (f .holds) in
+        let sl = section-length c (f .holds .known) in
         let ml = f .holds .most in
         let mm = m .most in
         let la = length-append (front c) (seal c) in
@@ -220,7 +222,7 @@ module _ (s o : List ℕ) (w : Bytes s) (number : ℕ) (o₁ o₂ : List ℕ) (q
         let is : sectionOf c ≡ s = ap sectionOf (sym cc') ∙ x .is in
         let m = numbers-of (rowIn c) (k .known) in
         let b = bodyBytes c in
-        let sl = section-length c k in
+        let sl = section-length c (k .known) in
         let lw = ap length is in
         let fl = front-length c in
         let la = length-append (front c) (seal c) in
@@ -297,7 +299,7 @@ section-made n s k w h e =
     let x = through (readSheet s) _ k e in
     let c = x .0 in
     let y = held s c w (x .1) in
-    let l = section-length c (y .holds) in
+    let l = section-length c (y .holds .known) in
     let hk : k ≡ sectionLength c = sym (value-is (x .2)) in
     let m = y .holds .most in
     let mm = numbers-of (rowIn c) (y .holds .known) .most in

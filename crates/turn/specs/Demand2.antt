@@ -1,4 +1,4 @@
--- Demand 2 over calls: what both functions promise, and what that comes to when one is called after the other.
+-- Demand 2 over calls: what both functions promise, their `ensures`, and what that comes to when one is called after the other.
 use Prim.Native.Nat.{ℕ, _≤_}
 use mathlib.Core.Path.{_≡_}
 use mathlib.Core.List.{List}
@@ -14,15 +14,13 @@ use Rattle.turn.specs.declared.SectionAnswer.the-variants as section
 use Rattle.turn.specs.declared.SheetAnswer.{SheetAnswer}
 use Rattle.turn.specs.declared.SheetAnswer.the-variants as sheet
 
--- a call of `to_section` with a room o: the answer, and the room after it
-pub record ToSection (s o : List ℕ) (r : SectionAnswer) (o' : List ℕ) : Type 0 where
-  pub tells : toldSection r ≡ answer (toSection (length o) s)
-  pub leaves : o' ≡ roomAfter o (toSection (length o) s)
+-- what `to_section` promises of a call with a room o: the answer, and the room after it
+abbrev pub ToSection : List ℕ → List ℕ → SectionAnswer → List ℕ → Type 0
+ToSection s o r o' = (toldSection r ≡ answer (toSection (length o) s)) × (o' ≡ roomAfter o (toSection (length o) s))
 
--- a call of `to_sheet`
-pub record ToSheet (s o : List ℕ) (r : SheetAnswer) (o' : List ℕ) : Type 0 where
-  pub tells : toldSheet r ≡ answer (toSheet (length o) s)
-  pub leaves : o' ≡ roomAfter o (toSheet (length o) s)
+-- what `to_sheet` promises
+abbrev pub ToSheet : List ℕ → List ℕ → SheetAnswer → List ℕ → Type 0
+ToSheet s o r o' = (toldSheet r ≡ answer (toSheet (length o) s)) × (o' ≡ roomAfter o (toSheet (length o) s))
 
 -- "An accepted sheet made into a section and back is the same bytes"; and the section is accepted
 abbrev pub SheetAndBack : Type 0
@@ -33,3 +31,12 @@ SheetAndBack = (s o o' p p' : List ℕ) (n : ℕ) (r : SheetAnswer) → Bytes s 
 abbrev pub SectionAndBack : Type 0
 SectionAndBack = (s o o' p p' : List ℕ) (n : ℕ) (r : SectionAnswer) → Bytes s → ReservedWereOnes s → ToSheet s o (sheet.Wrote n) o' → 4096 ≤ length p → ToSection (take n o') p r p'
     → (r ≡ section.Wrote (length s)) × (take (length s) p' ≡ s)
+
+-- "Reserved bits are written as ones."
+abbrev pub WrittenAsOnes : Type 0
+WrittenAsOnes = (s o o' : List ℕ) (n : ℕ) → Bytes s → ToSection s o (section.Wrote n) o' → ReservedWereOnes (take n o')
+
+-- and so no other section comes back as it was: the premise of `SectionAndBack` is exact
+abbrev pub BackOnlyIf : Type 0
+BackOnlyIf = (s o o' p p' : List ℕ) (n m : ℕ) → Bytes s → Bytes o' → ToSheet s o (sheet.Wrote n) o' → ToSection (take n o') p (section.Wrote m) p'
+    → take m p' ≡ s → ReservedWereOnes s

@@ -2,7 +2,7 @@
 ghost use mathlib.Core.Path.{_≡_};
 ghost use Prim.Native.Nat.{_<_};
 ghost use lib.Dec.{eqb};
-ghost use Rattle.turn.specs.Bodies.{BodyForth, BodyBack};
+ghost use Rattle.turn.specs.Inner.Bodies.{BodyForth, BodyBack};
 use crate::entries::entries_back;
 use crate::entries::entries_forth;
 use crate::entries::top_loop;

@@ -4,7 +4,7 @@ ghost use Prim.Native.Nat.{_≤_};
 ghost use Rattle.tables.specs.Tables.{rowAt};
 ghost use Rattle.sheet.specs.Sheet.{descriptor};
 ghost use Rattle.sheet.specs.Section.{sectionEntry};
-ghost use Rattle.turn.specs.Ways.{NumberIn, SizeAt, EntrySizes};
+ghost use Rattle.turn.specs.Inner.Ways.{NumberIn, SizeAt, EntrySizes};
 use forms::past;
 use wire::length12_at;
 use wire::numbers::byte_at;

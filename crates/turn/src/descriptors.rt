@@ -3,7 +3,7 @@ ghost use mathlib.Core.Path.{_≡_};
 ghost use mathlib.Core.Bool.{true, false, not};
 ghost use Prim.Native.Nat.{_+_};
 ghost use Rattle.forms.specs.Room.{Turned, sum};
-ghost use Rattle.turn.specs.Ways.{sideIf, sideAt, sideSize, sideBack, putNumber, loopFrom, loopTo};
+ghost use Rattle.turn.specs.Inner.Ways.{sideIf, sideAt, sideSize, sideBack, putNumber, loopFrom, loopTo};
 use crate::counts::descriptors_in;
 use crate::counts::descriptors_size;
 use copy::copy_few;

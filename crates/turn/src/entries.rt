@@ -5,7 +5,7 @@ ghost use Prim.Native.Nat.{_<_};
 ghost use Rattle.forms.specs.Lists.{times};
 ghost use Rattle.forms.specs.Room.{Turned};
 ghost use Rattle.sheet.specs.Content.{sideOf};
-ghost use Rattle.turn.specs.Ways.{sideIf, topIf, entryFrom, entryTo, EntriesForth, EntriesBack, EntrySizes};
+ghost use Rattle.turn.specs.Inner.Ways.{sideIf, topIf, entryFrom, entryTo, EntriesForth, EntriesBack, EntrySizes};
 use crate::counts::entries_in;
 use crate::descriptors::put_number;
 use crate::descriptors::turn_loop;

@@ -3,7 +3,7 @@ ghost use Prim.Native.Nat.{_<_};
 ghost use lib.ListN.{drop};
 ghost use Rattle.forms.specs.Room.{Turned};
 ghost use Rattle.sheet.specs.Content.{headOf, entryOf};
-ghost use Rattle.turn.specs.Ways.{itemsFrom, itemsTo};
+ghost use Rattle.turn.specs.Inner.Ways.{itemsFrom, itemsTo};
 use crate::pieces::filler;
 use crate::pieces::packed;
 use crate::pieces::plain;

@@ -1,8 +1,5 @@
 // Document 01, "Content sheets": a sheet becomes a section, and a section a sheet.
-ghost use mathlib.Core.Path.{_≡_};
-ghost use lib.ListN.{length};
-ghost use Rattle.turn.specs.Turn.{toSection, toSheet, answer, roomAfter};
-ghost use Rattle.turn.specs.Answers.{toldSection, toldSheet};
+ghost use Rattle.turn.specs.Demand2.{ToSection, ToSheet};
 use section::judge::judge;
 use sheet::Judged;
 use tables::row_of;
@@ -49,7 +46,7 @@ pub enum SheetAnswer {
 }
 
 pub fn to_section(sheet: &[u8], room: &mut [u8]) -> SectionAnswer
-    ensures { λ r. ⌜ (toldSection r ≡ answer (toSection (length (now (room .entry))) (now (sheet .entry)))) × (now (room .exit) ≡ roomAfter (now (room .entry)) (toSection (length (now (room .entry))) (now (sheet .entry)))) ⌝ }
+    ensures { λ r. ⌜ ToSection (now (sheet .entry)) (now (room .entry)) r (now (room .exit)) ⌝ }
 {
     if room.len() < 4096 {
         return SectionAnswer::Room;
@@ -69,7 +66,7 @@ pub fn to_section(sheet: &[u8], room: &mut [u8]) -> SectionAnswer
 }
 
 pub fn to_sheet(section: &[u8], room: &mut [u8]) -> SheetAnswer
-    ensures { λ r. ⌜ (toldSheet r ≡ answer (toSheet (length (now (room .entry))) (now (section .entry)))) × (now (room .exit) ≡ roomAfter (now (room .entry)) (toSheet (length (now (room .entry))) (now (section .entry)))) ⌝ }
+    ensures { λ r. ⌜ ToSheet (now (section .entry)) (now (room .entry)) r (now (room .exit)) ⌝ }
 {
     if room.len() < 5120 {
         return SheetAnswer::Room;

@@ -7,7 +7,7 @@ ghost use Rattle.forms.specs.Room.{Turned};
 ghost use Rattle.sheet.specs.Content.{filler};
 ghost use Rattle.sheet.specs.Sheet.{sheetItem};
 ghost use Rattle.sheet.specs.Section.{sectionItem};
-ghost use Rattle.turn.specs.Ways.{itemFrom, itemTo, special, spanOf};
+ghost use Rattle.turn.specs.Inner.Ways.{itemFrom, itemTo, special, spanOf};
 use copy::copy_few;
 use forms::Place;
 use forms::past;

@@ -1,7 +1,7 @@
 -- `sheet::judge_known` meets its contract.
 use native.Mathlib.Omega.{arith}
 use mathlib.Core.Path.{sym, ap, ap₂, _∙_}
-use Rattle.sheet.specs.Reads.{judgedLength}
+use Rattle.sheet.specs.Inner.Lengths.{judgedLength}
 use Rattle.sheet.proofs.ReadLaws.{seen}
 use Rattle.sheet.proofs.JudgeLaws.{judged-refused, judged-after, judged-whole}
 use borrow.Author.Needs.{needs}

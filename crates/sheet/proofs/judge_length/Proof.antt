@@ -1,7 +1,7 @@
 -- `sheet::judge_length` meets its contract.
 use native.Mathlib.Omega.{arith}
 use borrow.Author.Tests.{lt-ltb, le-ltb}
-use Rattle.sheet.specs.Reads.{judgedLength}
+use Rattle.sheet.specs.Inner.Lengths.{judgedLength}
 use Rattle.sheet.proofs.judge_length.Statement.{statement}
 use Rattle.sheet.proofs.judge_length.Tie as tie
 

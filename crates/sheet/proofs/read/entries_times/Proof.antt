@@ -1,7 +1,7 @@
 -- `sheet::read::entries_times` meets its contract.
 use borrow.Author.Needs.{needs}
 use native.Mathlib.Omega.{arith}
-use Rattle.sheet.specs.Reads.{entryWith}
+use Rattle.sheet.specs.Inner.Places.{entryWith}
 use Rattle.sheet.proofs.ReadLaws.{Rest, item-on, item-early, item-wide, items-done}
 use Rattle.sheet.proofs.read.entries_times.Statement.{statement}
 use Rattle.sheet.proofs.read.entries_times.Tie as tie

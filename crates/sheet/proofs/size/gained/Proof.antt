@@ -1,7 +1,7 @@
 -- `sheet::size::gained` meets its contract.
 use native.Mathlib.Omega.{arith}
 use mathlib.Core.Path.{sym, ap}
-use Rattle.sheet.specs.Reads.{gain}
+use Rattle.sheet.specs.Inner.Lengths.{gain}
 use Rattle.sheet.proofs.Sizes.{gain-none, gain-loops}
 use Rattle.sheet.proofs.size.gained.Statement.{statement}
 use Rattle.sheet.proofs.size.gained.Tie as tie

@@ -3,7 +3,7 @@ use mathlib.Core.Path.{ap, ap₂, _∙_}
 use Prim.Native.Nat.{_-_}
 use lib.ListN.{length}
 use Rattle.forms.specs.Room.{sum}
-use Rattle.sheet.specs.Reads.{lengthBy}
+use Rattle.sheet.specs.Inner.Lengths.{lengthBy}
 use borrow.Author.Needs.{needs}
 use Rattle.sheet.proofs.size.section_length.Statement.{statement}
 use Rattle.sheet.proofs.size.section_length.Tie as tie

@@ -1,7 +1,7 @@
 -- `sheet::size::spared` meets its contract.
 use mathlib.Core.Path.{sym, ap, _∙_}
 use Prim.Native.Nat.{_+_, _*_}
-use Rattle.sheet.specs.Reads.{spare, cut, countAt}
+use Rattle.sheet.specs.Inner.Lengths.{spare, cut, countAt}
 use Rattle.sheet.proofs.Sizes.{spare-one}
 use borrow.Author.Needs.{needs}
 use Rattle.sheet.proofs.size.spared.Statement.{statement}

@@ -6,7 +6,7 @@ use lib.ListN.{length}
 use Rattle.wire.specs.Bytes.{len12At}
 use Rattle.forms.specs.Room.{sum}
 use Rattle.sheet.specs.Section.{sectionEntry}
-use Rattle.turn.specs.Ways.{EntrySizes}
+use Rattle.turn.specs.Inner.Ways.{EntrySizes}
 use borrow.Author.Needs.{needs}
 use Rattle.turn.proofs.SectionLaws.{entry-full}
 use Rattle.turn.proofs.CountLaws.{sum-more, Counting, count-begins, count-on, count-ends}

@@ -5,7 +5,7 @@ use Prim.Native.Nat.{_+_}
 use lib.ListN.{length}
 use Rattle.sheet.specs.Sheet.{descriptor}
 use Rattle.copy.proofs.Copies.{lacking, had, copies-fits}
-use Rattle.turn.specs.Ways.{NumberIn}
+use Rattle.turn.specs.Inner.Ways.{NumberIn}
 use Rattle.turn.proofs.LoopLaws.{side-size-small, section-ends-early, no-room-for-sheet, turned-loop-back, loop-back-not-there}
 use borrow.Author.Needs.{needs}
 use Rattle.turn.proofs.descriptors.loop_back.Statement.{statement}

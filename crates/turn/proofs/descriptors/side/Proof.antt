@@ -1,6 +1,6 @@
 -- `turn::descriptors::side` meets its contract.
 use mathlib.Core.Path.{sym, ap, _∙_}
-use Rattle.turn.specs.Ways.{sideAt}
+use Rattle.turn.specs.Inner.Ways.{sideAt}
 use borrow.Author.Needs.{needs}
 use Rattle.turn.proofs.descriptors.side.Statement.{statement}
 use Rattle.turn.proofs.descriptors.side.Tie as tie

@@ -1,6 +1,6 @@
 -- `turn::descriptors::side_back` meets its contract.
 use mathlib.Core.Path.{sym, ap, _∙_}
-use Rattle.turn.specs.Ways.{sideBack}
+use Rattle.turn.specs.Inner.Ways.{sideBack}
 use borrow.Author.Needs.{needs}
 use Rattle.turn.proofs.descriptors.side_back.Statement.{statement}
 use Rattle.turn.proofs.descriptors.side_back.Tie as tie

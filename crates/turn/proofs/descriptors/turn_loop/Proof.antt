@@ -1,5 +1,5 @@
 -- `turn::descriptors::turn_loop` meets its contract.
-use Rattle.turn.specs.Ways.{loopFrom, sideIf}
+use Rattle.turn.specs.Inner.Ways.{loopFrom, sideIf}
 use Rattle.turn.proofs.PieceLaws.{forth, back}
 use borrow.Author.Needs.{needs}
 use Rattle.turn.proofs.descriptors.turn_loop.Statement.{statement}

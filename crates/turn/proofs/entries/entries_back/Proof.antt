@@ -3,7 +3,7 @@ use mathlib.Core.Path.{refl, _∙_, ap, ap₂, subst}
 use Prim.Native.Nat.{_<_}
 use lib.ListN.{take, drop}
 use Rattle.sheet.specs.Section.{sectionEntry}
-use Rattle.turn.specs.Ways.{NumberIn}
+use Rattle.turn.specs.Inner.Ways.{NumberIn}
 use Rattle.turn.proofs.EntriesLaws.{back-top, back-plain, back-as}
 use borrow.Author.Needs.{needs}
 use Rattle.turn.proofs.entries.entries_back.Statement.{statement}

@@ -1,7 +1,7 @@
 -- `turn::pieces::filler` meets its contract.
 use mathlib.Core.Path.{refl}
 use Rattle.sheet.specs.Content.{filler}
-use Rattle.turn.specs.Ways.{itemFrom}
+use Rattle.turn.specs.Inner.Ways.{itemFrom}
 use Rattle.turn.proofs.PieceLaws.{turned-fill, turned-skip, forth, back}
 use borrow.Author.Needs.{needs}
 use Rattle.turn.proofs.pieces.filler.Statement.{statement}

@@ -1,5 +1,5 @@
 -- `turn::pieces::packed` meets its contract.
-use Rattle.turn.specs.Ways.{itemFrom, special}
+use Rattle.turn.specs.Inner.Ways.{itemFrom, special}
 use Rattle.turn.proofs.PieceLaws.{forth, back}
 use borrow.Author.Needs.{needs}
 use Rattle.turn.proofs.pieces.packed.Statement.{statement}

@@ -8,7 +8,7 @@ use mathlib.Core.List.{[], _∷_}
 use Rattle.wire.specs.If.{if_then_else_}
 use Rattle.tables.specs.Tables.{rowAt}
 use Rattle.forms.specs.Room.{put, sum}
-use Rattle.turn.specs.Ways.{putNumber}
+use Rattle.turn.specs.Inner.Ways.{putNumber}
 use Rattle.tables.specs.declared.Row.{Row}
 use Rattle.turn.proofs.WholeLaws.{written-never, written-sealed, written-bare}
 use borrow.Author.Needs.{needs}
