@@ -3,4 +3,6 @@ pub mod Loops
 pub mod InLoop
 pub mod Standing
 pub mod WholeWalk
+pub mod HandedOut
 pub mod Once
+pub mod Tied

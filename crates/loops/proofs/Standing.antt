@@ -1,23 +1,15 @@
 -- Demand 2, "A descriptor handed out is that part of the caller's bytes": where a loop is a part of bytes, each of its descriptors is one at its place.
 use Prim.Native.Nat.{ℕ}
 use mathlib.Core.Path.{_≡_, subst}
-use mathlib.Core.List.{List, [], _∷_}
+use mathlib.Core.List.{List, _∷_}
 use native.Mathlib.Omega.{arith}
 use lib.ListN.{length}
 use Rattle.wire.specs.Parts.{Part}
 use Rattle.wire.proofs.PartLaws.{part-first, part-second}
 use Rattle.loops.specs.Descriptors.{Placed}
+use Rattle.loops.specs.Walking.{Standing, none, more}
 use Rattle.loops.specs.Grammar as grammar
 use Rattle.loops.specs.Grammar.{Descriptors}
-
--- a descriptor's bytes, from its tag on
-abbrev pub bytesOf : Placed → List ℕ
-bytesOf d = d .tag ∷ length (d .body) ∷ d .body
-
--- each descriptor stands at its place
-pub data Standing (s : List ℕ) : List Placed → Type 0 where
-  none : Standing s []
-  more : (d : Placed) {ds : List Placed} → Part s (d .place) (bytesOf d) → Standing s ds → Standing s (d ∷ ds)
 
 module _ (s : List ℕ) where
   pub moved : {p q : ℕ} {l : List ℕ} → p ≡ q → Part s p l → Part s q l

@@ -1,36 +1,17 @@
 -- A whole walk: it "gives each descriptor in turn, then the end; where none can be read at its place it gives 9 with that place and stays."
 use Prim.Native.Nat.{ℕ, zero, suc, _+_, _<_, _≤_}
 use mathlib.Core.Path.{_≡_, refl, ap, _∙_, sym, subst}
-use mathlib.Core.List.{List, [], _∷_, map, append-nil}
+use mathlib.Core.List.{List, [], map, append-nil}
 use native.Mathlib.Omega.{arith}
 use lib.ListN.{length, getD, drop, length-drop}
 use lib.Seq.{length-take-le}
-use Rattle.wire.specs.Trail.{Trail}
-use Rattle.verdict.specs.Verdict.{Said, accepted, refused}
-use Rattle.loops.specs.Descriptors.{Placed, descriptors, Gives, descriptor, theEnd, refusing, stepAt, placeAfter, Steps, toldStep}
-use Rattle.loops.specs.declared.walk.Step.{Step}
+use Rattle.loops.specs.Descriptors.{Placed, descriptors, Gives, descriptor, theEnd, refusing, stepAt, placeAfter}
+use Rattle.loops.specs.Walking.{walkedTo, given, lastly, nth, Standing, Walks, none, one}
 use Rattle.loops.specs.Grammar.{Descriptors}
 use Rattle.loops.specs.Grammar.{DescriptorFault}
 use Rattle.loops.proofs.Loops.{View, ending, cut, whole, view, byStep, by-step}
-use Rattle.loops.proofs.Standing.{Standing, in-loop}
+use Rattle.loops.proofs.Standing.{in-loop}
 use Rattle.loops.proofs.InLoop.{read-whole, read-fault}
-
--- the place after n steps from a place
-pub walkedTo : List ℕ → ℕ → ℕ → ℕ
-walkedTo l a zero = a
-walkedTo l a (suc n) = walkedTo l (placeAfter a (stepAt l a)) n
-
--- what a walk gives for a descriptor, and for the end of the reading
-abbrev pub given : Placed → Gives
-given d = descriptor (d .tag) (d .place + 2) (length (d .body))
-
-abbrev pub lastly : Said → Gives
-lastly accepted = theEnd
-lastly (refused k p) = refusing k p
-
--- the answer after n steps: the descriptors of the reading, one a step, and then for ever its end
-abbrev pub nth : Trail Placed Said → ℕ → Gives
-nth t n = getD (map given (t .items)) n (lastly (t .ends))
 
 -- what a step gives is what the reading has there first
 first-given : (l : List ℕ) (a : ℕ) (g : Gives) → View l a g → nth (byStep l a g) 0 ≡ g
@@ -66,11 +47,6 @@ cut-walk l q f n = walk-gives l n 0 (omega arith) ∙ ap (λ v. getD (map given 
 pub walk-stands : (l : List ℕ) (ds : List Placed) → Descriptors 0 l ds → Standing l ds
 walk-stands l ds d = in-loop l d (record { front = []; back = []; whole = sym (append-nil l); place = refl })
 
--- calls of `next`, one after the other, on a walk that nothing else alters: the place before, the answers in turn, the place after
-pub data Walks (l : List ℕ) : ℕ → List Gives → ℕ → Type 0 where
-  none : (a : ℕ) → Walks l a [] a
-  one : {a b c : ℕ} {s : Step} {gs : List Gives} → Steps l a s b → Walks l b gs c → Walks l a (toldStep s ∷ gs) c
-
 stays-in : (l : List ℕ) (a : ℕ) → a ≤ length l → placeAfter a (stepAt l a) ≤ length l
 stays-in l a h = go (stepAt l a) (view l a)
   where
@@ -80,17 +56,17 @@ stays-in l a h = go (stepAt l a) (view l a)
     go g (whole i) = i
 
 -- their answers are the descriptors of the reading, one a call, and then for ever its end
-answers-from : (l : List ℕ) {a c : ℕ} {gs : List Gives} → a ≤ length l → Walks l a gs c → (k : ℕ) → k < length gs
+answers-from : (l : List ℕ) {a c : ℕ} {gs : List Gives} {outs : List (List ℕ)} → a ≤ length l → Walks l a gs outs c → (k : ℕ) → k < length gs
     → getD gs k theEnd ≡ nth (descriptors a (drop a l)) k
 unfolding walkedTo
 answers-from l h (none a) k i = absurd (omega arith)
-answers-from l {a} h (one s w) zero i = s .gives ∙ walk-gives l 0 a h
-answers-from l {a} h (one {b = b} {gs = gs} s w) (suc k) i =
+answers-from l {a} h (one s o w) zero i = s .gives ∙ walk-gives l 0 a h
+answers-from l {a} h (one {b = b} {gs = gs} s o w) (suc k) i =
     let f : b ≤ length l = subst (λ n. n ≤ length l) (sym (s .moves)) (stays-in l a h) in
     answers-from l f w k (omega arith)
     ∙ sym (walk-gives l k b f)
     ∙ ap (λ n. stepAt l (walkedTo l n k)) (s .moves)
     ∙ walk-gives l (suc k) a h
 
-pub walk-answers : (l : List ℕ) {c : ℕ} {gs : List Gives} → Walks l 0 gs c → (k : ℕ) → k < length gs → getD gs k theEnd ≡ nth (descriptors 0 l) k
+pub walk-answers : (l : List ℕ) {c : ℕ} {gs : List Gives} {outs : List (List ℕ)} → Walks l 0 gs outs c → (k : ℕ) → k < length gs → getD gs k theEnd ≡ nth (descriptors 0 l) k
 walk-answers l w k i = answers-from l (omega arith) w k i

@@ -1,3 +1,4 @@
--- Descriptors: how they are read, and what a loop of them is.
+-- Descriptors: how they are read, what a loop of them is, and what a walk over one gives and hands out.
 pub mod Descriptors
 pub mod Grammar
+pub mod Walking

@@ -1,11 +1,12 @@
 -- The search gives the first hit in reading order, or none where there is none, and refuses as the judge does.
-use Prim.Native.Nat.{ℕ, _+_}
+use Prim.Native.Nat.{ℕ, suc, _+_}
 use mathlib.Core.Path.{_≡_, refl, ap, ap₂, _∙_, sym, subst}
 use mathlib.Core.Logic.{_⊎_, inl, inr, _↔_}
 use mathlib.Core.List.{List, [], _∷_}
 use native.Mathlib.Decide.{ℕ-discrete}
 use borrow.Author.Tests.{eq-eqb, ne-eqb}
-use lib.ListN.{length, take, drop}
+use native.Mathlib.Omega.{arith}
+use lib.ListN.{length, getD, take, drop}
 use Rattle.wire.specs.Parts.{Part}
 use Rattle.wire.proofs.PartLaws.{part-second, part-taken}
 use Rattle.verdict.specs.Verdict.{Said, accepted, refused, isAccepted}
@@ -14,13 +15,14 @@ use Rattle.section.specs.Reading.{Reading, judged}
 use Rattle.section.specs.Grammar.{Section}
 use Rattle.section.specs.Faults.{First}
 use Rattle.search.specs.Search as search
-use Rattle.search.specs.Search.{Outcome, refusing, hit, hitIn, hitFrom, sought, bodyOf, Without, more, FirstIn, FirstHit, Nowhere}
-use Rattle.section.proofs.Exactly as verdicts
+use Rattle.search.specs.Search.{Outcome, refusing, hit, hitIn, hitFrom, sought, bodyOf, Without, more, FirstIn, FirstHit, Nowhere, Claims}
+use Rattle.section.specs.Demands as demands
 use Rattle.section.proofs.Exactly.{verdict-true, section-read, section-judged, first-judged}
-use Rattle.loops.proofs.Standing as standing
-use Rattle.loops.proofs.Standing.{Standing, bytesOf}
-use Rattle.section.proofs.Handed as handed
-use Rattle.section.proofs.Handed.{AllStanding, section-stands}
+use Rattle.loops.specs.Walking as standing
+use Rattle.loops.specs.Walking.{Standing, bytesOf}
+use Rattle.section.specs.Standing as handed
+use Rattle.section.specs.Standing.{AllStanding}
+use Rattle.section.proofs.Handed.{section-stands}
 
 -- what a search says of a descriptor in the loop of number k
 abbrev pub hitOf : ℕ → Placed → Outcome
@@ -78,37 +80,39 @@ module _ (s : List ℕ) (tag : ℕ) where
   unfolding sought
   first-sought k q f = rw (first-judged s f)
 
-  -- what an outcome claims of the bytes
-  abbrev pub Claims : Outcome → Type 0
-  Claims (hit k b n) = (loops : List (List Placed)) × (d : Placed) × Section s loops × FirstHit tag 0 loops k d × (b ≡ d .place + 2) × (n ≡ length (d .body))
-  Claims search.none = (loops : List (List Placed)) × Section s loops × Nowhere tag loops
-  Claims (refusing k q) = First s k q
-
-  outcome-true : Claims (sought s tag)
+  outcome-true : Claims s tag (sought s tag)
   outcome-true = go (judged s) refl (verdict-true s)
     where
-      searched : (loops : List (List Placed)) → Section s loops → ((j : ℕ) × (d : Placed) × FirstHit tag 0 loops j d) ⊎ Nowhere tag loops → Claims (sought s tag)
-      searched loops x (inl (j, d, f)) = subst Claims (sym (section-sought loops x ∙ first-from f)) (loops, d, x, f, refl, refl)
-      searched loops x (inr n) = subst Claims (sym (section-sought loops x ∙ nowhere-from 0 n)) (loops, x, n)
+      searched : (loops : List (List Placed)) → Section s loops → ((j : ℕ) × (d : Placed) × FirstHit tag 0 loops j d) ⊎ Nowhere tag loops → Claims s tag (sought s tag)
+      searched loops x (inl (j, d, f)) = subst (Claims s tag) (sym (section-sought loops x ∙ first-from f)) (loops, d, x, f, refl, refl)
+      searched loops x (inr n) = subst (Claims s tag) (sym (section-sought loops x ∙ nowhere-from 0 n)) (loops, x, n)
 
-      go : (v : Said) → judged s ≡ v → verdicts.Claims s v → Claims (sought s tag)
+      go : (v : Said) → judged s ≡ v → demands.Claims s v → Claims s tag (sought s tag)
       go accepted e (loops, x) = searched loops x (from-cases tag 0 loops)
-      go (refused k q) e f = subst Claims (sym (first-sought k q f)) f
+      go (refused k q) e f = subst (Claims s tag) (sym (first-sought k q f)) f
 
   -- "the first hit, in reading order, .. with 0 for the top loop or the entry's number from 1"
-  pub hit-exactly-if : (k b n : ℕ) → sought s tag ≡ hit k b n ↔ Claims (hit k b n)
+  pub hit-exactly-if : (k b n : ℕ) → sought s tag ≡ hit k b n ↔ Claims s tag (hit k b n)
   hit-exactly-if k b n = (
-    λ e. subst Claims e outcome-true,
+    λ e. subst (Claims s tag) e outcome-true,
     λ x. section-sought (x .0) (x .2) ∙ first-from (x .3) ∙ ap₂ (hit k) (sym (x .4)) (sym (x .5)),
   )
 
   -- "or "none""
-  pub none-exactly-if : sought s tag ≡ search.none ↔ Claims search.none
-  none-exactly-if = (λ e. subst Claims e outcome-true, λ x. section-sought (x .0) (x .1) ∙ nowhere-from 0 (x .2))
+  pub none-exactly-if : sought s tag ≡ search.none ↔ Claims s tag search.none
+  none-exactly-if = (λ e. subst (Claims s tag) e outcome-true, λ x. section-sought (x .0) (x .1) ∙ nowhere-from 0 (x .2))
 
   -- "It refuses 1 to 10 first."
   pub refused-exactly-if : (k q : ℕ) → sought s tag ≡ refusing k q ↔ First s k q
-  refused-exactly-if k q = (λ e. subst Claims e outcome-true, first-sought k q)
+  refused-exactly-if k q = (λ e. subst (Claims s tag) e outcome-true, first-sought k q)
+
+-- "0 for the top loop or the entry's number from 1": the number of a hit is the place of its loop in the list of the loops, whose first is the top loop
+pub hit-in-loop : (tag k j : ℕ) (loops : List (List Placed)) (d : Placed) → FirstHit tag k loops j d → (n : ℕ) × (j ≡ k + n) × FirstIn tag (getD loops n []) d
+hit-in-loop tag k j (ds ∷ loops) d (search.FirstHit.here f) = (0, omega arith, f)
+hit-in-loop tag k j (ds ∷ loops) d (search.FirstHit.later w f) = go (hit-in-loop tag (k + 1) j loops d f)
+  where
+    go : (n : ℕ) × (j ≡ k + 1 + n) × FirstIn tag (getD loops n []) d → (n : ℕ) × (j ≡ k + n) × FirstIn tag (getD (ds ∷ loops) n []) d
+    go (n, e, g) = (suc n, omega arith, g)
 
 -- ---- the part handed out
 

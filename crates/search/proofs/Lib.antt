@@ -3,3 +3,4 @@ pub mod Hits
 pub mod WithoutFault
 pub mod FirstFound
 pub mod Once
+pub mod Tied

@@ -1,5 +1,5 @@
 -- What a reading without a fault holds, part by part.
-use Prim.Native.Nat.{ℕ, _+_, _-_, _≤_}
+use Prim.Native.Nat.{ℕ, _+_, _≤_}
 use mathlib.Core.Path.{_≡_, refl, ap, ap₂, _∙_, sym}
 use mathlib.Core.List.{List, [], _∷_}
 use mathlib.Core.Bool.{true}
@@ -11,11 +11,11 @@ use native.Mathlib.Decide.{ℕ-discrete}
 use borrow.Author.Tests.{eq-eqb, ne-eqb}
 use Rattle.wire.specs.If.{if_then_else_}
 use Rattle.wire.specs.Bytes.{len12At}
-use Rattle.wire.specs.Trail.{ended, before, answer}
+use Rattle.wire.specs.Trail.{ended, answer}
 use Rattle.verdict.specs.Verdict.{Said, accepted, refused, isAccepted}
 use Rattle.loops.specs.Descriptors.{Placed, descriptors}
 use Rattle.section.specs.Entries.{entries}
-use Rattle.section.specs.Reading.{Reading, _andThen_, fills, loopThen, secondLoop, twoLoops, topped, inside, opening, header, rowFor, read, judged}
+use Rattle.section.specs.Reading.{Reading, _andThen_, fills, loopThen, secondLoop, twoLoops, topped, inside, opening, header, rowFor, body, read, judged}
 use Rattle.tables.specs.declared.Row.{Row}
 use Rattle.section.proofs.Readings.{then-on, then-stop, fills-tells, room-tells, one-loop, second-loop, two-loops, topped-one, topped-two}
 
@@ -84,11 +84,14 @@ module _ (l : List ℕ) (p n : ℕ) (same : n ≡ len12At l p) where
   pub topped-ok : (fixed : ℕ) → topped fixed p (drop p l) .ends ≡ accepted → Topped fixed
   topped-ok fixed ok = elim (ℕ-discrete fixed 0) [ yes f ↦ one-ok fixed f ok | no f ↦ two-ok fixed f ok ]
 
--- of an accepted section all is read; with the row and the section's end as the code has them
-pub read-inside : (s : List ℕ) (row : Row) (e : ℕ) → row ≡ rowFor s → e ≡ length s - 4 → judged s ≡ accepted
-    → read s ≡ inside row (row .before) (drop (row .before) (take e s))
+-- of an accepted section all is read; with the row and the bytes before the CRC_32 as the code has them
+pub read-inside : (s : List ℕ) (row : Row) (b : List ℕ) → row ≡ rowFor s → b ≡ body row s → judged s ≡ accepted
+    → read s ≡ inside row (row .before) (drop (row .before) b)
 unfolding judged read
-read-inside s row e r q ok =
-    let a = then-ok (opening s) _ ok in
-    let b = then-ok (header (rowFor s) s) _ (sym (ap answer (a .1)) ∙ ok) in
-    a .1 ∙ b .1 ∙ ap₂ (λ (w : Row) (k : ℕ). inside w (w .before) (drop (w .before) (take k s))) (sym r) (sym q)
+read-inside s row b r q ok =
+    let o = then-ok (opening s) _ ok in
+    let h = then-ok (header (rowFor s) s) _ (sym (ap answer (o .1)) ∙ ok) in
+    o .1
+    ∙ h .1
+    ∙ ap (λ (w : Row). inside w (w .before) (drop (w .before) (body w s))) (sym r)
+    ∙ ap (λ (x : List ℕ). inside row (row .before) (drop (row .before) x)) (sym q)

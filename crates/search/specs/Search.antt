@@ -9,6 +9,8 @@ use Rattle.wire.specs.If.{if_then_else_}
 use Rattle.verdict.specs.Verdict.{told, isAccepted, numberOf, placeOf}
 use Rattle.loops.specs.Descriptors.{Placed}
 use Rattle.section.specs.Reading.{read, judged}
+use Rattle.section.specs.Grammar.{Section}
+use Rattle.section.specs.Faults.{First}
 use Rattle.search.specs.declared.Found.{Found}
 use Rattle.search.specs.declared.Found.the-variants.{Hit, Nothing, Refused}
 
@@ -66,3 +68,10 @@ pub data FirstHit (tag : ℕ) : ℕ → List (List Placed) → ℕ → Placed �
 pub data Nowhere (tag : ℕ) : List (List Placed) → Type 0 where
   none : Nowhere tag []
   more : {ds : List Placed} {loops : List (List Placed)} → Without tag ds → Nowhere tag loops → Nowhere tag (ds ∷ loops)
+
+-- what an outcome claims of the bytes
+abbrev pub Claims : List ℕ → ℕ → Outcome → Type 0
+Claims s tag (hit k b n) =
+    (loops : List (List Placed)) × (d : Placed) × Section s loops × FirstHit tag 0 loops k d × (b ≡ d .place + 2) × (n ≡ length (d .body))
+Claims s tag none = (loops : List (List Placed)) × Section s loops × Nowhere tag loops
+Claims s tag (refusing k q) = First s k q

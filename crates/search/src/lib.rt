@@ -10,6 +10,7 @@ ghost use Rattle.section.specs.Reading.{topped, inside};
 ghost use Rattle.search.specs.Search.{none, toldFound, hitIn, hitFrom, sought, bodyOf};
 use loops::walk::Step;
 use loops::walk::step_at;
+use section::judge::before_crc;
 use section::judge::judge;
 use tables::Row;
 use tables::row_at;
@@ -152,8 +153,7 @@ pub fn search(section: &[u8], tag: u8) -> Found
     let verdict = judge(section);
     if is_accepted(verdict) {
         let row = row_at(row_of(wire::numbers::byte_at(section, 0)));
-        let end = wire::less(section.len(), 4);
-        return find_inside(row, &section[..end], tag);
+        return find_inside(row, before_crc(row, section), tag);
     }
     Found::Refused(verdict)
 }

@@ -4,10 +4,11 @@ use mathlib.Core.Path.{_≡_, refl, sym, _∙_}
 use mathlib.Core.List.{List, [], _∷_}
 use native.Mathlib.Omega.{arith}
 use Rattle.tables.specs.Tables.{cell, holds, first, rowOf}
-use Rattle.verdict.specs.Verdict.{Said, accepted, refused}
+use Rattle.verdict.specs.Verdict.{Said, accepted, refused, told}
+use Rattle.verdict.specs.declared.Verdict.{Verdict}
 use Rattle.section.specs.Reading.{_andThen_, opening, wrongSyntax, lengthOutside, sizeDiffers, crcFails, aboveLast, header, plain, inside, read, judged}
-use Rattle.section.specs.Demands.{AcceptsExactlyIf, RefusesExactlyIf, RefusesEverything, SingleAnswer}
-use Rattle.section.proofs.Exactly.{Claims, verdict-true, accepted-exactly-if}
+use Rattle.section.specs.Demands.{Claims, AcceptsExactlyIf, RefusesExactlyIf, RefusesEverything, SingleAnswer}
+use Rattle.section.proofs.Exactly.{verdict-true, accepted-exactly-if, refused-exactly-if}
 
 -- a TDT, which has no CRC_32 to compute
 abbrev tdt : List ℕ
@@ -42,3 +43,11 @@ module _ (judge : List ℕ → Said) (accepts : AcceptsExactlyIf judge) where
       let z : refused 1 0 ≡ accepted = sym empty-refused ∙ e in
       let n : _≡_ {A = ℕ} 1 0 = cc in
       omega arith
+
+-- `section::judge::judge` is such a judge: whatever answers keep its `ensures` (`Tied`: `judge-ensures`) keep both demands
+module _ (judge : List ℕ → Verdict) (promised : (s : List ℕ) → told (judge s) ≡ judged s) where
+  pub judge-accepts-exactly-if : AcceptsExactlyIf (λ s. told (judge s))
+  judge-accepts-exactly-if s = rw (promised s) (accepted-exactly-if s)
+
+  pub judge-refuses-exactly-if : RefusesExactlyIf (λ s. told (judge s))
+  judge-refuses-exactly-if s k q = rw (promised s) (refused-exactly-if s k q)

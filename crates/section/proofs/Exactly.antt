@@ -4,23 +4,24 @@ use Prim.Native.Nat.{ℕ, suc, _+_, _-_, _*_, _/_, _<_, _≤_}
 use mathlib.Core.Path.{_≡_, refl, ap, _∙_, sym, subst}
 use mathlib.Core.Logic.{_⊎_, inl, inr, _↔_}
 use mathlib.Core.Bool.{true, false}
-use mathlib.Core.List.{List, [], _++_, append-nil, append-assoc}
+use mathlib.Core.List.{List, [], _∷_, _++_, append-nil, append-assoc}
 use native.Mathlib.Omega.{arith}
 use native.Mathlib.Decide.{decLt, ℕ-discrete}
 use lib.ListN.{length, getD, take, drop, length-append, length-drop, take-append-drop}
 use lib.Seq.{take-at, drop-at, length-take-le, take-take}
 use Rattle.wire.specs.Bytes.{len12At}
-use Rattle.wire.specs.Trail.{ended, answer}
+use Rattle.wire.specs.Trail.{answer}
 use Rattle.crc.specs.Crc.{crc}
 use Rattle.tables.specs.Tables.{rowOf, rowAt, InRow}
 use Rattle.verdict.specs.Verdict.{Said, accepted, refused}
 use Rattle.loops.specs.Descriptors.{Placed}
 use Rattle.section.specs.Reading.{opening, header, wrongSyntax, lengthOutside, sizeDiffers, crcFails, aboveLast, body, rowFor, inside, read, judged}
 use Rattle.section.specs.Grammar.{Cut, Header, Section}
+use Rattle.section.specs.Demands.{Claims}
 use Rattle.section.specs.Faults as faults
 use Rattle.section.specs.Faults.{Applies, too-short, unknown, syntax, below, above, size, register, numbers, First, lowest}
 use Rattle.tables.specs.declared.Row.{Row}
-use Rattle.section.proofs.Readings.{opening-short, opening-unknown, opening-known, judged-opening, judged-header, read-through, header-3, header-4, header-5, header-6, header-7, header-ok, plain-none, inside-plain}
+use Rattle.section.proofs.Readings.{opening-short, opening-unknown, opening-known, judged-opening, judged-header, read-through, header-3, header-4, header-5, header-6, header-7, header-ok, body-crc, body-all}
 use Rattle.tables.proofs.RowLaws.{fixed-two}
 use Rattle.tables.proofs.RowLaws.{shape, row-in, row-below, row-is}
 use Rattle.section.proofs.HeaderTests.{syntax-test, length-test, size-test, crc-test, last-test}
@@ -32,24 +33,30 @@ module _ (i : ℕ) (s middle : List ℕ) (c : Cut i s middle) where
   row-of-cut : rowFor s ≡ rowAt i
   row-of-cut = ap rowAt (row-is (getD s 0 0) i (c .known) (c .table))
 
-  -- the reading goes over the middle
-  inside-cut : inside (rowAt i) (rowAt i .before) (drop (rowAt i .before) (body s)) ≡ inside (rowAt i) (rowAt i .before) middle
-  inside-cut = go (ℕ-discrete (rowAt i .crc) 1)
+  -- what stands before the CRC_32 is head and middle, where the table has one and where it has none
+  pub body-cut : body (rowAt i) s ≡ c .head ++ middle
+  body-cut = go (ℕ-discrete (rowAt i .crc) 1)
     where
-      go : Dec (rowAt i .crc ≡ 1) → inside (rowAt i) (rowAt i .before) (drop (rowAt i .before) (body s)) ≡ inside (rowAt i) (rowAt i .before) middle
+      all : s ≡ (c .head ++ middle) ++ c .tail
+      all = c .whole ∙ sym (append-assoc (c .head) middle (c .tail))
+
+      none : (l : List ℕ) → length l ≡ 0 → l ≡ []
+      none [] e = refl
+      none (x ∷ l) e = absurd (omega arith)
+
+      go : Dec (rowAt i .crc ≡ 1) → body (rowAt i) s ≡ c .head ++ middle
       go (yes e) =
-          let l : length s ≡ length (c .head) + (length middle + length (c .tail)) =
-          ap length (c .whole) ∙ length-append (c .head) (middle ++ c .tail) ∙ ap (λ n. length (c .head) + n) (length-append middle (c .tail)) in
+          let l : length s ≡ length (c .head ++ middle) + length (c .tail) = ap length all ∙ length-append (c .head ++ middle) (c .tail) in
           let t : length (c .tail) ≡ 4 = c .last ∙ ap (λ n. 4 * n) e in
-          let f : length (c .head ++ middle) ≡ length s - 4 = length-append (c .head) middle ∙ omega arith in
-          let b : body s ≡ c .head ++ middle =
-          ap (λ x. take (length s - 4) x) (c .whole ∙ sym (append-assoc (c .head) middle (c .tail))) ∙ take-at (c .head ++ middle) (c .tail) (length s - 4) f in
-          ap (inside (rowAt i) (rowAt i .before)) (ap (drop (rowAt i .before)) b ∙ drop-at (c .head) middle (rowAt i .before) (c .before))
+          body-crc (rowAt i) s e ∙ ap (take (length s - 4)) all ∙ take-at (c .head ++ middle) (c .tail) (length s - 4) (omega arith)
       go (no e) =
-          let r = shape i (c .known) .bare e in
-          let p : (m : List ℕ) → inside (rowAt i) (rowAt i .before) m ≡ ended accepted =
-          λ m. inside-plain (rowAt i) (rowAt i .before) m (r .3) ∙ plain-none (rowAt i .fixed) (rowAt i .before) m (r .4) in
-          p _ ∙ sym (p middle)
+          let t : length (c .tail) ≡ 0 = c .last ∙ ap (λ n. 4 * n) (shape i (c .known) .bare e .0) in
+          body-all (rowAt i) s e ∙ all ∙ ap (λ x. (c .head ++ middle) ++ x) (none (c .tail) t) ∙ append-nil (c .head ++ middle)
+
+  -- the reading goes over the middle
+  inside-cut : inside (rowAt i) (rowAt i .before) (drop (rowAt i .before) (body (rowAt i) s)) ≡ inside (rowAt i) (rowAt i .before) middle
+  inside-cut =
+      ap (inside (rowAt i) (rowAt i .before)) (ap (drop (rowAt i .before)) body-cut ∙ drop-at (c .head) middle (rowAt i .before) (c .before))
 
 -- and there is one, where the sizes are right
 module _ (i : ℕ) (s : List ℕ) (known : i < 6) (table : InRow i (getD s 0 0)) (least : rowAt i .least ≤ len12At s 1) (most : len12At s 1 ≤ rowAt i .most)
@@ -154,11 +161,6 @@ module _ (s : List ℕ) where
     not-7 f (numbers i h g e n) = let l = f (ap (λ k. rowAt k .syntax) (sym (same-row i h g)) ∙ e) in omega arith
 
 -- ---- what the judge says
-
--- what a verdict claims of the bytes
-abbrev pub Claims : List ℕ → Said → Type 0
-Claims s accepted = (loops : List (List Placed)) × Section s loops
-Claims s (refused k q) = First s k q
 
 module _ (s : List ℕ) where
   claims : {v : Said} → judged s ≡ v → Claims s v → Claims s (judged s)
@@ -306,7 +308,7 @@ module _ (s : List ℕ) where
       start (yes h) = absurd (clear 1 (too-short h))
       start (no h) =
           read-through s (opening-known s (omega arith) known) (header-ok (rowFor s) s a b d e f)
-          ∙ ap (λ (r : Row). inside r (r .before) (drop (r .before) (body s))) (row-of-cut i s middle c)
+          ∙ ap (λ (r : Row). inside r (r .before) (drop (r .before) (body r s))) (row-of-cut i s middle c)
           ∙ inside-cut i s middle c
 
   -- a section is read without a fault, and its loops are those of the grammar

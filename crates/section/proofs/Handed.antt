@@ -8,14 +8,11 @@ use Rattle.wire.specs.Parts.{Part}
 use Rattle.wire.proofs.PartLaws.{part-first, part-second}
 use Rattle.loops.specs.Descriptors.{Placed}
 use Rattle.section.specs.Grammar as grammar
-use Rattle.loops.proofs.Standing.{Standing, moved, in-loop}
-use Rattle.loops.proofs.Standing as standing
+use Rattle.section.specs.Standing.{AllStanding, none, more}
+use Rattle.loops.specs.Walking as standing
+use Rattle.loops.proofs.Standing.{moved, in-loop}
 use Rattle.section.specs.Grammar.{Entries, Inside, Section, nothing, loop, loops}
 use Rattle.tables.specs.declared.Row.{Row}
-
-pub data AllStanding (s : List ℕ) : List (List Placed) → Type 0 where
-  none : AllStanding s []
-  more : {ds : List Placed} {ls : List (List Placed)} → Standing s ds → AllStanding s ls → AllStanding s (ds ∷ ls)
 
 module _ (s : List ℕ) where
   in-entries : {fixed p : ℕ} {l : List ℕ} {ls : List (List Placed)} → Entries fixed p l ls → Part s p l → AllStanding s ls

@@ -7,3 +7,4 @@ pub mod HeaderTests
 pub mod Exactly
 pub mod Demands
 pub mod Handed
+pub mod Tied

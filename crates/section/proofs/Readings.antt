@@ -1,6 +1,6 @@
 -- How the reading of a section goes on or stops.
 use Prim.Native.Nat.{ℕ, _+_, _-_, _<_, _≤_}
-use mathlib.Core.Path.{_≡_, refl, ap, ap₂, _∙_, sym}
+use mathlib.Core.Path.{_≡_, refl, ap, _∙_, sym}
 use mathlib.Core.List.{List, []}
 use mathlib.Core.Bool.{Bool, true, false}
 use native.Mathlib.Omega.{arith}
@@ -172,6 +172,14 @@ module _ (row : Row) (s : List ℕ) where
           unfolding header
           header-ok e = rw (a, b, c, d, e)
 
+-- the bytes before the CRC_32
+module _ (row : Row) (s : List ℕ) where
+  pub body-crc : row .crc ≡ 1 → body row s ≡ take (length s - 4) s
+  body-crc e = rw (eq-eqb (row .crc) 1 e)
+
+  pub body-all : (row .crc ≡ 1 → ⊥) → body row s ≡ s
+  body-all e = rw (ne-eqb (row .crc) 1 e)
+
 -- the whole section
 module _ (s : List ℕ) where
   pub opening-short : length s < 3 → opening s ≡ refused 1 0
@@ -190,16 +198,17 @@ module _ (s : List ℕ) where
   unfolding judged read
   judged-opening k p e = ap answer (then-stop (opening s) _ (ap isAccepted e)) ∙ e
 
-  -- behind the opening, with the row and the section's end as the code has them
-  pub judged-on : (row : Row) (e : ℕ) → row ≡ rowFor s → e ≡ length s - 4 → opening s ≡ accepted
-      → judged s ≡ (header row s andThen inside row (row .before) (drop (row .before) (take e s))) .ends
+  -- behind the opening, with the row and the bytes before the CRC_32 as the code has them
+  pub judged-on : (row : Row) (b : List ℕ) → row ≡ rowFor s → b ≡ body row s → opening s ≡ accepted
+      → judged s ≡ (header row s andThen inside row (row .before) (drop (row .before) b)) .ends
   unfolding judged read
-  judged-on row e r q o =
+  judged-on row b r q o =
       ap answer (then-on (opening s) _ (ap isAccepted o))
-      ∙ ap₂ (λ (w : Row) (k : ℕ). (header w s andThen inside w (w .before) (drop (w .before) (take k s))) .ends) (sym r) (sym q)
+      ∙ ap (λ (w : Row). (header w s andThen inside w (w .before) (drop (w .before) (body w s))) .ends) (sym r)
+      ∙ ap (λ (x : List ℕ). (header row s andThen inside row (row .before) (drop (row .before) x)) .ends) (sym q)
 
   module _ (o : opening s ≡ accepted) where
-    pub read-on : read s ≡ (header (rowFor s) s andThen inside (rowFor s) (rowFor s .before) (drop (rowFor s .before) (body s)))
+    pub read-on : read s ≡ (header (rowFor s) s andThen inside (rowFor s) (rowFor s .before) (drop (rowFor s .before) (body (rowFor s) s)))
     unfolding read
     read-on = then-on (opening s) _ (ap isAccepted o)
 
@@ -207,5 +216,5 @@ module _ (s : List ℕ) where
     unfolding judged
     judged-header k p e = ap answer (read-on ∙ then-stop (header (rowFor s) s) _ (ap isAccepted e)) ∙ e
 
-    pub read-through : header (rowFor s) s ≡ accepted → read s ≡ inside (rowFor s) (rowFor s .before) (drop (rowFor s .before) (body s))
+    pub read-through : header (rowFor s) s ≡ accepted → read s ≡ inside (rowFor s) (rowFor s .before) (drop (rowFor s .before) (body (rowFor s) s))
     read-through e = read-on ∙ then-on (header (rowFor s) s) _ (ap isAccepted e)

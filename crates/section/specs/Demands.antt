@@ -8,6 +8,11 @@ use Rattle.loops.specs.Descriptors.{Placed}
 use Rattle.section.specs.Grammar.{Section}
 use Rattle.section.specs.Faults.{First}
 
+-- what a verdict claims of the bytes
+abbrev pub Claims : List ℕ → Said → Type 0
+Claims s accepted = (loops : List (List Placed)) × Section s loops
+Claims s (refused k q) = First s k q
+
 module _ (judge : List ℕ → Said) where
   -- "A section is accepted exactly if .."
   abbrev pub AcceptsExactlyIf : Type 0

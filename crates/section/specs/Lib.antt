@@ -3,4 +3,5 @@ pub mod Entries
 pub mod Reading
 pub mod Grammar
 pub mod Faults
+pub mod Standing
 pub mod Demands

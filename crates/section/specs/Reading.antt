@@ -74,9 +74,9 @@ plain fixed p m = if eqb fixed 0 then ended accepted else before [] (entries fix
 unfoldable pub inside : Row → ℕ → List ℕ → Reading
 inside row p m = if eqb (row .top) 1 then topped (row .fixed) p m else plain (row .fixed) p m
 
--- the bytes of s before its CRC_32
-abbrev pub body : List ℕ → List ℕ
-body s = take (length s - 4) s
+-- "All but TDT end in CRC_32": the bytes of s before it, all of them where the table has none
+abbrev pub body : Row → List ℕ → List ℕ
+body row s = if eqb (row .crc) 1 then take (length s - 4) s else s
 
 -- 1: "fewer than 3 bytes"; 2: "table_id not in the table"
 unfoldable pub opening : List ℕ → Said
@@ -124,7 +124,7 @@ unfoldable pub read : List ℕ → Reading
 read s =
     opening s andThen
     header (rowFor s) s andThen
-    inside (rowFor s) (rowFor s .before) (drop (rowFor s .before) (body s))
+    inside (rowFor s) (rowFor s .before) (drop (rowFor s .before) (body (rowFor s) s))
 
 -- the judge's verdict: accepted, or the first refusal and its place
 unfoldable pub judged : List ℕ → Said

@@ -4,7 +4,7 @@ ghost use Prim.Native.Nat.{_≤_};
 ghost use lib.ListN.{drop};
 ghost use Rattle.verdict.specs.Verdict.{told};
 ghost use Rattle.tables.specs.Tables.{FixedTwo};
-ghost use Rattle.section.specs.Reading.{fills, leavesRoom, oneLoop, secondLoop, twoLoops, inside};
+ghost use Rattle.section.specs.Reading.{fills, leavesRoom, oneLoop, secondLoop, twoLoops, inside, body};
 ghost use Rattle.section.specs.Reading.{wrongSyntax, lengthOutside, sizeDiffers, crcFails, aboveLast, header, judged};
 use crate::entries::judge_entries;
 use loops::descriptors::judge_descriptors;
@@ -14,7 +14,15 @@ use tables::row_of;
 use verdict::Verdict;
 use verdict::is_accepted;
 
-// In what follows `bytes` is the section without its CRC_32, so that places in it are places in the section.
+// The section before its CRC_32, all of it where the table has none. In what follows this is `bytes`: places in it are places in the section.
+pub fn before_crc(row: Row, section: &[u8]) -> &[u8]
+    ensures { λ r. ⌜ now r ≡ body row (now (section .entry)) ⌝ }
+{
+    if row.crc != 1 {
+        return section;
+    }
+    &section[..wire::less(section.len(), 4)]
+}
 
 fn judge_fills(bytes: &[u8], at: usize) -> Verdict
     ensures { λ r. ⌜ told r ≡ fills at (drop at (now (bytes .entry))) ⌝ }
@@ -173,8 +181,7 @@ pub fn judge(section: &[u8]) -> Verdict
     let row = row_at(i);
     let head = judge_header(row, section);
     if is_accepted(head) {
-        let end = wire::less(section.len(), 4);
-        return judge_inside(row, &section[..end]);
+        return judge_inside(row, before_crc(row, section));
     }
     head
 }

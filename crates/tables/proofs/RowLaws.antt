@@ -108,11 +108,12 @@ row-below id i h g = first-le 6 0 i (λ i. holds (getD rows i []) id) (omega ari
 
 -- ---- no two rows have the same id: a test over all ids of a byte's lower half, and none is above
 
-each : ℕ → (ℕ → Bool) → Bool
+-- a test at each number below n
+unfoldable pub each : ℕ → (ℕ → Bool) → Bool
 each zero f = true
 each (suc n) f = f n && each n f
 
-each-at : (n : ℕ) (f : ℕ → Bool) → each n f ≡ true → (k : ℕ) → k < n → f k ≡ true
+pub each-at : (n : ℕ) (f : ℕ → Bool) → each n f ≡ true → (k : ℕ) → k < n → f k ≡ true
 unfolding each
 each-at zero f e k h = absurd (omega arith)
 each-at (suc n) f e k h = go (λ q g. each-at n f q k g) (f n) (each n f) refl refl e (ℕ-discrete k n)

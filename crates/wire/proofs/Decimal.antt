@@ -7,12 +7,8 @@ use native.Mathlib.Omega.{arith}
 use borrow.Author.Tests.{ltb-false, le-ltb}
 use lib.Dec.{ltb}
 use Rattle.wire.specs.Reading.{value, refused}
-use Rattle.wire.specs.Digits.{digit, bcdAfter, bcdOf}
+use Rattle.wire.specs.Digits.{digit, bcdAfter, bcdOf, decimal}
 use Rattle.wire.proofs.IfLaws.{if-case}
-
-abbrev pub decimal : ℕ → ℕ → ℕ
-decimal zero v = 0
-decimal (suc k) v = digit k v * 10 ^ k + decimal k v
 
 -- ten times a number and a digit, over k digits more
 tenfold : (a d p r : ℕ) → (a * 10 + d) * p + r ≡ a * (10 * p) + (d * p + r)

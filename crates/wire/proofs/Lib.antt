@@ -7,4 +7,5 @@ pub mod PartLaws
 pub mod Decimal
 pub mod NextDigit
 pub mod SomeBits
+pub mod LowBits
 pub mod Unique

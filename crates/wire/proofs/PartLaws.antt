@@ -65,3 +65,26 @@ part-second x y h =
       whole = h .whole ∙ ap (λ z. h .front ++ z) (append-assoc x y (h .back)) ∙ sym (append-assoc (h .front) x (y ++ h .back));
       place = length-append (h .front) x ∙ ap (λ n. n + length x) (h .place);
     }
+
+-- the n elements of l at a place in it
+pub part-at : (l : List ℕ) (a n : ℕ) → a ≤ length l → Part l a (take n (drop a l))
+part-at l a n h =
+    record {
+      front = take a l;
+      back = drop (a + n) l;
+      whole = sym (take-append-drop a l) ∙ ap (λ x. take a l ++ x) (part-front l a n);
+      place = length-take-le a l h;
+    }
+
+-- two parts, the second behind the first, are one
+pub part-both : {s : List ℕ} {p : ℕ} (x y : List ℕ) → Part s p x → Part s (p + length x) y → Part s p (x ++ y)
+part-both x y g h =
+    let same =
+    same-parts (g .front ++ x) (g .back) (h .front) (y ++ h .back) (length-append (g .front) x ∙ ap (λ n. n + length x) (g .place) ∙ sym (h .place))
+    (append-assoc (g .front) x (g .back) ∙ sym (g .whole) ∙ h .whole) in
+    record {
+      front = g .front;
+      back = h .back;
+      whole = g .whole ∙ ap (λ z. g .front ++ z) (ap (λ z. x ++ z) (same .1) ∙ sym (append-assoc x y (h .back)));
+      place = g .place;
+    }

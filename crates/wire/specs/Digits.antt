@@ -19,6 +19,11 @@ bcdAfter a (suc k) v = if ltb 9 (digit k v) then refused 63 else bcdAfter (a * 1
 unfoldable pub bcdOf : ℕ → ℕ → Reading ℕ
 bcdOf n v = bcdAfter 0 n v
 
+-- the sum of the n low digits of v at their powers of ten
+abbrev pub decimal : ℕ → ℕ → ℕ
+decimal zero v = 0
+decimal (suc k) v = digit k v * 10 ^ k + decimal k v
+
 -- document 01's number for every answer
 abbrev pub told : Digits → Reading ℕ
 told (Value a) = value a

@@ -6,3 +6,4 @@ pub mod Number
 pub mod Reading
 pub mod Digits
 pub mod Parts
+pub mod Ensures

@@ -1,8 +1,6 @@
 -- `search::search` meets its contract: the judge refuses, or the loops of an accepted section are searched.
 use mathlib.Core.Path.{_≡_, sym, ap, subst, _∙_}
-use native.Mathlib.Omega.{arith}
-use lib.ListN.{take, drop}
-use lib.Seq.{length-take-le}
+use lib.ListN.{drop}
 use Rattle.wire.specs.Trail.{answer}
 use Rattle.tables.specs.Tables.{rowOf, rowAt, FixedTwo}
 use Rattle.verdict.specs.Verdict.{Said, accepted, isAccepted, numberOf, placeOf}
@@ -21,13 +19,14 @@ ok : (c : tie.Then1) → judged (c .before .before .before .before .args .sectio
 ok c = sym (c .before .before .judge .ensures) ∙ is-accepted _ (sym (c .before .is-accepted .ensures) ∙ c .if1 .taken)
 
 -- and its loops are those of its row
-all-read : (c : tie.After-find-inside-arg)
-    → read (c .before .before .before .before .before .before .before .before .before .args .section .now)
-    ≡ inside (c .before .before .row-at .result) (c .before .before .row-at .result .before)
-    (drop (c .before .before .row-at .result .before) (take (c .before .less .result) (c .before .before .before .before .before .before .before .before .before .args .section .now)))
+all-read : (c : tie.After-before-crc)
+    → let row : Row = c .before .row-at .result in
+    read (c .before .before .before .before .before .before .before .before .args .section .now) ≡ inside row (row .before) (drop (row .before) (c .before-crc .result .now))
 all-read c =
-    read-inside _ _ _ (c .before .before .row-at .ensures ∙ ap rowAt (c .before .before .before .row-of .ensures ∙ ap rowOf (c .before .before .before .before .byte-at .ensures))) (c .before .less .ensures)
-    (ok (c .before .before .before .before .before))
+    let row-of = c .before .before .row-of in
+    let byte-at = c .before .before .before .byte-at in
+    read-inside _ _ _ (c .before .row-at .ensures ∙ ap rowAt (row-of .ensures ∙ ap rowOf (byte-at .ensures))) (c .before-crc .ensures)
+    (ok (c .before .before .before .before))
 
 judge-requires : tie.Need-judge-requires
 judge-requires c κs = search needs
@@ -44,20 +43,20 @@ row-of-requires c κs = search needs
 row-at-requires : tie.Need-row-at-requires
 row-at-requires c κs = search needs
 
-less-requires : tie.Need-less-requires
-less-requires c κs = search needs
-
-slice-aggregate-find-inside : tie.Need-slice-aggregate-find-inside
-slice-aggregate-find-inside c = sym (length-take-le _ _ (omega (arith, c .before .less .ensures)))
+before-crc-requires : tie.Need-before-crc-requires
+before-crc-requires c κs = search needs
 
 find-inside-requires : tie.Need-find-inside-requires
 unfolding judged
 find-inside-requires c κs =
-    (subst (λ (r : Row). FixedTwo (r .fixed)) (sym (c .before .before .row-at .ensures)) (fixed-two _), sym (ap answer (all-read c)) ∙ ok (c .before .before .before .before .before))
+    (subst (λ (r : Row). FixedTwo (r .fixed)) (sym (c .before .row-at .ensures)) (fixed-two _), sym (ap answer (all-read c)) ∙ ok (c .before .before .before .before))
 
 returns : tie.Need-returns
 unfolding sought
-returns c = rw (ap isAccepted (ok (c .before .before .before .before .before .before))) (c .find-inside .ensures ∙ sym (ap (λ (x : Reading). hitFrom (c .before .before .before .before .before .before .before .before .before .before .args .tag) 0 (x .items)) (all-read (c .before))))
+returns c =
+    let then = c .before .before .before .before .before in
+    let tag = then .before .before .before .before .args .tag in
+    rw (ap isAccepted (ok then)) (c .find-inside .ensures ∙ sym (ap (λ (x : Reading). hitFrom tag 0 (x .items)) (all-read (c .before))))
 
 returns-2 : tie.Need-returns-2
 unfolding sought
@@ -72,8 +71,7 @@ search-spec =
     byte-at-requires
     row-of-requires
     row-at-requires
-    less-requires
-    slice-aggregate-find-inside
+    before-crc-requires
     find-inside-requires
     returns
     returns-2)

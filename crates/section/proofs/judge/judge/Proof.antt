@@ -3,10 +3,8 @@ use Rattle.section.proofs.Readings.{opening-short, opening-unknown, ope
 use Rattle.tables.proofs.RowLaws.{fixed-two}
 use Rattle.tables.specs.declared.Row.{Row}
 use Rattle.tables.specs.Tables.{rowAt, FixedTwo}
-use lib.Seq.{length-take-le}
-use mathlib.Core.Path.{subst, refl}
 use native.Mathlib.Omega.{arith}
-use mathlib.Core.Path.{sym, ap, _∙_}
+use mathlib.Core.Path.{subst, refl, sym, ap, _∙_}
 use borrow.Author.Needs.{needs}
 use Rattle.section.proofs.judge.judge.Statement.{statement}
 use Rattle.section.proofs.judge.judge.Tie as tie
@@ -21,7 +19,9 @@ row-of-requires : tie.Need-row-of-requires
 row-of-requires c κs = search needs
 
 returns-2 : tie.Need-returns-2
-returns-2 c = sym (judged-opening (c .before .before .before .before .before .args .section .now) 2 0 (opening-unknown (c .before .before .before .before .before .args .section .now) (c .before .before .before .if1 .left) (omega arith)))
+returns-2 c =
+    let s = c .before .before .before .before .before .args .section .now in
+    sym (judged-opening s 2 0 (opening-unknown s (c .before .before .before .if1 .left) (omega arith)))
 
 row-at-requires : tie.Need-row-at-requires
 row-at-requires c κs = search needs
@@ -32,24 +32,27 @@ judge-header-requires c κs = search needs
 is-accepted-requires : tie.Need-is-accepted-requires
 is-accepted-requires c κs = search needs
 
-less-requires : tie.Need-less-requires
-less-requires c κs = search needs
-
-slice-aggregate-judge-inside : tie.Need-slice-aggregate-judge-inside
-slice-aggregate-judge-inside c = sym (length-take-le _ _ (omega arith))
+before-crc-requires : tie.Need-before-crc-requires
+before-crc-requires c κs = search needs
 
 judge-inside-requires : tie.Need-judge-inside-requires
-judge-inside-requires c κs = subst (λ (r : Row). FixedTwo (r .fixed)) (sym (c .before .before .before .before .before .row-at .ensures)) (fixed-two _)
+judge-inside-requires c κs = subst (λ (r : Row). FixedTwo (r .fixed)) (sym (c .before .before .before .before .row-at .ensures)) (fixed-two _)
 
 returns-3 : tie.Need-returns-3
 returns-3 c =
-    went-on _ _ _ _ (c .before .before .before .before .before .judge-header .ensures) (c .before .before .before .before .is-accepted .ensures) _ (c .before .before .before .if3 .taken) (c .judge-inside .ensures)
-    ∙ sym (judged-on (c .before .before .before .before .before .before .before .before .before .before .before .before .args .section .now) _ _ (c .before .before .before .before .before .before .row-at .ensures ∙ ap rowAt (c .before .before .before .before .before .before .before .before .row-of .ensures)) (c .before .before .less .ensures) (opening-known (c .before .before .before .before .before .before .before .before .before .before .before .before .args .section .now) (c .before .before .before .before .before .before .before .before .before .before .if1 .left) (omega arith)))
+    let s = c .before .before .before .before .before .before .before .before .before .before .before .args .section .now in
+    let row = c .before .before .before .before .before .row-at in
+    let row-of = c .before .before .before .before .before .before .before .row-of in
+    went-on _ _ _ _ (c .before .before .before .before .judge-header .ensures) (c .before .before .before .is-accepted .ensures) _ (c .before .before .if3 .taken) (c .judge-inside .ensures)
+    ∙ sym (judged-on s _ _ (row .ensures ∙ ap rowAt (row-of .ensures)) (c .before .before-crc .ensures) (opening-known s (c .before .before .before .before .before .before .before .before .before .if1 .left) (omega arith)))
 
 returns-4 : tie.Need-returns-4
 returns-4 c =
+    let s = c .before .before .before .before .before .before .before .before .before .args .section .now in
+    let row = c .before .before .before .row-at in
+    let row-of = c .before .before .before .before .before .row-of in
     stopped _ _ _ _ (c .before .before .judge-header .ensures) (c .before .is-accepted .ensures) (c .if3 .left)
-    ∙ sym (judged-on (c .before .before .before .before .before .before .before .before .before .args .section .now) _ _ (c .before .before .before .row-at .ensures ∙ ap rowAt (c .before .before .before .before .before .row-of .ensures)) refl (opening-known (c .before .before .before .before .before .before .before .before .before .args .section .now) (c .before .before .before .before .before .before .before .if1 .left) (omega arith)))
+    ∙ sym (judged-on s _ _ (row .ensures ∙ ap rowAt (row-of .ensures)) refl (opening-known s (c .before .before .before .before .before .before .before .if1 .left) (omega arith)))
 
 pub judge-spec : {M : Type 1} → statement M
 judge-spec =
@@ -62,8 +65,7 @@ judge-spec =
     row-at-requires
     judge-header-requires
     is-accepted-requires
-    less-requires
-    slice-aggregate-judge-inside
+    before-crc-requires
     judge-inside-requires
     returns-3
     returns-4)

@@ -1,0 +1,30 @@
+-- The table of tables says what the second telling says.
+use Prim.Native.Nat.{ℕ, zero, suc, _<_}
+use mathlib.Core.Path.{_≡_, refl}
+use mathlib.Core.Bool.{true}
+use native.Mathlib.Omega.{arith}
+use borrow.Author.Tests.{eqb-true}
+use lib.ListN.{getD}
+use lib.Dec.{eqb}
+use Rattle.tables.specs.Tables.{cell, rowAt, holds, first, rowOf}
+use Rattle.tables.specs.Again.{rowById, NIT, rowTold, tables}
+use Rattle.tables.proofs.RowLaws.{each, each-at}
+
+ids-tested : each 256 (λ id. eqb (rowOf id) (rowById id)) ≡ true
+unfolding each holds rowOf first
+ids-tested = refl
+
+-- each of a byte's 256 values has the row that it has by itself
+pub row-by-id : (id : ℕ) → id < 256 → rowOf id ≡ rowById id
+row-by-id id h = eqb-true (rowOf id) (rowById id) (each-at 256 (λ id. eqb (rowOf id) (rowById id)) ids-tested id h)
+
+-- the numbers of each row are those of what its sections are made of
+pub row-told : (i : ℕ) → i < 6 → rowAt i ≡ rowTold (getD tables i NIT)
+unfolding cell
+row-told zero h = refl
+row-told (suc zero) h = refl
+row-told (suc (suc zero)) h = refl
+row-told (suc (suc (suc zero))) h = refl
+row-told (suc (suc (suc (suc zero)))) h = refl
+row-told (suc (suc (suc (suc (suc zero))))) h = refl
+row-told (suc (suc (suc (suc (suc (suc i)))))) h = absurd (omega arith)
