@@ -1,23 +1,37 @@
--- What is read next is entered next: where reading stands after each way through a turn.
-use mathlib.Core.Path.{_≡_, refl, sym, ap, _∙_}
+-- What is read next is entered next: where reading stands after each way through a turn, and what it comes to.
+use mathlib.Core.Path.{_≡_, refl, sym, ap, _∙_, subst}
 use mathlib.Core.Bool.{Bool, true, false}
-use mathlib.Core.List.{List, [], _++_}
+use mathlib.Core.List.{List, [], _++_, append-nil}
 use Prim.Native.Nat.{ℕ, _+_, _-_, _/_, _%_, _≤_, _<_}
 use native.Mathlib.Omega.{arith}
 use lib.ListN.{length, take, drop, length-append, length-drop, take-append-drop}
-use lib.Seq.{length-take-le, take-take, take-add, drop-at, drop-drop}
-use lib.Dec.{leb, eqb}
-use borrow.Author.Tests.{leb-true, leb-false, le-leb, lt-leb, eq-eqb, ne-eqb}
+use lib.Seq.{length-take-le, take-take, take-add, take-append-le, drop-at, drop-drop}
+use lib.Dec.{leb, ltb, eqb}
+use borrow.Author.Tests.{leb-true, leb-false, le-leb, lt-leb, lt-ltb, le-ltb, ltb-true, ltb-false, eq-eqb, ne-eqb}
 use Rattle.wire.specs.If.{if_then_else_}
-use Rattle.wire.proofs.IfLaws.{true-not-false}
+use Rattle.wire.proofs.IfLaws.{if-case, true-not-false}
 use Rattle.account.specs.Entered.{firstPid, freshAccount, Kept, keptAs, entered, enteredAll, pieces}
-use Rattle.account.specs.Reads.{accountOf, Reads, GotIn, GotSays, Moved, accountFor, EndedAs}
-use Rattle.account.specs.declared.tally.Account.{Account}
-use Rattle.account.specs.declared.input.Place.{Place}
-use Rattle.account.specs.declared.input.Got.{Got}
-use Rattle.account.specs.declared.input.Got.the-variants.{Bytes, Again, End, Failed}
-use Rattle.account.specs.declared.input.Ended.the-variants as Ended
-use Rattle.account.proofs.Cuts.{pieces-front, pid-front, restOf, rest-more, account-more, account-none}
+use Rattle.account.specs.Heard.{State, stateAs, startPlace, accountFor, toFront, waits, finished, Fits, brought, heardAs, endedBy, endedOf}
+use Rattle.account.specs.Input.{Heard, none-yet, one-more, accountOf, restOf, wholeAccount, endOf}
+use Rattle.account.specs.declared.place.Place.{Place}
+use Rattle.account.specs.declared.place.Stage.{Stage}
+use Rattle.account.specs.declared.place.Stage.the-variants.{Reading, Over}
+use Rattle.account.specs.declared.place.Stage.the-variants as Stage
+use Rattle.account.specs.declared.place.Ended.the-variants.{NoPackets}
+use Rattle.account.specs.declared.place.Ended.the-variants as Ended
+use Rattle.account.specs.declared.reading.Got.{Got}
+use Rattle.account.specs.declared.reading.Got.the-variants.{Bytes, Again, End, Failed}
+use Rattle.account.proofs.Cuts.{pieces-front, pid-front, rest-more, account-more, account-none}
+use Rattle.account.proofs.Stands.{entering}
+
+-- so far this input has come: its whole packets are entered, and what is left of it stands at the buffer's front
+record Reads (input hold₀ out₀ : List ℕ) (p : Place) (buf hold out : List ℕ) : Type 0 where
+  begun : p .begun ≡ leb 188 (length input)
+  left : p .left ≡ length input % 188
+  rest : take (p .left) buf ≡ drop (length input - p .left) input
+  the-hold : hold ≡ accountOf input hold₀ out₀ .hold
+  the-out : out ≡ accountOf input hold₀ out₀ .out
+  the-account : p .begun ≡ true → p .account ≡ accountOf input hold₀ out₀ .account
 
 -- a test that two numbers pass alike
 same-leb : (k a b : ℕ) → (k ≤ a → k ≤ b) → (k ≤ b → k ≤ a) → leb k a ≡ leb k b
@@ -39,13 +53,19 @@ left-more i l n t e w = omega arith
 drop-take : (b k : ℕ) (l : List ℕ) → b ≤ length l → drop b (take (b + k) l) ≡ take k (drop b l)
 drop-take b k l w = ap (drop b) (take-add b k l) ∙ drop-at (take b l) (take k (drop b l)) b (length-take-le b l w)
 
+-- what goes to the front stands there
+front-moved : (from n : ℕ) (buf : List ℕ) → from + n ≤ length buf → take n (toFront buf from n) ≡ take n (drop from buf)
+front-moved from n buf k =
+    let long : length (take n (drop from buf)) ≡ n = length-take-le n (drop from buf) (omega (arith, length-drop from buf)) in
+    take-append-le n (take n (drop from buf)) (drop n buf) (omega arith) ∙ take-take n n (drop from buf) (omega arith)
+
 module _ {input hold₀ out₀ : List ℕ} {p : Place} {buf hold out : List ℕ} (x : Reads input hold₀ out₀ p buf hold out) where
   -- ---- begun, or not
 
   has-begun : p .begun ≡ true → 188 ≤ length input
   has-begun e = leb-true 188 (length input) (sym (x .begun) ∙ e)
 
-  pub not-begun : p .begun ≡ false → length input < 188
+  not-begun : p .begun ≡ false → length input < 188
   not-begun e = leb-false 188 (length input) (sym (x .begun) ∙ e)
 
   kept-begun : p .begun ≡ true → keptAs (p .account) hold out ≡ accountOf input hold₀ out₀
@@ -109,10 +129,12 @@ module _ {input hold₀ out₀ : List ℕ} {p : Place} {buf hold out : List ℕ}
         ap (enteredAll (keptAs (freshAccount (firstPid buf)) hold out)) (pieces-came ∙ ap (pieces (n / 188)) (sym came ∙ all))
         ∙ (λ i. enteredAll (keptAs (freshAccount (pid i)) (kept-none e .0 i) (kept-none e .1 i)) (pieces (size i / 188) (input ++ new)))
 
-    pub reads-long : 188 ≤ n → (a : Account) (buf′ hold′ out′ : List ℕ) → Moved buf (n - n % 188) (n % 188) buf′ → keptAs a hold′ out′ ≡ enteredAll (keptAs (accountFor p buf) hold out) (pieces (n / 188) buf)
-        → Reads (input ++ new) hold₀ out₀ (record { begun = true; left = n % 188; account = a }) buf′ hold′ out′
-    reads-long k a buf′ hold′ out′ m e =
-        let kept : keptAs a hold′ out′ ≡ accountOf (input ++ new) hold₀ out₀ = e ∙ begins (p .begun) refl k in
+    abbrev ReadsAt : State → Type 0
+    ReadsAt s = Reads (input ++ new) hold₀ out₀ (s .place) (s .buf) (s .hold) (s .out)
+
+    reads-long : 188 ≤ n → ReadsAt (entering n (stateAs p buf hold out))
+    reads-long k =
+        let kept : enteredAll (keptAs (accountFor p buf) hold out) (pieces (n / 188) buf) ≡ accountOf (input ++ new) hold₀ out₀ = begins (p .begun) refl k in
         let b : ℕ = n - n % 188 in
         let whole : b + n % 188 ≡ n = omega arith in
         let at : length (input ++ new) - n % 188 ≡ (length input - length input % 188) + b = omega (arith, total, x .left) in
@@ -120,7 +142,7 @@ module _ {input hold₀ out₀ : List ℕ} {p : Place} {buf hold out : List ℕ}
           begun = sym (le-leb 188 (length (input ++ new)) (omega (arith, total)));
           left = left-more (length input) (p .left) n (length (input ++ new)) (x .left) total;
           rest =
-              m .front
+              front-moved (n - n % 188) (n % 188) buf (omega arith)
               ∙ sym (drop-take b (n % 188) buf (omega arith))
               ∙ ap (λ (z : ℕ). drop b (take z buf)) whole
               ∙ ap (drop b) (came ∙ sym (rest-more input new hold₀ out₀))
@@ -147,7 +169,7 @@ module _ {input hold₀ out₀ : List ℕ} {p : Place} {buf hold out : List ℕ}
         let s = sym (account-none (input ++ new) hold₀ out₀ few) in
         (kept-none e .0 ∙ ap (λ (y : Kept). y .hold) s, kept-none e .1 ∙ ap (λ (y : Kept). y .out) s)
 
-    pub reads-short : n < 188 → Reads (input ++ new) hold₀ out₀ (record { begun = p .begun; left = n; account = p .account }) buf hold out
+    reads-short : n < 188 → ReadsAt (waits n (stateAs p buf hold out))
     reads-short k =
         let at : length (input ++ new) - n ≡ length input - length input % 188 = omega (arith, total, x .left) in
         let r = rooms k (p .begun) refl in
@@ -162,30 +184,83 @@ module _ {input hold₀ out₀ : List ℕ} {p : Place} {buf hold out : List ℕ}
 
   -- ---- a read that brings nothing, and the end
 
-  pub reads-again : (buf′ : List ℕ) → take (p .left) buf′ ≡ take (p .left) buf → Reads input hold₀ out₀ p buf′ hold out
+  reads-again : (buf′ : List ℕ) → take (p .left) buf′ ≡ take (p .left) buf → Reads input hold₀ out₀ p buf′ hold out
   reads-again buf′ e = record { begun = x .begun; left = x .left; rest = e ∙ x .rest; the-hold = x .the-hold; the-out = x .the-out; the-account = x .the-account }
 
-  pub ends-whole : p .begun ≡ true → p .left ≡ 0 → EndedAs input hold₀ out₀ (Ended.Account (p .account))
-  ends-whole e k =
-      let whole : eqb (length input % 188) 0 ≡ true = eq-eqb _ _ (sym (x .left) ∙ k) in
-      (has-begun e, x .the-account e ∙ ap (λ (t : Bool). if t then accountOf input hold₀ out₀ .account else entered (accountOf input hold₀ out₀) (restOf input) .account) (sym whole))
+  -- ---- the end of the input
 
-  pub ends-cut : p .begun ≡ true → (p .left ≡ 0 → ⊥) → (a : Account) (hold′ out′ : List ℕ) → keptAs a hold′ out′ ≡ entered (keptAs (p .account) hold out) (take (p .left) buf) → EndedAs input hold₀ out₀ (Ended.Account a)
-  ends-cut e k a hold′ out′ w =
-      let part : eqb (length input % 188) 0 ≡ false = ne-eqb _ _ (λ z. k (x .left ∙ z)) in
-      let rest : take (p .left) buf ≡ restOf input = x .rest ∙ ap (λ (m : ℕ). drop (length input - m) input) (x .left) in (
-        has-begun e,
-        ap (λ (y : Kept). y .account) (w ∙ ap (λ (y : Kept). entered y (take (p .left) buf)) (kept-begun e) ∙ ap (entered (accountOf input hold₀ out₀)) rest)
-            ∙ ap (λ (t : Bool). if t then accountOf input hold₀ out₀ .account else entered (accountOf input hold₀ out₀) (restOf input) .account) (sym part),
-      )
+  abbrev same : Kept
+  same = keptAs (p .account) hold out
+
+  abbrev piece : Kept
+  piece = entered same (take (p .left) buf)
+
+  ends-none : p .begun ≡ false → NoPackets ≡ endOf input hold₀ out₀
+  ends-none e = ap (λ (t : Bool). if t then NoPackets else Ended.Account (wholeAccount input hold₀ out₀)) (sym (lt-ltb (length input) 188 (not-begun e)))
+
+  ends-as : p .begun ≡ true → Ended.Account (wholeAccount input hold₀ out₀) ≡ endOf input hold₀ out₀
+  ends-as e = ap (λ (t : Bool). if t then NoPackets else Ended.Account (wholeAccount input hold₀ out₀)) (sym (le-ltb (length input) 188 (has-begun e)))
+
+  ends-whole : p .begun ≡ true → eqb (p .left) 0 ≡ true → same .account ≡ wholeAccount input hold₀ out₀
+  ends-whole e w =
+      x .the-account e
+      ∙ ap (λ (t : Bool). if t then accountOf input hold₀ out₀ .account else entered (accountOf input hold₀ out₀) (restOf input) .account) (sym w ∙ ap (λ (n : ℕ). eqb n 0) (x .left))
+
+  ends-cut : p .begun ≡ true → eqb (p .left) 0 ≡ false → piece .account ≡ wholeAccount input hold₀ out₀
+  ends-cut e w =
+      let rest : take (p .left) buf ≡ restOf input = x .rest ∙ ap (λ (m : ℕ). drop (length input - m) input) (x .left) in
+      ap (λ (y : Kept). y .account) (ap (λ (y : Kept). entered y (take (p .left) buf)) (kept-begun e) ∙ ap (entered (accountOf input hold₀ out₀)) rest)
+      ∙ ap (λ (t : Bool). if t then accountOf input hold₀ out₀ .account else entered (accountOf input hold₀ out₀) (restOf input) .account) (sym w ∙ ap (λ (n : ℕ). eqb n 0) (x .left))
+
+  ends : endedOf (finished (stateAs p buf hold out) .place) ≡ endOf input hold₀ out₀
+  ends = by (p .begun) (eqb (p .left) 0) refl refl
+    where
+      by : (t u : Bool) → p .begun ≡ t → eqb (p .left) 0 ≡ u → endedOf (finished (stateAs p buf hold out) .place) ≡ endOf input hold₀ out₀
+      by true true e w = (λ i. endedBy Over (e i) ((if e i then (if w i then same else piece) else same) .account)) ∙ ap Ended.Account (ends-whole e w) ∙ ends-as e
+      by true false e w = (λ i. endedBy Over (e i) ((if e i then (if w i then same else piece) else same) .account)) ∙ ap Ended.Account (ends-cut e w) ∙ ends-as e
+      by false u e w = (λ i. endedBy Over (e i) ((if e i then (if w i then same else piece) else same) .account)) ∙ ends-none e
 
 -- before the first read
-pub reads-none : (hold out buf : List ℕ) (a : Account) → Reads [] hold out (record { begun = false; left = 0; account = a }) buf hold out
-reads-none hold out buf a = record { begun = refl; left = refl; rest = refl; the-hold = refl; the-out = refl; the-account = λ e. absurd (true-not-false (sym e)) }
+reads-none : (hold out buf : List ℕ) → Reads [] hold out startPlace buf hold out
+reads-none hold out buf = record { begun = refl; left = refl; rest = refl; the-hold = refl; the-out = refl; the-account = λ e. absurd (true-not-false (sym e)) }
 
--- a read into the room behind what is left
-pub got-behind : (left size : ℕ) (buf buf′ : List ℕ) → left + size ≤ length buf → take left buf′ ≡ take left buf → (g : Got) → GotIn size g → GotSays left buf buf′ g
-got-behind left size buf buf′ k e (Bytes n) w = record { fits = omega arith; kept = e }
-got-behind left size buf buf′ k e Again w = record { fits = omega arith; kept = e }
-got-behind left size buf buf′ k e End w = record { fits = omega arith; kept = e }
-got-behind left size buf buf′ k e Failed w = record { fits = omega arith; kept = e }
+
+-- ---- all reads
+
+abbrev stageNumber : Stage → ℕ
+stageNumber Reading = 0
+stageNumber Over = 1
+stageNumber Stage.Failed = 2
+
+not-stage : {s : Stage} (k : Stage) → (stageNumber s ≡ stageNumber k → ⊥) → s ≡ k → ⊥
+not-stage k f e = f (ap stageNumber e)
+
+-- while reading goes on, it stands in the input that has come; when it is over, it comes to what that input comes to
+record Told (hold₀ out₀ input : List ℕ) (s : State) : Type 0 where
+  going : s .place .stage ≡ Reading → Reads input hold₀ out₀ (s .place) (s .buf) (s .hold) (s .out)
+  over : s .place .stage ≡ Over → endedOf (s .place) ≡ endOf input hold₀ out₀
+
+-- no byte came
+told-none : {hold₀ out₀ : List ℕ} {s : State} (input : List ℕ) → Told hold₀ out₀ input s → Told hold₀ out₀ (input ++ []) s
+told-none {hold₀} {out₀} {s} input x = subst (λ (l : List ℕ). Told hold₀ out₀ l s) (sym (append-nil input)) x
+
+told-after : {input hold₀ out₀ : List ℕ} {p : Place} {buf hold out : List ℕ} → p .stage ≡ Reading → Reads input hold₀ out₀ p buf hold out
+    → (got : Got) → Fits (p .left) got (length buf) → Told hold₀ out₀ (input ++ brought (p .left) buf got) (heardAs got (stateAs p buf hold out))
+told-after {input} {hold₀} {out₀} {p} {buf} {hold} {out} w x (Bytes n) k =
+    let m : ℕ = p .left + n in
+    let s : State = stateAs p buf hold out in
+    subst (λ (l : List ℕ). Told hold₀ out₀ (input ++ l) (heardAs (Bytes n) s)) (drop-take (p .left) n buf (omega arith))
+    (if-case (Told hold₀ out₀ (input ++ drop (p .left) (take m buf))) (ltb m 188) {x = waits m s} {y = entering m s}
+    (λ e. record { going = λ _. reads-short x m (omega arith) k (ltb-true _ _ e); over = λ z. absurd (not-stage Over (λ y. omega arith) z) })
+    (λ e. record { going = λ _. reads-long x m (omega arith) k (ltb-false _ _ e); over = λ z. absurd (not-stage Over (λ y. omega arith) z) }))
+told-after {input} w x Again k = told-none input (record { going = λ _. x; over = λ z. absurd (not-stage Over (λ y. omega arith) (sym w ∙ z)) })
+told-after {input} w x End k = told-none input (record { going = λ z. absurd (not-stage Reading (λ y. omega arith) z); over = λ _. ends x })
+told-after {input} w x Failed k = told-none input (record { going = λ z. absurd (not-stage Reading (λ y. omega arith) z); over = λ z. absurd (not-stage Over (λ y. omega arith) z) })
+
+told : {hold₀ out₀ input : List ℕ} {reads : ℕ} {s : State} → Heard hold₀ out₀ input reads s → Told hold₀ out₀ input s
+told (none-yet {buf = buf} k h o) = record { going = λ _. reads-none _ _ buf; over = λ z. absurd (not-stage Over (λ y. omega arith) z) }
+told (one-more x w buf got l b) = told-after w (reads-again (told x .going w) buf (b .kept)) got (subst (Fits _ got) (sym l) (b .fits))
+
+-- whatever the reads brought, and however it was cut: reading comes to what the input comes to
+pub reads-end : {hold₀ out₀ input : List ℕ} {reads : ℕ} {s : State} → Heard hold₀ out₀ input reads s → s .place .stage ≡ Over → endedOf (s .place) ≡ endOf input hold₀ out₀
+reads-end x e = told x .over e

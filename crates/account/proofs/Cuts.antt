@@ -7,7 +7,7 @@ use native.Mathlib.Omega.{arith}
 use lib.ListN.{length, take, drop, length-append, length-drop, List·getD-append}
 use lib.Seq.{take-append-le, drop-append-le, drop-drop}
 use Rattle.account.specs.Entered.{firstPid, freshAccount, Kept, keptAs, entered, enteredAll, pieces}
-use Rattle.account.specs.Reads.{accountOf}
+use Rattle.account.specs.Input.{accountOf, restOf}
 
 pub pieces-add : (q m : ℕ) (l : List ℕ) → pieces (q + m) l ≡ pieces q l ++ pieces m (drop (q * 188) l)
 pieces-add zero m l =
@@ -27,16 +27,12 @@ pieces-front (suc q) a b k =
     ∙ ap (λ (x : List ℕ). take 188 a ∷ pieces q x) (drop-append-le 188 a b one)
     ∙ ap (λ (x : List (List ℕ)). take 188 a ∷ x) (pieces-front q (drop 188 a) b (omega (arith, length-drop 188 a)))
 
-entered-append : (k : Kept) (a b : List (List ℕ)) → enteredAll k (a ++ b) ≡ enteredAll (enteredAll k a) b
+pub entered-append : (k : Kept) (a b : List (List ℕ)) → enteredAll k (a ++ b) ≡ enteredAll (enteredAll k a) b
 entered-append k [] b = refl
 entered-append k (p ∷ a) b = entered-append (entered k p) a b
 
 pub pid-front : (a b : List ℕ) → 188 ≤ length a → firstPid (a ++ b) ≡ firstPid a
 pid-front a b k = simp (List·getD-append a b 0 1 (omega arith), List·getD-append a b 0 2 (omega arith))
-
--- what is left of an input past its whole packets
-abbrev pub restOf : List ℕ → List ℕ
-restOf input = drop (length input - length input % 188) input
 
 module _ (input more hold out : List ℕ) where
   pub rest-more : drop (length input - length input % 188) (input ++ more) ≡ restOf input ++ more

@@ -1,3 +1,5 @@
 -- What the account program's functions promise.
 pub mod Entered
-pub mod Reads
+pub mod Heard
+pub mod Input
+pub mod Lines

@@ -1,15 +1,18 @@
 // The account program: reads packets on standard input to the end and prints what became of every payload byte.
 mod input;
 mod listing;
+mod place;
+mod reading;
 mod tally;
 
-use input::Ended;
+use place::Ended;
 
 fn main() {
     let mut buf = io::large_buffer();
     let mut hold = [0u8; 4096];
     let mut out = [0u8; 4280];
-    let ended = input::account_of(&mut buf, &mut hold, &mut out);
+    let p = input::account_of(&mut buf, &mut hold, &mut out);
+    let ended = place::ending_of(p);
     match ended {
         Ended::Failed => os::fail(b"standard input"),
         Ended::NoPackets => listing::no_packets(),

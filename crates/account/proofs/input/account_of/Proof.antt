@@ -1,84 +1,99 @@
--- `account::input::account_of` meets its contract: after each turn some input has come, and reading stands in it.
-use mathlib.Core.Path.{_≡_, refl, _∙_, subst}
+-- `account::input::account_of` meets its contract: after each turn one read more is heard.
+use mathlib.Core.Path.{_≡_, refl, sym, ap, _∙_, subst}
 use mathlib.Core.List.{List, [], _++_}
-use Prim.Native.Nat.{ℕ}
+use Prim.Native.Nat.{ℕ, suc, _+_, _-_, _^_}
 use native.Mathlib.Omega.{arith}
 use borrow.Author.Needs.{needs}
 use lib.ListN.{length}
-use Rattle.account.specs.Reads.{Reads, TurnedTo}
-use Rattle.account.specs.declared.input.Place.{Place}
-use Rattle.account.specs.declared.input.Turn.{Turn}
-use Rattle.account.specs.declared.input.Turn.the-variants.{On, Over}
-use Rattle.account.proofs.Absorbed.{reads-none}
+use Rattle.account.specs.Heard.{State, stateAs, Behind, Fits, brought, heardAs}
+use Rattle.account.specs.Input.{Heard, none-yet, one-more}
+use Rattle.account.specs.declared.place.Place.{Place}
+use Rattle.account.specs.declared.place.Stage.the-variants.{Reading}
+use Rattle.account.specs.declared.reading.Got.{Got}
+use Rattle.account.proofs.Stands.{still-reading, over-not-reading, left-few}
 use Rattle.account.proofs.input.account_of.Statement.{statement}
 use Rattle.account.proofs.input.account_of.Tie as tie
 
-record Stands (buf₀ hold₀ out₀ : List ℕ) (buf hold out : List ℕ) (p : Place) : Type 0 where
+record Stands (buf₀ hold₀ out₀ buf hold out : List ℕ) (p : Place) (turns : ℕ) : Type 0 where
   input : List ℕ
-  reads : Reads input hold₀ out₀ p buf hold out
+  reads : ℕ
+  heard : Heard hold₀ out₀ input reads (stateAs p buf hold out)
+  count : reads + turns ≡ 2 ^ 64 - 1
   buf-long : length buf ≡ length buf₀
   hold-long : length hold ≡ length hold₀
   out-long : length out ≡ length out₀
 
 abbrev Inv-loop : tie.InvT-loop
-Inv-loop buf₀ hold₀ out₀ p₀ turns₀ buf hold out p turns = Stands buf₀ hold₀ out₀ buf hold out p
+Inv-loop buf₀ hold₀ out₀ p₀ turns₀ buf hold out p turns = Stands buf₀ hold₀ out₀ buf hold out p turns
 
 abbrev μ-loop : tie.MeasureT-loop
 μ-loop buf₀ hold₀ out₀ p₀ turns₀ buf hold out p turns = turns
 
-fresh-requires : tie.Need-fresh-requires Inv-loop μ-loop
-fresh-requires c κs = search needs
+start-requires : tie.Need-start-requires Inv-loop μ-loop
+start-requires c κs = search needs
 
 loop-holds : tie.Need-loop-holds Inv-loop μ-loop
 loop-holds c =
-    let a = c .before .before .before .before .args in
-    record { input = []; reads = reads-none (a .hold .now) (a .out .now) (a .buf .now) (c .fresh .result); buf-long = refl; hold-long = refl; out-long = refl }
+    let s = c .before .before .before .before in
+    let a = s .args in
+    record {
+      input = [];
+      reads = 0;
+      heard = subst (λ (p : Place). Heard (a .hold .now) (a .out .now) [] 0 (stateAs p (a .buf .now) (a .hold .now) (a .out .now))) (sym (c .start .ensures)) (none-yet (s .pre .0) (s .pre .1) (s .pre .2));
+      count = refl;
+      buf-long = refl;
+      hold-long = refl;
+      out-long = refl;
+    }
 
-one-read-requires : tie.Need-one-read-requires Inv-loop μ-loop
-one-read-requires c κs =
-    let l = c .before .before .before .before .loop in
-    (omega (arith, l .inv .reads .left), l .inv .buf-long ∙ c .before .before .before .before .before .before .before .before .before .pre)
-
-enum-known-t : tie.Need-enum-known-t Inv-loop μ-loop
-enum-known-t c = search needs
-
-enum-known-t-2 : tie.Need-enum-known-t-2 Inv-loop μ-loop
-enum-known-t-2 c = search needs
-
--- the loop's head, from where the turn is done, and what the turn says
-abbrev head : tie.After-one-read Inv-loop μ-loop → tie.At-loop Inv-loop μ-loop
-head r = r .before .before .before .before .before
-
-module _ (r : tie.After-one-read Inv-loop μ-loop) where
-  says : (t : Turn) → r .one-read .result ≡ t → TurnedTo (head r .loop .inv .input) (head r .before .before .before .before .before .args .hold .now) (head r .before .before .before .before .before .args .out .now) t (r .one-read .last .1 .0) (r .one-read .last .1 .1 .0) (r .one-read .last .1 .1 .1 .0)
-  says t e =
-      let a = head r .before .before .before .before .before .args in
-      subst (λ (z : Turn). TurnedTo (head r .loop .inv .input) (a .hold .now) (a .out .now) z (r .one-read .last .1 .0) (r .one-read .last .1 .1 .0) (r .one-read .last .1 .1 .1 .0)) e
-      (r .one-read .ensures (head r .loop .inv .input) (a .hold .now) (a .out .now) (head r .loop .inv .reads))
-
-  buf-kept : length (r .one-read .last .1 .0) ≡ length (head r .before .before .before .before .before .args .buf .now)
-  buf-kept = r .one-read .kept .1 .0 ∙ head r .loop .inv .buf-long
-
-  hold-kept : length (r .one-read .last .1 .1 .0) ≡ length (head r .before .before .before .before .before .args .hold .now)
-  hold-kept = r .one-read .kept .1 .1 .0 ∙ head r .loop .inv .hold-long
-
-  out-kept : length (r .one-read .last .1 .1 .1 .0) ≡ length (head r .before .before .before .before .before .args .out .now)
-  out-kept = r .one-read .kept .1 .1 .1 .0 ∙ head r .loop .inv .out-long
+is-over-requires : tie.Need-is-over-requires Inv-loop μ-loop
+is-over-requires c κs = search needs
 
 same-length : tie.Need-same-length Inv-loop μ-loop
-same-length c = buf-kept (c .before .before .before .before .before .before .before .before .before)
+same-length c = c .before .before .before .loop .inv .buf-long
 
 same-length-2 : tie.Need-same-length-2 Inv-loop μ-loop
-same-length-2 c = hold-kept (c .before .before .before .before .before .before .before .before .before)
+same-length-2 c = c .before .before .before .loop .inv .hold-long
 
 same-length-3 : tie.Need-same-length-3 Inv-loop μ-loop
-same-length-3 c = out-kept (c .before .before .before .before .before .before .before .before .before)
+same-length-3 c = c .before .before .before .loop .inv .out-long
 
 returns : tie.Need-returns Inv-loop μ-loop
 returns c =
-    let t = c .before in
-    let r = t .before .before .before .before .before .before .before .before in
-    record { input = head r .loop .inv .input; ended = says r (Over (t .t2 .given .0 .0)) (t .t2 .given .1) }
+    let l = c .before .before .before .loop in
+    record {
+      input = l .inv .input;
+      reads = l .inv .reads;
+      state = stateAs (l .p) (l .buf) (l .hold) (l .out);
+      heard = l .inv .heard;
+      place-is = refl;
+      all-reads = λ e. absurd (over-not-reading (l .p .stage) (sym (c .before .is-over .ensures) ∙ c .if1 .taken) e);
+    }
+
+left-of-requires : tie.Need-left-of-requires Inv-loop μ-loop
+left-of-requires c κs = search needs
+
+read-behind-requires : tie.Need-read-behind-requires Inv-loop μ-loop
+read-behind-requires c κs =
+    let h = c .before .before .before .before .before in
+    let s = h .before .before .before .before .before in
+    omega (arith, c .left-of .ensures, left-few (h .loop .inv .heard), h .loop .inv .buf-long, s .pre .0)
+
+-- the loop's head and the start, from where the read is done, and what the read says
+abbrev head : tie.After-read-behind Inv-loop μ-loop → tie.At-loop Inv-loop μ-loop
+head r = r .before .before .before .before .before .before
+
+abbrev begin : tie.After-read-behind Inv-loop μ-loop → tie.Start Inv-loop μ-loop
+begin r = head r .before .before .before .before .before
+
+behind : (r : tie.After-read-behind Inv-loop μ-loop) → Behind (head r .loop .p .left) (head r .loop .buf) (r .read-behind .last .0) (r .read-behind .result .got)
+behind r = subst (λ (n : ℕ). Behind n (head r .loop .buf) (r .read-behind .last .0) (r .read-behind .result .got)) (r .before .left-of .ensures) (r .read-behind .ensures)
+
+heard-requires : tie.Need-heard-requires Inv-loop μ-loop
+heard-requires c κs =
+    let r = c .before .before .before .before .before in
+    let h = r .before .before .before .before .before .before in
+    subst (Fits (h .loop .p .left) (r .read-behind .result .got)) (sym (r .read-behind .kept .0)) (behind r .fits)
 
 sub-turns : tie.Need-sub-turns Inv-loop μ-loop
 sub-turns c = search needs
@@ -88,10 +103,20 @@ loop-less c = search needs
 
 loop-again : tie.Need-loop-again Inv-loop μ-loop
 loop-again c =
-    let t = c .before in
-    let r = t .before .before .before .before .before .before .before .before in
-    let m = says r (On (t .t .given .0 .0)) (t .t .given .1) in
-    record { input = head r .loop .inv .input ++ m .came; reads = m .reads; buf-long = buf-kept r; hold-long = hold-kept r; out-long = out-kept r }
+    let x = c .before .before .before .before .before .before in
+    let r = x .before .before .before .before .before .before in
+    let i = r .before .before .before in
+    let l = head r .loop in
+    record {
+      input = l .inv .input ++ brought (l .p .left) (r .read-behind .last .0) (r .read-behind .result .got);
+      reads = suc (l .inv .reads);
+      heard = subst (Heard (begin r .args .hold .now) (begin r .args .out .now) (l .inv .input ++ brought (l .p .left) (r .read-behind .last .0) (r .read-behind .result .got)) (suc (l .inv .reads))) (sym (x .heard .ensures))
+          (one-more (l .inv .heard) (still-reading (l .p .stage) (sym (i .before .is-over .ensures) ∙ i .if1 .left)) (r .read-behind .last .0) (r .read-behind .result .got) (r .read-behind .kept .0) (behind r));
+      count = omega (arith, l .inv .count);
+      buf-long = x .heard .kept .1 .1 .0 ∙ r .read-behind .kept .0 ∙ l .inv .buf-long;
+      hold-long = x .heard .kept .1 .1 .1 .0 ∙ l .inv .hold-long;
+      out-long = x .heard .kept .1 .1 .1 .1 .0 ∙ l .inv .out-long;
+    }
 
 same-length-4 : tie.Need-same-length-4 Inv-loop μ-loop
 same-length-4 c = c .before .loop .inv .buf-long
@@ -103,7 +128,16 @@ same-length-6 : tie.Need-same-length-6 Inv-loop μ-loop
 same-length-6 c = c .before .loop .inv .out-long
 
 returns-2 : tie.Need-returns-2 Inv-loop μ-loop
-returns-2 c = record { input = []; ended = tt }
+returns-2 c =
+    let l = c .before .loop in
+    record {
+      input = l .inv .input;
+      reads = l .inv .reads;
+      state = stateAs (l .p) (l .buf) (l .hold) (l .out);
+      heard = l .inv .heard;
+      place-is = refl;
+      all-reads = λ e. omega (arith, l .inv .count);
+    }
 
 pub account-of-spec : {M : Type 1} → statement M
 account-of-spec =
@@ -111,15 +145,16 @@ account-of-spec =
     (tie.spec
     Inv-loop
     μ-loop
-    fresh-requires
+    start-requires
     loop-holds
-    one-read-requires
-    enum-known-t
-    enum-known-t-2
+    is-over-requires
     same-length
     same-length-2
     same-length-3
     returns
+    left-of-requires
+    read-behind-requires
+    heard-requires
     sub-turns
     loop-less
     loop-again

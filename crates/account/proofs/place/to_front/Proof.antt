@@ -1,24 +1,32 @@
--- `account::input::to_front` meets its contract: the bytes moved so far are right, and those still to be moved stand where they stood.
+-- `account::place::to_front` meets its contract: the bytes moved so far are right, and those behind them stand where they stood.
 use mathlib.Core.Path.{_≡_, refl, sym, ap, _∙_}
 use mathlib.Core.List.{List, [], _∷_, _++_}
 use Prim.Native.Nat.{ℕ, _+_, _-_, _≤_, _<_}
 use native.Mathlib.Numerals.{add-one}
 use native.Mathlib.Omega.{arith}
-use lib.ListN.{length, take, drop, getD, set, length-set, length-drop}
-use lib.Seq.{take-suc, take-suc-set, drop-set-lt, getD-drop}
-use Rattle.account.proofs.input.to_front.Statement.{statement}
-use Rattle.account.proofs.input.to_front.Tie as tie
+use lib.ListN.{length, take, drop, getD, set, length-set, length-drop, take-append-drop}
+use lib.Seq.{take-suc, take-suc-set, drop-set-lt, drop-drop, getD-drop}
+use Rattle.account.specs.Heard.{toFront}
+use Rattle.account.proofs.place.to_front.Statement.{statement}
+use Rattle.account.proofs.place.to_front.Tie as tie
 
 record Front (buf₀ : List ℕ) (from n : ℕ) (buf : List ℕ) (i : ℕ) : Type 0 where
   few : i ≤ n
   long : length buf ≡ length buf₀
   moved : take i buf ≡ take i (drop from buf₀)
-  stand : drop from buf ≡ drop from buf₀
+  stand : drop i buf ≡ drop i buf₀
 
 more : (buf₀ : List ℕ) (from n : ℕ) (buf : List ℕ) (i : ℕ) → Front buf₀ from n buf i → from + n ≤ length buf₀ → n ≤ from → i < n → Front buf₀ from n (set buf i (getD buf (from + i) 0)) (i + 1)
 more buf₀ from n buf i x fits apart k =
     let v : ℕ = getD buf (from + i) 0 in
-    let is : v ≡ getD (drop from buf₀) i 0 = sym (getD-drop from buf i 0) ∙ ap (λ (l : List ℕ). getD l i 0) (x .stand) in
+    let there : i + (from + i - i) ≡ from + i = omega arith in
+    let is : v ≡ getD (drop from buf₀) i 0 =
+        ap (λ (m : ℕ). getD buf m 0) (sym there)
+        ∙ sym (getD-drop i buf (from + i - i) 0)
+        ∙ ap (λ (l : List ℕ). getD l (from + i - i) 0) (x .stand)
+        ∙ getD-drop i buf₀ (from + i - i) 0
+        ∙ ap (λ (m : ℕ). getD buf₀ m 0) there
+        ∙ sym (getD-drop from buf₀ i 0) in
     record {
       few = omega arith;
       long = length-set buf i v ∙ x .long;
@@ -29,7 +37,7 @@ more buf₀ from n buf i x fits apart k =
           ∙ ap (λ (b : ℕ). take i (drop from buf₀) ++ (b ∷ [])) is
           ∙ sym (take-suc (drop from buf₀) i 0 (omega (arith, length-drop from buf₀)))
           ∙ ap (λ (m : ℕ). take m (drop from buf₀)) (sym (add-one i));
-      stand = drop-set-lt from buf i v (omega arith) ∙ x .stand;
+      stand = drop-set-lt (i + 1) buf i v (omega arith) ∙ sym (drop-drop 1 i buf) ∙ ap (drop 1) (x .stand) ∙ drop-drop 1 i buf₀;
     }
 
 abbrev Inv-loop : tie.InvT-loop
@@ -70,7 +78,11 @@ returns c =
     let l = c .before .loop in
     let s = c .before .before in
     let all : l .i ≡ s .args .n = omega (arith, l .inv .few) in
-    record { front = ap (λ (m : ℕ). take m (l .buf)) (sym all) ∙ l .inv .moved ∙ ap (λ (m : ℕ). take m (drop (s .args .from) (s .args .buf .now))) all; long = l .inv .long }
+    let buf₀ : List ℕ = s .args .buf .now in
+    sym (take-append-drop (l .i) (l .buf))
+    ∙ ap (λ (m : List ℕ). m ++ drop (l .i) (l .buf)) (l .inv .moved)
+    ∙ ap (λ (m : List ℕ). take (l .i) (drop (s .args .from) buf₀) ++ m) (l .inv .stand)
+    ∙ ap (toFront buf₀ (s .args .from)) all
 
 pub to-front-spec : {M : Type 1} → statement M
 to-front-spec = tie.close (tie.spec Inv-loop μ-loop loop-holds add-buf slice-read-buf slice-write-buf add-i loop-less loop-again same-length returns)

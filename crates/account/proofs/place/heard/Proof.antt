@@ -1,0 +1,119 @@
+-- `account::place::heard` meets its contract.
+use mathlib.Core.Path.{_≡_, sym, ap, _∙_, subst}
+use native.Mathlib.Omega.{arith}
+use borrow.Author.Needs.{needs}
+use lib.ListN.{length}
+use Rattle.account.specs.Heard.{Fits, State, stateAs, heardAs}
+use Rattle.account.specs.declared.reading.Got.{Got}
+use Rattle.account.specs.declared.reading.Got.the-variants.{Bytes, Again, End, Failed}
+use Rattle.account.proofs.place.heard.Statement.{statement}
+use Rattle.account.proofs.place.heard.Tie as tie
+
+-- the start, from where the read's outcome is told, and the state there
+abbrev start : tie.After-got-of → tie.Start
+start m = m .before .before .before .before
+
+abbrev at : tie.After-got-of → State
+at m =
+    let a = start m .args in
+    stateAs (a .p) (a .buf .now) (a .hold .now) (a .out .now)
+
+module _ (m : tie.After-got-of) (g : Got) (e : m .got-of .result ≡ g) where
+  -- what the arm that is taken says of the read
+  came-is : start m .args .came .got ≡ g
+  came-is = sym (m .got-of .ensures) ∙ e
+
+  as-heard : heardAs g (at m) ≡ heardAs (start m .args .came .got) (at m)
+  as-heard = ap (λ (z : Got). heardAs z (at m)) (sym came-is)
+
+  fits : Fits (start m .args .p .left) g (length (start m .args .buf .now))
+  fits = subst (λ (z : Got). Fits (start m .args .p .left) z (length (start m .args .buf .now))) came-is (start m .pre)
+
+got-of-requires : tie.Need-got-of-requires
+got-of-requires c κs = search needs
+
+enum-known-got : tie.Need-enum-known-got
+enum-known-got c = search needs
+
+add-absorb : tie.Need-add-absorb
+add-absorb c =
+    let g = c .before .before .before .before in
+    omega (arith, fits (g .before .before) (Bytes (g .got .given .0 .0)) (g .got .given .1))
+
+absorb-requires : tie.Need-absorb-requires
+absorb-requires c κs =
+    let g = c .before .before .before .before in
+    fits (g .before .before) (Bytes (g .got .given .0 .0)) (g .got .given .1)
+
+enum-told : tie.Need-enum-told
+enum-told c = search needs
+
+enum-told-2 : tie.Need-enum-told-2
+enum-told-2 c = search needs
+
+finish-requires : tie.Need-finish-requires
+finish-requires c κs =
+    let t = c .before .before .before in
+    omega (arith, fits (t .before .before) End (t .enum-told2 .given .1))
+
+enum-told-3 : tie.Need-enum-told-3
+enum-told-3 c = search needs
+
+same-length : tie.Need-same-length
+same-length c = search needs
+
+same-length-2 : tie.Need-same-length-2
+same-length-2 c = search needs
+
+same-length-3 : tie.Need-same-length-3
+same-length-3 c = search needs
+
+returns : tie.Need-returns
+returns c =
+    let b = c .before .before .before .before .before .before in
+    let g = b .before .before .before .before .before in
+    b .absorb .ensures ∙ as-heard (g .before .before) (Bytes (g .got .given .0 .0)) (g .got .given .1)
+
+returns-2 : tie.Need-returns-2
+returns-2 c = as-heard (c .before .before) Again (c .enum-told .given .1)
+
+same-length-4 : tie.Need-same-length-4
+same-length-4 c = search needs
+
+same-length-5 : tie.Need-same-length-5
+same-length-5 c = search needs
+
+same-length-6 : tie.Need-same-length-6
+same-length-6 c = search needs
+
+returns-3 : tie.Need-returns-3
+returns-3 c =
+    let f = c .before .before .before .before in
+    let t = f .before .before .before .before in
+    f .finish .ensures ∙ as-heard (t .before .before) End (t .enum-told2 .given .1)
+
+returns-4 : tie.Need-returns-4
+returns-4 c = as-heard (c .before .before .before) Failed (c .before .enum-told3 .given .1)
+
+pub heard-spec : {M : Type 1} → statement M
+heard-spec =
+    tie.close
+    (tie.spec
+    got-of-requires
+    enum-known-got
+    add-absorb
+    absorb-requires
+    enum-told
+    enum-told-2
+    finish-requires
+    enum-told-3
+    same-length
+    same-length-2
+    same-length-3
+    returns
+    returns-2
+    same-length-4
+    same-length-5
+    same-length-6
+    returns-3
+    returns-4)
