@@ -7,4 +7,6 @@ pub mod PartLaws
 pub mod Decimal
 pub mod NextDigit
 pub mod SomeBits
+pub mod NumberBits
+pub mod Shown
 pub mod Unique
