@@ -19,7 +19,8 @@ unfolding bcdAfter
 after-decimal zero a v h = ap value (omega arith)
 after-decimal (suc k) a v h =
     rw (le-ltb 9 (digit k v) (h k (omega arith)))
-    (after-decimal k (a * 10 + digit k v) v (λ j l. h j (omega arith)) ∙ ap value (tenfold a (digit k v) (10 ^ k) (decimal k v) ∙ rw pow-succ'))
+    (after-decimal k (a * 10 + digit k v) v (λ j l. h j (omega arith))
+    ∙ ap value (tenfold a (digit k v) (10 ^ k) (decimal k v) ∙ rw pow-succ'))
 
 pub bcd-decimal : (n v : ℕ) → ((j : ℕ) → j < n → digit j v ≤ 9) → bcdOf n v ≡ value (decimal n v)
 unfolding bcdOf
@@ -30,7 +31,8 @@ unfolding bcdAfter
 after-bad zero a v j h b = absurd (omega arith)
 after-bad (suc k) a v j h b =
     if-case (λ r. r ≡ refused 63) (ltb 9 (digit k v)) (λ _. refl)
-    (λ g. ⊎-elim (λ (e : j ≡ k). absurd (omega (arith, ltb-false 9 (digit k v) g, ap (λ i. digit i v) e))) (λ (l : j < k). after-bad k (a * 10 + digit k v) v j l b) (eq-or-lt-of-le (le-of-suc-le-suc h)))
+    (λ g. ⊎-elim (λ (e : j ≡ k). absurd (omega (arith, ltb-false 9 (digit k v) g, ap (λ i. digit i v) e)))
+    (λ (l : j < k). after-bad k (a * 10 + digit k v) v j l b) (eq-or-lt-of-le (le-of-suc-le-suc h)))
 
 pub bcd-bad : (n v j : ℕ) → j < n → 9 < digit j v → bcdOf n v ≡ refused 63
 unfolding bcdOf

@@ -8,4 +8,6 @@ pub mod Decimal
 pub mod NextDigit
 pub mod SomeBits
 pub mod LowBits
+pub mod NumberBits
+pub mod Shown
 pub mod Unique

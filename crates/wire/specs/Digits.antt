@@ -19,10 +19,15 @@ bcdAfter a (suc k) v = if ltb 9 (digit k v) then refused 63 else bcdAfter (a * 1
 unfoldable pub bcdOf : ℕ → ℕ → Reading ℕ
 bcdOf n v = bcdAfter 0 n v
 
--- the sum of the n low digits of v at their powers of ten
+-- the sum of the k low digits of v, each at its power of ten
 abbrev pub decimal : ℕ → ℕ → ℕ
 decimal zero v = 0
 decimal (suc k) v = digit k v * 10 ^ k + decimal k v
+
+-- the n low decimal digits of a, in BCD
+unfoldable pub bcdShow : ℕ → ℕ → ℕ
+bcdShow zero a = 0
+bcdShow (suc k) a = bcdShow k (a / 10) * 16 + a % 10
 
 -- document 01's number for every answer
 abbrev pub told : Digits → Reading ℕ
