@@ -7,7 +7,7 @@ use Prim.Native.Nat.{ℕ, _<_}
 use native.Mathlib.Omega.{arith}
 use lib.ListN.{length}
 use lib.Dec.{eqb}
-use borrow.Author.Tests.{ne-eqb}
+use borrow.Author.Tests.{ne-eqb, eqb-true, eqb-false}
 use Rattle.wire.specs.If.{if_then_else_}
 use Rattle.wire.proofs.IfLaws.{if-case}
 use Rattle.collector.specs.Packet.{control}
@@ -21,7 +21,7 @@ use Rattle.collector.specs.declared.Last.{Last}
 use Rattle.collector.specs.declared.Last.the-variants.{None, Counter}
 use Rattle.collector.specs.declared.Record as of
 use Rattle.cabinet.specs.Collect.{lastIn, lastSays, recordIn, recordSays, collectSays, Outcome, leaves, outcomeSays, collecting}
-use Rattle.calls.specs.Collects.{Promised, Call, Run, no-call, one-call, callSays, Beneath, RunsBeneath}
+use Rattle.calls.specs.Collects.{LastIs, Stands, Tells, Promised, Call, Run, no-call, one-call, callSays, Beneath, RunsBeneath}
 use Rattle.cabinet.specs.declared.collect.Record.{Record}
 
 -- ---- a taken packet's counter has four bits
@@ -71,6 +71,31 @@ told-on x hold out packet t =
 told-back : (x : of.Record) → Told x → recordIn (recordSays x) ≡ x
 told-back x t = ap (λ l. record { pid = x .pid; last = l; in_hand = x .in_hand; pointer = x .pointer; delivered = x .delivered; broken = x .broken; filler = x .filler; skipped = x .skipped }) t
 
+-- ---- field by field
+
+last-is : (n : ℕ) → LastIs n (lastIn n)
+last-is n = if-case (LastIs n) (eqb n 255) (λ e. subst (λ k. LastIs k None) (sym (eqb-true n 255 e)) none-is) (λ e. LastIs.counter (eqb-false n 255 e))
+  where
+    none-is : LastIs 255 None
+    none-is = LastIs.none
+
+pub stands : (r : Record) → Stands r (recordIn r)
+stands r = record {
+  pid = refl;
+  last = last-is (r .last);
+  in-hand = refl;
+  pointer = refl;
+  delivered = refl;
+  broken = refl;
+  filler = refl;
+  skipped = refl;
+}
+
+pub collect-tells : (t : collector.Told) → Tells t (collectSays t)
+collect-tells (collector.refused k) = Tells.refused refl
+collect-tells collector.repeated = Tells.repeated refl refl
+collect-tells (collector.taken n b) = Tells.taken refl refl refl refl
+
 -- ---- a run, call by call
 
 -- one call, in numbers, is that of the collector
@@ -95,10 +120,11 @@ more ks r₁ hold₁ k o is e b = record {
   run = beneath.one-call (call-beneath o r₁ hold₁ k e ∙ is) (b .run);
   calls-say = calls-on k ks (o .said) (b .under) (ap (λ (z : Outcome). z .answer) e) (b .calls-say);
   record-says = b .record-says;
+  record-stands = b .record-stands;
 }
 
 runs : (x : of.Record) (hold : List ℕ) (calls : List Call) (r r′ : Record) (hold′ : List ℕ) → Told x → r ≡ recordSays x → Run Promised r hold calls r′ hold′ → Beneath x hold calls r′ hold′
-runs x hold [] r r′ hold′ t is no-call = record { under = []; rec = x; run = beneath.no-call; calls-say = refl; record-says = is }
+runs x hold [] r r′ hold′ t is no-call = record { under = []; rec = x; run = beneath.no-call; calls-say = refl; record-says = is; record-stands = subst (Stands r) (ap recordIn is ∙ told-back x t) (stands r) }
 runs x hold (k ∷ ks) r r′ hold′ t is (one-call {r₁ = r₁} {hold₁ = hold₁} p rest) =
     let o = collected x hold (k .out) (k .packet) in
     let e : leaves r₁ hold₁ (k .out′) (k .answer) ≡ outcomeSays o = p ∙ ap (λ (y : Record). collecting y hold (k .out) (k .packet)) is ∙ says-on x hold (k .out) (k .packet) t in

@@ -1,13 +1,14 @@
 -- Demand 2's last sentence for whoever keeps the promises of `lohitunga_to_section` and `lohitunga_to_sheet`.
 use Prim.{Unit, tt}
-use Prim.Native.Nat.{ℕ, _≤_}
+use Prim.Native.Nat.{ℕ, _<_, _≤_}
 use mathlib.Core.Path.{_≡_, refl, sym, ap, ap₂, _∙_, subst}
+use mathlib.Core.Logic.{_↔_}
 use mathlib.Core.List.{List}
 use mathlib.Core.Bool.{Bool, true, false}
 use native.Mathlib.Omega.{arith}
 use lib.ListN.{length, take}
 use lib.Dec.{ltb}
-use borrow.Author.Tests.{ltb-false}
+use borrow.Author.Tests.{ltb-false, lt-ltb, le-ltb}
 use Rattle.wire.specs.If.{if_then_else_}
 use Rattle.wire.specs.Reading as reading
 use Rattle.wire.proofs.IfLaws.{if-case}
@@ -22,7 +23,7 @@ use Rattle.turn.proofs.WholeLaws.{take-put}
 use Rattle.cabinet.specs.Sheets.{sectionSays, sheetSays}
 use Rattle.cabinet.specs.declared.sheets.SectionAnswer.{SectionAnswer}
 use Rattle.cabinet.specs.declared.sheets.SheetAnswer.{SheetAnswer}
-use Rattle.calls.specs.Sheets.{ToSection, ToSheet, SheetAndBack, SectionAndBack, RefusalLeaves}
+use Rattle.calls.specs.Sheets.{ToSection, ToSheet, SheetAndBack, SectionAndBack, RefusalLeaves, RoomFirst, SheetRefusesExactlyIf}
 use Rattle.calls.proofs.Refusals.{sheet-refusal, first-numbered}
 
 -- ---- the number 0 is no refusal's
@@ -124,3 +125,36 @@ sheet-leaves o (refuses k p) a e n = refl
 pub refusal-leaves : RefusalLeaves
 refusal-leaves =
     (λ s o o' a x n. x .1 ∙ section-leaves o (toSection (length o) s) a (x .0) n, λ s o o' a x n. x .1 ∙ sheet-leaves o (toSheet (length o) s) a (x .0) n)
+
+section-no-room : (n : ℕ) (s : List ℕ) → n < 4096 → toSection n s ≡ refuses 21 0
+unfolding toSection
+section-no-room n s h = rw (lt-ltb n 4096 h)
+
+sheet-no-room : (n : ℕ) (s : List ℕ) → n < 5120 → toSheet n s ≡ refuses 21 0
+unfolding toSheet
+sheet-no-room n s h = rw (lt-ltb n 5120 h)
+
+pub room-first : RoomFirst
+room-first =
+    (λ s o o' a x h. ap (λ (u : SectionAnswer). u .number) (x .0) ∙ ap (λ (y : Outcome). sectionSays (answer y) .number) (section-no-room (length o) s h),
+    λ s o o' a x h.
+    let e = sheet-no-room (length o) s h in
+    (ap (λ (u : SheetAnswer). u .number) (x .0) ∙ ap (λ (y : Outcome). sheetSays (answer y) .number) e,
+    ap (λ (u : SheetAnswer). u .place) (x .0) ∙ ap (λ (y : Outcome). sheetSays (answer y) .place) e))
+
+if-refused : (v : verdict.Said) (l : List ℕ) (a : SheetAnswer) → a ≡ sheetSays (answer (sheetIf v l)) → (k p : ℕ) → (k ≡ 0 → ⊥)
+    → ((a .number ≡ k) × (a .place ≡ p)) ↔ (v ≡ verdict.refused k p)
+if-refused verdict.accepted l a e k p n =
+    (λ h. absurd (n (sym (h .0) ∙ ap (λ (u : SheetAnswer). u .number) e)), λ h. let z : _≡_ {A = ℕ} 0 1 = cc in absurd (omega arith))
+if-refused (verdict.refused j q) l a e k p n =
+    let number = ap (λ (u : SheetAnswer). u .number) e in
+    let place = ap (λ (u : SheetAnswer). u .place) e in
+    (λ h. ap₂ verdict.refused (sym number ∙ h .0) (sym place ∙ h .1), λ h. (number ∙ cc, place ∙ cc))
+
+pub sheet-refuses-exactly-if : SheetRefusesExactlyIf
+unfolding toSheet
+sheet-refuses-exactly-if s o o' a x big k p n =
+    let e = x .0 ∙ ap (λ b. sheetSays (answer (if b then refuses 21 0 else sheetIf (judged s) (sheetFrom (contentOf s))))) (le-ltb (length o) 5120 big) in
+    let y = if-refused (judged s) (sheetFrom (contentOf s)) a e k p n in
+    let z = refused-exactly-if s k p in
+    (λ h. z .0 (y .0 h), λ f. y .1 (z .1 f))

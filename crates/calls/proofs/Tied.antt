@@ -13,10 +13,12 @@ use denote.Triple.Clauses.{Lasts, atExit}
 use Rattle.cabinet.specs.Collect.{leaves}
 use Rattle.cabinet.specs.Roll.{holds}
 use Rattle.calls.specs.Collects as collects
+use Rattle.calls.specs.Judges as judges
 use Rattle.calls.specs.Rolls as rolls
 use Rattle.calls.specs.Sheets as sheets
 use Rattle.cabinet.proofs.collect.lohitunga_fresh as fresh
 use Rattle.cabinet.proofs.collect.lohitunga_collect as collect
+use Rattle.cabinet.proofs.judge.lohitunga_judge as judge
 use Rattle.cabinet.proofs.rolls.lohitunga_roll_empty as roll-empty
 use Rattle.cabinet.proofs.rolls.lohitunga_roll_ask as roll-ask
 use Rattle.cabinet.proofs.rolls.lohitunga_roll_take as roll-take
@@ -34,6 +36,12 @@ module _ {M : Type 1} (𝓤 : URA M) (H : Heap 𝓤) (A : Atoms 𝓤) (at-mem : 
       → collect.clauses 𝓤 H A at-mem run κs a .ensures tt x (atExit collect.ended κs a ws)
         ≡ fact 𝓤 (collects.Promised (a .0 .now) (a .1 .0 .now) (a .1 .1 .0 .now) (a .1 .1 .1 .0 .now) (leaves (ws .0) (ws .1 .0) (ws .1 .1 .0) x))
   collect-promises κs a x ws = refl
+
+  pub judge-promises : (κs : Lfts (judge.ended .signature .lifetimes)) (a : Args (judge.ended .signature) κs)
+      (x : Res (judge.ended .signature) κs) (ws : Lasts judge.ended κs a)
+      → judge.clauses 𝓤 H A at-mem run κs a .ensures tt x (atExit judge.ended κs a ws)
+        ≡ fact 𝓤 (judges.Promised (a .0 .now) x)
+  judge-promises κs a x ws = refl
 
   pub roll-empty-promises : (κs : Lfts (roll-empty.ended .signature .lifetimes)) (a : Args (roll-empty.ended .signature) κs)
       (x : Res (roll-empty.ended .signature) κs) (ws : Lasts roll-empty.ended κs a)

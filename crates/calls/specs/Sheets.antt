@@ -1,11 +1,13 @@
 -- Demand 2's last sentence over the calls for C: what both calls promise, and what that comes to when one is called after the other.
-use Prim.Native.Nat.{ℕ, _≤_}
+use Prim.Native.Nat.{ℕ, _<_, _≤_}
 use mathlib.Core.Path.{_≡_}
+use mathlib.Core.Logic.{_↔_}
 use mathlib.Core.List.{List}
 use lib.ListN.{length, take}
 use Rattle.wire.specs.Bytes.{Bytes}
 use Rattle.verdict.specs.Verdict.{accepted}
 use Rattle.section.specs.Reading.{judged}
+use Rattle.section.specs.Faults.{First}
 use Rattle.turn.specs.Turn.{toSection, toSheet, answer, roomAfter}
 use Rattle.turn.specs.Ones.{ReservedWereOnes}
 use Rattle.cabinet.specs.Sheets.{sectionSays, sheetSays}
@@ -37,3 +39,14 @@ abbrev pub RefusalLeaves : Type 0
 RefusalLeaves =
     ((s o o' : List ℕ) (a : SectionAnswer) → ToSection s o a o' → (a .number ≡ 0 → ⊥) → o' ≡ o)
     × ((s o o' : List ℕ) (a : SheetAnswer) → ToSheet s o a o' → (a .number ≡ 0 → ⊥) → o' ≡ o)
+
+-- "21 room under 5,120 (for a sheet) or 4,096 (for a section)", whatever stands in section or sheet
+abbrev pub RoomFirst : Type 0
+RoomFirst =
+    ((s o o' : List ℕ) (a : SectionAnswer) → ToSection s o a o' → length o < 4096 → a .number ≡ 21)
+    × ((s o o' : List ℕ) (a : SheetAnswer) → ToSheet s o a o' → length o < 5120 → (a .number ≡ 21) × (a .place ≡ 0))
+
+-- "Section to sheet: 21, then 1 to 10.": number and place are those of the first refusal
+abbrev pub SheetRefusesExactlyIf : Type 0
+SheetRefusesExactlyIf = (s o o' : List ℕ) (a : SheetAnswer) → ToSheet s o a o' → 5120 ≤ length o → (k p : ℕ) → (k ≡ 0 → ⊥)
+    → ((a .number ≡ k) × (a .place ≡ p)) ↔ First s k p
