@@ -1,9 +1,7 @@
 -- The number and place that C is told are those of the judge.
 use Prim.Native.Nat.{ℕ}
 use mathlib.Core.Path.{_≡_, refl, sym, ap, ap₂, _∙_}
-use mathlib.Core.Logic.{_↔_}
 use mathlib.Core.List.{List}
-use native.Mathlib.Omega.{arith}
 use Rattle.verdict.specs.Verdict.{Said, accepted, refused, numberOf, placeOf}
 use Rattle.section.specs.Reading.{judged}
 use Rattle.section.proofs.Exactly.{accepted-exactly-if, refused-exactly-if}
@@ -38,6 +36,7 @@ pub refuses-exactly-if : RefusesExactlyIf Promised
 refuses-exactly-if s a is k p n =
     let number = told-number s a is in
     let place = told-place s a is in
-    let x = refused-exactly-if s k p in
-    (λ h. x .0 (number-refused (judged s) k p n (sym number ∙ h .0) (sym place ∙ h .1)),
-    λ f. (number ∙ ap numberOf (x .1 f), place ∙ ap placeOf (x .1 f)))
+    let x = refused-exactly-if s k p in (
+      λ h. x .0 (number-refused (judged s) k p n (sym number ∙ h .0) (sym place ∙ h .1)),
+      λ f. (number ∙ ap numberOf (x .1 f), place ∙ ap placeOf (x .1 f)),
+    )

@@ -1,5 +1,5 @@
--- Demand 3 for C: "Start a fresh collector, feed it any packets, hand record and hold on untouched." What whole runs of `lohitunga_collect` come to
--- is what runs of the collector come to, said in numbers.
+-- Demand 3 for C: "Start a fresh collector, feed it any packets, hand record and hold on untouched." What whole runs of
+-- `lohitunga_collect` come to is what runs of the collector come to, said in numbers.
 use mathlib.Core.Path.{_≡_}
 use mathlib.Core.List.{List, [], _∷_, map}
 use Prim.Native.Nat.{ℕ}
@@ -32,11 +32,13 @@ pub record Stands (r : Record) (x : of.Record) : Type 0 where
   pub filler : x .filler ≡ r .filler
   pub skipped : x .skipped ≡ r .skipped
 
--- the answer tells what is said: a refusal's number; "repeated"; or taken, with the number of sections and of their bytes
+-- the answer tells what is said: a refusal's number; "repeated"; or taken, with the number of sections and of their
+-- bytes
 pub data Tells : Told → CollectAnswer → Type 0 where
   refused : {k : ℕ} {a : CollectAnswer} → a .number ≡ k → Tells (Answer.refused k) a
   repeated : {a : CollectAnswer} → a .number ≡ 0 → a .repeated ≡ 1 → Tells Answer.repeated a
-  taken : {n b : ℕ} {a : CollectAnswer} → a .number ≡ 0 → a .repeated ≡ 0 → a .sections ≡ n → a .size ≡ b → Tells (Answer.taken n b) a
+  taken : {n b : ℕ} {a : CollectAnswer} → a .number ≡ 0 → a .repeated ≡ 0 → a .sections ≡ n → a .size ≡ b
+      → Tells (Answer.taken n b) a
 
 -- ---- calls
 
@@ -63,7 +65,8 @@ pub record Call : Type 0 where
 pub data Run (C : Collector) : Record → List ℕ → List Call → Record → List ℕ → Type 0 where
   no-call : {r : Record} {hold : List ℕ} → Run C r hold [] r hold
   one-call : {r r₁ r′ : Record} {hold hold₁ hold′ : List ℕ} {k : Call} {ks : List Call}
-      → C r hold (k .out) (k .packet) (leaves r₁ hold₁ (k .out′) (k .answer)) → Run C r₁ hold₁ ks r′ hold′ → Run C r hold (k ∷ ks) r′ hold′
+      → C r hold (k .out) (k .packet) (leaves r₁ hold₁ (k .out′) (k .answer)) → Run C r₁ hold₁ ks r′ hold′
+      → Run C r hold (k ∷ ks) r′ hold′
 
 -- a call of the collector in numbers
 abbrev pub callSays : beneath.Call → Call
@@ -81,5 +84,6 @@ pub record Beneath (from : of.Record) (hold : List ℕ) (calls : List Call) (r :
 -- a run from a fresh record is a run of the collector from a fresh record
 abbrev pub RunsBeneath : Collector → Type 0
 RunsBeneath C =
-    (pid : ℕ) (fresh : Record) (hold : List ℕ) (calls : List Call) (r : Record) (hold′ : List ℕ) → PromisedFresh pid fresh → Run C fresh hold calls r hold′
+    (pid : ℕ) (fresh : Record) (hold : List ℕ) (calls : List Call) (r : Record) (hold′ : List ℕ)
+    → PromisedFresh pid fresh → Run C fresh hold calls r hold′
     → Beneath (freshRecord pid) hold calls r hold′

@@ -17,8 +17,11 @@ Promised s a = a ≡ judgeSays (judged s)
 module _ (judge : List ℕ → JudgeAnswer → Type 0) where
   -- "A section is accepted exactly if ..": the number 0
   abbrev pub AcceptsExactlyIf : Type 0
-  AcceptsExactlyIf = (s : List ℕ) (a : JudgeAnswer) → judge s a → (a .number ≡ 0) ↔ ((loops : List (List Placed)) × Section s loops)
+  AcceptsExactlyIf = (s : List ℕ) (a : JudgeAnswer) → judge s a
+      → (a .number ≡ 0) ↔ ((loops : List (List Placed)) × Section s loops)
 
-  -- "Input to which numbered refusals apply gets the first of them in document 01's order ..; no other input is refused."
+  -- "Input to which numbered refusals apply gets the first of them in document 01's order ..; no other input is
+  -- refused."
   abbrev pub RefusesExactlyIf : Type 0
-  RefusesExactlyIf = (s : List ℕ) (a : JudgeAnswer) → judge s a → (k p : ℕ) → (k ≡ 0 → ⊥) → ((a .number ≡ k) × (a .place ≡ p)) ↔ First s k p
+  RefusesExactlyIf = (s : List ℕ) (a : JudgeAnswer) → judge s a → (k p : ℕ) → (k ≡ 0 → ⊥)
+      → ((a .number ≡ k) × (a .place ≡ p)) ↔ First s k p

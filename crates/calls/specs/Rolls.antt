@@ -1,4 +1,5 @@
--- The roll for C: each call of `lohitunga_roll_take` is, in numbers, one of `roll::take`, and so are whole sequences of them.
+-- The roll for C: each call of `lohitunga_roll_take` is, in numbers, one of `roll::take`, and so are whole sequences of
+-- them.
 use Prim.Native.Nat.{ℕ}
 use mathlib.Core.Path.{_≡_}
 use mathlib.Core.Bool.{false}
@@ -75,7 +76,8 @@ settled r = record {
 -- a roll in numbers that was empty when these were given to it by calls, the last one first
 pub data Run (take : Roller) : List (List ℕ) → Roll → Type 0 where
   start : (r : Roll) → r .begun ≡ 0 → Run take [] r
-  step : {given : List (List ℕ)} {r : Roll} → Run take given r → (s : List ℕ) → Bytes s → (o : Outcome) → take r s o → Run take (s ∷ given) (o .roll)
+  step : {given : List (List ℕ)} {r : Roll} → Run take given r → (s : List ℕ) → Bytes s → (o : Outcome) → take r s o
+      → Run take (s ∷ given) (o .roll)
 
 -- a call of `roll::take`, of which this is what is told in numbers
 pub record Beneath (r : Roll) (s : List ℕ) (o : Outcome) : Type 0 where
@@ -91,27 +93,34 @@ module _ (take : Roller) where
 
   -- a run from an empty roll is a run of `roll::take` from an empty roll
   abbrev pub RollsBeneath : Type 0
-  RollsBeneath = (given : List (List ℕ)) (r : Roll) → Run take given r → beneath-runs.Run beneath.Promised given (rollIn r)
+  RollsBeneath = (given : List (List ℕ)) (r : Roll) → Run take given r
+      → beneath-runs.Run beneath.Promised given (rollIn r)
 
-  -- "refuses 1 to 10, then 83 .., 82 .., 81 .., itself unchanged", for any numbers: number and place are those of the first refusal
+  -- "refuses 1 to 10, then 83 .., 82 .., 81 .., itself unchanged", for any numbers: number and place are those of the
+  -- first refusal
   abbrev pub RefusesExactlyIf : Type 0
   RefusesExactlyIf = (r : Roll) (s : List ℕ) (o : Outcome) → take r s o → (k p : ℕ) → (k ≡ 0 → ⊥)
       → ((o .answer .number ≡ k) × (o .answer .place ≡ p)) ↔ FirstFor (rollIn r) s k p
 
   -- and every number stays
   abbrev pub RefusalKeeps : Type 0
-  RefusalKeeps = (r : Roll) (s : List ℕ) (o : Outcome) → take r s o → (k p : ℕ) → FirstFor (rollIn r) s k p → o .roll ≡ r
+  RefusalKeeps = (r : Roll) (s : List ℕ) (o : Outcome) → take r s o → (k p : ℕ) → FirstFor (rollIn r) s k p
+      → o .roll ≡ r
 
   -- every other section is taken
   abbrev pub TakesElse : Type 0
-  TakesElse = (r : Roll) (s : List ℕ) (o : Outcome) → take r s o → Bytes s → length (r .came) ≡ 256 → ((k p : ℕ) → FirstFor (rollIn r) s k p → ⊥)
+  TakesElse = (r : Roll) (s : List ℕ) (o : Outcome) → take r s o → Bytes s → length (r .came) ≡ 256
+      → ((k p : ℕ) → FirstFor (rollIn r) s k p → ⊥)
       → (x : Says) × Tells x (o .answer) × Taken (rollIn r) s (record { roll = rollIn (o .roll); says = x })
 
   -- over whole sequences: each section fares by those taken before it
   abbrev pub EachFares : Type 0
-  EachFares = (given : List (List ℕ)) (r : Roll) → Run take given r → (s : List ℕ) → Bytes s → (o : Outcome) → take r s o
-      → (x : Says) × Tells x (o .answer) × Next (taken given) (rollIn r) s (record { roll = rollIn (o .roll); says = x })
+  EachFares = (given : List (List ℕ)) (r : Roll) → Run take given r → (s : List ℕ) → Bytes s → (o : Outcome)
+      → take r s o
+      → (x : Says) × Tells x (o .answer)
+      × Next (taken given) (rollIn r) s (record { roll = rollIn (o .roll); says = x })
 
   -- and the answer is the smallest number missing, or complete
   abbrev pub AnswersAre : (Roll → RollAnswer → Type 0) → Type 0
-  AnswersAre ask = (given : List (List ℕ)) (r : Roll) → Run take given r → (a : RollAnswer) → ask r a → (x : Says) × Tells x a × Answered (taken given) x
+  AnswersAre ask = (given : List (List ℕ)) (r : Roll) → Run take given r → (a : RollAnswer) → ask r a
+      → (x : Says) × Tells x a × Answered (taken given) x
