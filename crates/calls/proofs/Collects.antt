@@ -1,4 +1,5 @@
--- A run of `lohitunga_collect` from a fresh record is a run of the collector: no packet leaves a counter that the numbers cannot tell from none.
+-- A run of `lohitunga_collect` from a fresh record is a run of the collector: no packet leaves a counter that the
+-- numbers cannot tell from none.
 use mathlib.Core.Path.{_≡_, refl, sym, ap, _∙_, subst}
 use mathlib.Core.Bool.{Bool}
 use mathlib.Core.List.{List, [], _∷_, map}
@@ -7,21 +8,18 @@ use Prim.Native.Nat.{ℕ, _<_}
 use native.Mathlib.Omega.{arith}
 use lib.ListN.{length}
 use lib.Dec.{eqb}
-use borrow.Author.Tests.{ne-eqb}
-use Rattle.wire.specs.If.{if_then_else_}
+use borrow.Author.Tests.{ne-eqb, eqb-true, eqb-false}
 use Rattle.wire.proofs.IfLaws.{if-case}
 use Rattle.collector.specs.Packet.{control}
-use Rattle.collector.specs.Rules.{Carried}
 use Rattle.collector.specs.Refusals.{lastOf, cannotStand, Judged, refuse, carries, judgedBy, judged, repeats, firstOf, refusals, Ruling, refused, repeated, takes, ruledBy, ruling}
 use Rattle.collector.specs.Refusals as Refusals
 use Rattle.collector.specs.Answer as collector
 use Rattle.collector.specs.Collected.{freshRecord, outcomeOf, collected}
 use Rattle.history.specs.Run as beneath
-use Rattle.collector.specs.declared.Last.{Last}
 use Rattle.collector.specs.declared.Last.the-variants.{None, Counter}
 use Rattle.collector.specs.declared.Record as of
 use Rattle.cabinet.specs.Collect.{lastIn, lastSays, recordIn, recordSays, collectSays, Outcome, leaves, outcomeSays, collecting}
-use Rattle.calls.specs.Collects.{Promised, Call, Run, no-call, one-call, callSays, Beneath, RunsBeneath}
+use Rattle.calls.specs.Collects.{LastIs, Stands, Tells, Promised, Call, Run, no-call, one-call, callSays, Beneath, RunsBeneath}
 use Rattle.cabinet.specs.declared.collect.Record.{Record}
 
 -- ---- a taken packet's counter has four bits
@@ -46,9 +44,12 @@ small-ruled last packet (refuse n) x = tt
 small-ruled last packet Refusals.bare x = tt
 small-ruled last packet (carries at start counter) x = if-case Small (repeats last counter) (λ _. tt) (λ _. x)
 
-small : (unfit : Bool) (pid : ℕ) (last : Option ℕ) (hold out : ℕ) (packet : List ℕ) → Small (ruling unfit pid last hold out packet)
+small : (unfit : Bool) (pid : ℕ) (last : Option ℕ) (hold out : ℕ) (packet : List ℕ)
+    → Small (ruling unfit pid last hold out packet)
 unfolding judged
-small unfit pid last hold out packet = small-ruled last packet (judged unfit pid hold out packet) (small-by (firstOf (refusals unfit pid hold out packet)) packet)
+small unfit pid last hold out packet =
+    small-ruled last packet (judged unfit pid hold out packet)
+    (small-by (firstOf (refusals unfit pid hold out packet)) packet)
 
 -- ---- a record that its numbers tell
 
@@ -58,7 +59,8 @@ Told x = lastIn (lastSays (x .last)) ≡ x .last
 told-counter : (n : ℕ) → n < 16 → lastIn n ≡ Counter n
 told-counter n h = rw (ne-eqb n 255 (λ e. omega arith))
 
-told-after : (x : of.Record) (hold out : List ℕ) (ruled : Ruling) → Small ruled → Told x → Told (outcomeOf x hold out ruled .rec)
+told-after : (x : of.Record) (hold out : List ℕ) (ruled : Ruling) → Small ruled → Told x
+    → Told (outcomeOf x hold out ruled .rec)
 told-after x hold out (refused n) s t = t
 told-after x hold out repeated s t = t
 told-after x hold out Refusals.bare s t = t
@@ -66,43 +68,102 @@ told-after x hold out (takes q) s t = told-counter (q .counter) s
 
 told-on : (x : of.Record) (hold out packet : List ℕ) → Told x → Told (collected x hold out packet .rec)
 told-on x hold out packet t =
-    told-after x hold out (ruling (cannotStand x hold) (x .pid) (lastOf (x .last)) (length hold) (length out) packet) (small (cannotStand x hold) (x .pid) (lastOf (x .last)) (length hold) (length out) packet) t
+    told-after x hold out (ruling (cannotStand x hold) (x .pid) (lastOf (x .last)) (length hold) (length out) packet)
+    (small (cannotStand x hold) (x .pid) (lastOf (x .last)) (length hold) (length out) packet) t
 
 told-back : (x : of.Record) → Told x → recordIn (recordSays x) ≡ x
-told-back x t = ap (λ l. record { pid = x .pid; last = l; in_hand = x .in_hand; pointer = x .pointer; delivered = x .delivered; broken = x .broken; filler = x .filler; skipped = x .skipped }) t
+told-back x t =
+    ap
+    (λ l.
+    record {
+      pid = x .pid;
+      last = l;
+      in_hand = x .in_hand;
+      pointer = x .pointer;
+      delivered = x .delivered;
+      broken = x .broken;
+      filler = x .filler;
+      skipped = x .skipped;
+    })
+    t
+
+-- ---- field by field
+
+last-is : (n : ℕ) → LastIs n (lastIn n)
+last-is n =
+    if-case (LastIs n) (eqb n 255) (λ e. subst (λ k. LastIs k None) (sym (eqb-true n 255 e)) none-is)
+    (λ e. LastIs.counter (eqb-false n 255 e))
+  where
+    none-is : LastIs 255 None
+    none-is = LastIs.none
+
+pub stands : (r : Record) → Stands r (recordIn r)
+stands r = record {
+  pid = refl;
+  last = last-is (r .last);
+  in-hand = refl;
+  pointer = refl;
+  delivered = refl;
+  broken = refl;
+  filler = refl;
+  skipped = refl;
+}
+
+pub collect-tells : (t : collector.Told) → Tells t (collectSays t)
+collect-tells (collector.refused k) = Tells.refused refl
+collect-tells collector.repeated = Tells.repeated refl refl
+collect-tells (collector.taken n b) = Tells.taken refl refl refl refl
 
 -- ---- a run, call by call
 
 -- one call, in numbers, is that of the collector
-says-on : (x : of.Record) (hold out packet : List ℕ) → Told x → collecting (recordSays x) hold out packet ≡ outcomeSays (collected x hold out packet)
+says-on : (x : of.Record) (hold out packet : List ℕ) → Told x
+    → collecting (recordSays x) hold out packet ≡ outcomeSays (collected x hold out packet)
 unfolding collecting
 says-on x hold out packet t = ap (λ (y : of.Record). outcomeSays (collected y hold out packet)) (told-back x t)
 
-call-beneath : (o : collector.Outcome) (r₁ : Record) (hold₁ : List ℕ) (k : Call) → leaves r₁ hold₁ (k .out′) (k .answer) ≡ outcomeSays o
+call-beneath : (o : collector.Outcome) (r₁ : Record) (hold₁ : List ℕ) (k : Call)
+    → leaves r₁ hold₁ (k .out′) (k .answer) ≡ outcomeSays o
     → _≡_ {A = collector.Outcome} (record { rec = o .rec; hold = hold₁; out = k .out′; said = o .said }) o
 call-beneath o r₁ hold₁ k e = rw (ap (λ (z : Outcome). z .hold) e, ap (λ (z : Outcome). z .out) e)
 
 -- the calls before, in numbers, with this one in front
-calls-on : (k : Call) (ks : List Call) (said : collector.Told) (under : List beneath.Call) → k .answer ≡ collectSays said → ks ≡ map callSays under
+calls-on : (k : Call) (ks : List Call) (said : collector.Told) (under : List beneath.Call)
+    → k .answer ≡ collectSays said → ks ≡ map callSays under
     → k ∷ ks ≡ map callSays (record { packet = k .packet; out = k .out; out′ = k .out′; said = said } ∷ under)
 calls-on k ks said under e is = rw (← is, ← e)
 
-more : {x : of.Record} {hold hold′ : List ℕ} {r′ : Record} (ks : List Call) (r₁ : Record) (hold₁ : List ℕ) (k : Call) (o : collector.Outcome) → o ≡ collected x hold (k .out) (k .packet)
-    → leaves r₁ hold₁ (k .out′) (k .answer) ≡ outcomeSays o → Beneath (o .rec) hold₁ ks r′ hold′ → Beneath x hold (k ∷ ks) r′ hold′
+more : {x : of.Record} {hold hold′ : List ℕ} {r′ : Record} (ks : List Call) (r₁ : Record) (hold₁ : List ℕ) (k : Call)
+    (o : collector.Outcome)
+    → o ≡ collected x hold (k .out) (k .packet)
+    → leaves r₁ hold₁ (k .out′) (k .answer) ≡ outcomeSays o → Beneath (o .rec) hold₁ ks r′ hold′
+    → Beneath x hold (k ∷ ks) r′ hold′
 more ks r₁ hold₁ k o is e b = record {
   under = record { packet = k .packet; out = k .out; out′ = k .out′; said = o .said } ∷ b .under;
   rec = b .rec;
   run = beneath.one-call (call-beneath o r₁ hold₁ k e ∙ is) (b .run);
   calls-say = calls-on k ks (o .said) (b .under) (ap (λ (z : Outcome). z .answer) e) (b .calls-say);
   record-says = b .record-says;
+  record-stands = b .record-stands;
 }
 
-runs : (x : of.Record) (hold : List ℕ) (calls : List Call) (r r′ : Record) (hold′ : List ℕ) → Told x → r ≡ recordSays x → Run Promised r hold calls r′ hold′ → Beneath x hold calls r′ hold′
-runs x hold [] r r′ hold′ t is no-call = record { under = []; rec = x; run = beneath.no-call; calls-say = refl; record-says = is }
+runs : (x : of.Record) (hold : List ℕ) (calls : List Call) (r r′ : Record) (hold′ : List ℕ) → Told x → r ≡ recordSays x
+    → Run Promised r hold calls r′ hold′ → Beneath x hold calls r′ hold′
+runs x hold [] r r′ hold′ t is no-call = record {
+  under = [];
+  rec = x;
+  run = beneath.no-call;
+  calls-say = refl;
+  record-says = is;
+  record-stands = subst (Stands r) (ap recordIn is ∙ told-back x t) (stands r);
+}
 runs x hold (k ∷ ks) r r′ hold′ t is (one-call {r₁ = r₁} {hold₁ = hold₁} p rest) =
     let o = collected x hold (k .out) (k .packet) in
-    let e : leaves r₁ hold₁ (k .out′) (k .answer) ≡ outcomeSays o = p ∙ ap (λ (y : Record). collecting y hold (k .out) (k .packet)) is ∙ says-on x hold (k .out) (k .packet) t in
-    more ks r₁ hold₁ k o refl e (runs (o .rec) hold₁ ks r₁ r′ hold′ (told-on x hold (k .out) (k .packet) t) (ap (λ (z : Outcome). z .rec) e) rest)
+    let e : leaves r₁ hold₁ (k .out′) (k .answer) ≡ outcomeSays o =
+    p ∙ ap (λ (y : Record). collecting y hold (k .out) (k .packet)) is ∙ says-on x hold (k .out) (k .packet) t in
+    more ks r₁ hold₁ k o refl e
+    (runs (o .rec) hold₁ ks r₁ r′ hold′ (told-on x hold (k .out) (k .packet) t) (ap (λ (z : Outcome). z .rec) e)
+    rest)
 
 pub runs-beneath : RunsBeneath Promised
 runs-beneath pid fresh hold calls r hold′ is x = runs (freshRecord pid) hold calls fresh r hold′ refl is x

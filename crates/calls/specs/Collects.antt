@@ -1,14 +1,46 @@
--- Demand 3 for C: "Start a fresh collector, feed it any packets, hand record and hold on untouched." What whole runs of `lohitunga_collect` come to
--- is what runs of the collector come to, said in numbers.
+-- Demand 3 for C: "Start a fresh collector, feed it any packets, hand record and hold on untouched." What whole runs of
+-- `lohitunga_collect` come to is what runs of the collector come to, said in numbers.
 use mathlib.Core.Path.{_≡_}
 use mathlib.Core.List.{List, [], _∷_, map}
 use Prim.Native.Nat.{ℕ}
+use Rattle.collector.specs.Answer.{Told}
+use Rattle.collector.specs.Answer as Answer
 use Rattle.collector.specs.Collected.{freshRecord}
 use Rattle.history.specs.Run as beneath
+use Rattle.collector.specs.declared.Last.{Last}
+use Rattle.collector.specs.declared.Last.the-variants.{None, Counter}
 use Rattle.collector.specs.declared.Record as of
 use Rattle.cabinet.specs.Collect.{recordSays, collectSays, Outcome, leaves, collecting}
 use Rattle.cabinet.specs.declared.collect.Record.{Record}
 use Rattle.cabinet.specs.declared.collect.CollectAnswer.{CollectAnswer}
+
+-- ---- a record and an answer in numbers, field by field
+
+-- "the last counter or none": 255 is none
+pub data LastIs : ℕ → Last → Type 0 where
+  none : LastIs 255 None
+  counter : {n : ℕ} → (n ≡ 255 → ⊥) → LastIs n (Counter n)
+
+-- the numbers stand for the record
+pub record Stands (r : Record) (x : of.Record) : Type 0 where
+  pub pid : x .pid ≡ r .pid
+  pub last : LastIs (r .last) (x .last)
+  pub in-hand : x .in_hand ≡ r .in_hand
+  pub pointer : x .pointer ≡ r .pointer
+  pub delivered : x .delivered ≡ r .delivered
+  pub broken : x .broken ≡ r .broken
+  pub filler : x .filler ≡ r .filler
+  pub skipped : x .skipped ≡ r .skipped
+
+-- the answer tells what is said: a refusal's number; "repeated"; or taken, with the number of sections and of their
+-- bytes
+pub data Tells : Told → CollectAnswer → Type 0 where
+  refused : {k : ℕ} {a : CollectAnswer} → a .number ≡ k → Tells (Answer.refused k) a
+  repeated : {a : CollectAnswer} → a .number ≡ 0 → a .repeated ≡ 1 → Tells Answer.repeated a
+  taken : {n b : ℕ} {a : CollectAnswer} → a .number ≡ 0 → a .repeated ≡ 0 → a .sections ≡ n → a .size ≡ b
+      → Tells (Answer.taken n b) a
+
+-- ---- calls
 
 -- what a collector for C may make of a record, a hold, an out room and a packet
 abbrev pub Collector : Type 1
@@ -33,7 +65,8 @@ pub record Call : Type 0 where
 pub data Run (C : Collector) : Record → List ℕ → List Call → Record → List ℕ → Type 0 where
   no-call : {r : Record} {hold : List ℕ} → Run C r hold [] r hold
   one-call : {r r₁ r′ : Record} {hold hold₁ hold′ : List ℕ} {k : Call} {ks : List Call}
-      → C r hold (k .out) (k .packet) (leaves r₁ hold₁ (k .out′) (k .answer)) → Run C r₁ hold₁ ks r′ hold′ → Run C r hold (k ∷ ks) r′ hold′
+      → C r hold (k .out) (k .packet) (leaves r₁ hold₁ (k .out′) (k .answer)) → Run C r₁ hold₁ ks r′ hold′
+      → Run C r hold (k ∷ ks) r′ hold′
 
 -- a call of the collector in numbers
 abbrev pub callSays : beneath.Call → Call
@@ -46,9 +79,11 @@ pub record Beneath (from : of.Record) (hold : List ℕ) (calls : List Call) (r :
   pub run : beneath.Run beneath.Promised from hold under rec hold′
   pub calls-say : calls ≡ map callSays under
   pub record-says : r ≡ recordSays rec
+  pub record-stands : Stands r rec
 
 -- a run from a fresh record is a run of the collector from a fresh record
 abbrev pub RunsBeneath : Collector → Type 0
 RunsBeneath C =
-    (pid : ℕ) (fresh : Record) (hold : List ℕ) (calls : List Call) (r : Record) (hold′ : List ℕ) → PromisedFresh pid fresh → Run C fresh hold calls r hold′
+    (pid : ℕ) (fresh : Record) (hold : List ℕ) (calls : List Call) (r : Record) (hold′ : List ℕ)
+    → PromisedFresh pid fresh → Run C fresh hold calls r hold′
     → Beneath (freshRecord pid) hold calls r hold′

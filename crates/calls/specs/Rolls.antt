@@ -1,20 +1,48 @@
--- The roll for C: each call of `lohitunga_roll_take` is, in numbers, one of `roll::take`, and so are whole sequences of them.
+-- The roll for C: each call of `lohitunga_roll_take` is, in numbers, one of `roll::take`, and so are whole sequences of
+-- them.
 use Prim.Native.Nat.{ℕ}
 use mathlib.Core.Path.{_≡_}
+use mathlib.Core.Bool.{false}
 use mathlib.Core.Logic.{_↔_}
 use mathlib.Core.List.{List, [], _∷_, map}
+use lib.ListN.{length, getD}
 use Rattle.wire.specs.Bytes.{Bytes}
-use Rattle.roll.specs.Answer.{Says}
+use Rattle.roll.specs.Answer.{Says, missing, complete, refusing}
+use Rattle.roll.specs.Marks.{has}
 use Rattle.roll.specs.Roll as roll
 use Rattle.roll.specs.Roll.{emptyRoll, asked}
+use Rattle.roll.specs.declared.Roll as of
 use Rattle.sequence.specs.Promise as beneath
-use Rattle.sequence.specs.Step.{FirstFor}
+use Rattle.sequence.specs.Step.{FirstFor, Taken}
 use Rattle.sequence.specs.Sequence as beneath-runs
 use Rattle.sequence.specs.Sequence.{taken, Answered, Next}
 use Rattle.cabinet.specs.Numbers.{bit, isSet}
 use Rattle.cabinet.specs.Roll.{rollIn, rollSays, rollAnswer, Outcome, rolling}
 use Rattle.cabinet.specs.declared.rolls.Roll.{Roll}
 use Rattle.cabinet.specs.declared.rolls.RollAnswer.{RollAnswer}
+
+-- ---- a roll and its answers in numbers, field by field
+
+-- the numbers stand for the roll
+pub record Stands (r : Roll) (q : of.Roll) : Type 0 where
+  -- "0 for an empty roll": any other number is one that is begun
+  pub begun : (q .begun ≡ false) ↔ (r .begun ≡ 0)
+  pub table : q .«sub_table» .«table_id» ≡ r .«table_id»
+  pub extension : q .«sub_table» .extension ≡ r .extension
+  pub transport : q .«sub_table» .«transport_stream_id» ≡ r .«transport_stream_id»
+  pub network : q .«sub_table» .«original_network_id» ≡ r .«original_network_id»
+  pub version : q .version ≡ r .version
+  pub last : q .last ≡ r .last
+  -- any number but 0 is a mark
+  pub marks : (n : ℕ) → (has (q .marks) n ≡ false) ↔ (getD (r .came) n 0 ≡ 0)
+
+-- the answer tells what is said: the smallest number missing; complete; or a refusal's number and place
+pub data Tells : Says → RollAnswer → Type 0 where
+  least : {n : ℕ} {a : RollAnswer} → a .number ≡ 0 → a .complete ≡ 0 → a .missing ≡ n → Tells (missing n) a
+  all : {a : RollAnswer} → a .number ≡ 0 → a .complete ≡ 1 → Tells complete a
+  refusal : {k p : ℕ} {a : RollAnswer} → a .number ≡ k → a .place ≡ p → Tells (refusing k p) a
+
+-- ---- calls
 
 -- what a roll for C may make of its numbers and a section
 abbrev pub Roller : Type 1
@@ -48,14 +76,15 @@ settled r = record {
 -- a roll in numbers that was empty when these were given to it by calls, the last one first
 pub data Run (take : Roller) : List (List ℕ) → Roll → Type 0 where
   start : (r : Roll) → r .begun ≡ 0 → Run take [] r
-  step : {given : List (List ℕ)} {r : Roll} → Run take given r → (s : List ℕ) → Bytes s → (o : Outcome) → take r s o → Run take (s ∷ given) (o .roll)
+  step : {given : List (List ℕ)} {r : Roll} → Run take given r → (s : List ℕ) → Bytes s → (o : Outcome) → take r s o
+      → Run take (s ∷ given) (o .roll)
 
 -- a call of `roll::take`, of which this is what is told in numbers
 pub record Beneath (r : Roll) (s : List ℕ) (o : Outcome) : Type 0 where
   pub under : roll.Outcome
   pub call : beneath.Promised (rollIn r) s under
   pub roll-in : rollIn (o .roll) ≡ under .roll
-  pub answer-says : o .answer ≡ rollAnswer (under .says)
+  pub tells : Tells (under .says) (o .answer)
 
 module _ (take : Roller) where
   -- a call is one of `roll::take`
@@ -64,22 +93,34 @@ module _ (take : Roller) where
 
   -- a run from an empty roll is a run of `roll::take` from an empty roll
   abbrev pub RollsBeneath : Type 0
-  RollsBeneath = (given : List (List ℕ)) (r : Roll) → Run take given r → beneath-runs.Run beneath.Promised given (rollIn r)
+  RollsBeneath = (given : List (List ℕ)) (r : Roll) → Run take given r
+      → beneath-runs.Run beneath.Promised given (rollIn r)
 
-  -- "refuses 1 to 10, then 83 .., 82 .., 81 .., itself unchanged", for any numbers: number and place are those of the first refusal
+  -- "refuses 1 to 10, then 83 .., 82 .., 81 .., itself unchanged", for any numbers: number and place are those of the
+  -- first refusal
   abbrev pub RefusesExactlyIf : Type 0
   RefusesExactlyIf = (r : Roll) (s : List ℕ) (o : Outcome) → take r s o → (k p : ℕ) → (k ≡ 0 → ⊥)
       → ((o .answer .number ≡ k) × (o .answer .place ≡ p)) ↔ FirstFor (rollIn r) s k p
 
   -- and every number stays
   abbrev pub RefusalKeeps : Type 0
-  RefusalKeeps = (r : Roll) (s : List ℕ) (o : Outcome) → take r s o → (k p : ℕ) → FirstFor (rollIn r) s k p → o .roll ≡ r
+  RefusalKeeps = (r : Roll) (s : List ℕ) (o : Outcome) → take r s o → (k p : ℕ) → FirstFor (rollIn r) s k p
+      → o .roll ≡ r
+
+  -- every other section is taken
+  abbrev pub TakesElse : Type 0
+  TakesElse = (r : Roll) (s : List ℕ) (o : Outcome) → take r s o → Bytes s → length (r .came) ≡ 256
+      → ((k p : ℕ) → FirstFor (rollIn r) s k p → ⊥)
+      → (x : Says) × Tells x (o .answer) × Taken (rollIn r) s (record { roll = rollIn (o .roll); says = x })
 
   -- over whole sequences: each section fares by those taken before it
   abbrev pub EachFares : Type 0
-  EachFares = (given : List (List ℕ)) (r : Roll) → Run take given r → (s : List ℕ) → Bytes s → (o : Outcome) → take r s o
-      → (x : Says) × (o .answer ≡ rollAnswer x) × Next (taken given) (rollIn r) s (record { roll = rollIn (o .roll); says = x })
+  EachFares = (given : List (List ℕ)) (r : Roll) → Run take given r → (s : List ℕ) → Bytes s → (o : Outcome)
+      → take r s o
+      → (x : Says) × Tells x (o .answer)
+      × Next (taken given) (rollIn r) s (record { roll = rollIn (o .roll); says = x })
 
   -- and the answer is the smallest number missing, or complete
   abbrev pub AnswersAre : (Roll → RollAnswer → Type 0) → Type 0
-  AnswersAre ask = (given : List (List ℕ)) (r : Roll) → Run take given r → (a : RollAnswer) → ask r a → (x : Says) × (a ≡ rollAnswer x) × Answered (taken given) x
+  AnswersAre ask = (given : List (List ℕ)) (r : Roll) → Run take given r → (a : RollAnswer) → ask r a
+      → (x : Says) × Tells x a × Answered (taken given) x

@@ -1,4 +1,5 @@
--- Two rolls that differ only in marks above the last number, or in what else means nothing, behave alike, whatever sections follow.
+-- Two rolls that differ only in marks above the last number, or in what else means nothing, behave alike, whatever
+-- sections follow.
 use Prim.Native.Nat.{ℕ, zero, suc, _+_, _<_, _≤_}
 use mathlib.Core.Path.{_≡_, refl, sym, ap, ap₂, _∙_}
 use mathlib.Core.Bool.{Bool, true, false, false≢true}
@@ -21,11 +22,13 @@ use Rattle.roll.specs.declared.Roll.{Roll}
 use Rattle.roll.specs.declared.Marks.{Marks}
 
 -- the smallest that is missing looks at no mark above the last number
-smallest-alike : (came come : ℕ → Bool) (last k n : ℕ) → n + k ≡ last + 1 → ((j : ℕ) → j ≤ last → came j ≡ come j) → smallest came k n ≡ smallest come k n
+smallest-alike : (came come : ℕ → Bool) (last k n : ℕ) → n + k ≡ last + 1 → ((j : ℕ) → j ≤ last → came j ≡ come j)
+    → smallest came k n ≡ smallest come k n
 unfolding smallest
 smallest-alike came come last zero n e h = refl
 smallest-alike came come last (suc k) n e h =
-    rw (h n (omega arith)) (ap (λ (x : Says). if come n then x else missing n) (smallest-alike came come last k (n + 1) (omega arith) h))
+    rw (h n (omega arith))
+    (ap (λ (x : Says). if come n then x else missing n) (smallest-alike came come last k (n + 1) (omega arith) h))
 
 pub asked-alike : {r q : Roll} → Alike r q → asked r ≡ asked q
 unfolding asked smallestMissing
@@ -60,7 +63,8 @@ unfolding startsAfresh
 starts-alike (empty e f) s = rw (e, f)
 starts-alike (begun e f i v l w x h) s = rw (e, f, v, l)
 
-on-alike : {r q : Roll} → Alike r q → (s : List ℕ) → Bytes s → startsAfresh q s ≡ false → Alike (continued r s) (continued q s)
+on-alike : {r q : Roll} → Alike r q → (s : List ℕ) → Bytes s → startsAfresh q s ≡ false
+    → Alike (continued r s) (continued q s)
 unfolding continued startsAfresh
 on-alike (empty e f) s b n = absurd (false≢true (sym n ∙ rw f))
 on-alike (begun {r} {q} e f i v l w x h) s b n =
@@ -71,7 +75,8 @@ after-alike : {r q : Roll} → Alike r q → (s : List ℕ) → Bytes s → Alik
 unfolding after
 after-alike {r} {q} g s b = rw (starts-alike g s) (go (startsAfresh q s) refl)
   where
-    go : (a : Bool) → startsAfresh q s ≡ a → Alike (if a then begunWith s else continued r s) (if a then begunWith s else continued q s)
+    go : (a : Bool) → startsAfresh q s ≡ a
+        → Alike (if a then begunWith s else continued r s) (if a then begunWith s else continued q s)
     go true n = begun-alike s
     go false n = on-alike g s b n
 

@@ -1,24 +1,23 @@
 -- One section for any roll: refused exactly with the first refusal for it, itself unchanged; and else taken.
-use Prim.Native.Nat.{ℕ, zero, suc, _+_, _<_, _≤_}
+use Prim.Native.Nat.{ℕ, zero, suc, _+_, _<_}
 use mathlib.Core.Path.{_≡_, refl, sym, ap, _∙_, subst}
 use mathlib.Core.Bool.{Bool, true, false, not, _||_, false≢true}
-use mathlib.Core.Logic.{_⊎_, inl, inr, _↔_, ⊎-elim}
+use mathlib.Core.Logic.{_↔_, ⊎-elim}
 use mathlib.Core.List.{List}
 use native.Mathlib.Omega.{arith}
 use lib.ListN.{getD}
 use lib.Dec.{eqb}
-use borrow.Author.Tests.{eqb-true, eqb-false, eq-eqb}
+use borrow.Author.Tests.{eqb-true, eq-eqb}
 use Rattle.wire.specs.If.{if_then_else_}
 use Rattle.wire.specs.Bytes.{Bytes}
 use Rattle.wire.proofs.IfLaws.{if-case}
-use Rattle.verdict.specs.Verdict.{accepted, isAccepted, numberOf, placeOf}
+use Rattle.verdict.specs.Verdict.{accepted, isAccepted}
 use Rattle.verdict.proofs.SaidLaws.{is-accepted, is-refused}
 use Rattle.loops.specs.Descriptors.{Placed}
 use Rattle.section.specs.Reading.{judged}
 use Rattle.section.specs.Grammar.{Section}
-use Rattle.section.specs.Faults.{First}
 use Rattle.section.proofs.Exactly.{accepted-exactly-if, refused-exactly-if}
-use Rattle.roll.specs.Answer.{Says, missing, complete, refusing}
+use Rattle.roll.specs.Answer.{refusing}
 use Rattle.roll.specs.Marks.{has, unmarked, marked, Whole, smallest, smallestMissing}
 use Rattle.roll.specs.SubTable.{subTableOf, compared, sameIds}
 use Rattle.roll.specs.Roll.{versionIn, numberIn, lastIn, isCurrent, hasNoSubTable, another, startsAfresh, begunWith, continued, after, asked, Outcome, answering, refusal, takingAccepted, taking}
@@ -38,7 +37,8 @@ module _ (r : Roll) (s : List ℕ) where
   unfolding another
   another-applies h = go (r .begun) refl (sym h)
     where
-      go : (b : Bool) → r .begun ≡ b → true ≡ (if b then not (sameIds (compared (r .«sub_table»)) (subTableOf s)) else false) → Applies r s 82
+      go : (b : Bool) → r .begun ≡ b
+          → true ≡ (if b then not (sameIds (compared (r .«sub_table»)) (subTableOf s)) else false) → Applies r s 82
       go true e q = another-one e (λ x. false≢true (ap not (sym (of-sub-table (r .«sub_table») s .1 x)) ∙ sym q))
       go false e q = absurd (false≢true (sym q))
 
@@ -46,7 +46,8 @@ module _ (r : Roll) (s : List ℕ) where
   unfolding another
   applies-another e n = rw e (go (sameIds (compared (r .«sub_table»)) (subTableOf s)) refl)
     where
-      go : (b : Bool) → sameIds (compared (r .«sub_table»)) (subTableOf s) ≡ b → not (sameIds (compared (r .«sub_table»)) (subTableOf s)) ≡ true
+      go : (b : Bool) → sameIds (compared (r .«sub_table»)) (subTableOf s) ≡ b
+          → not (sameIds (compared (r .«sub_table»)) (subTableOf s)) ≡ true
       go true q = absurd (n (of-sub-table (r .«sub_table») s .0 q))
       go false q = rw q
 
@@ -129,7 +130,8 @@ smallest-no-refusal : (came : ℕ → Bool) (m n k p : ℕ) → smallest came m 
 unfolding smallest
 smallest-no-refusal came zero n k p e = let z : _≡_ {A = ℕ} 0 1 = cc in omega arith
 smallest-no-refusal came (suc m) n k p e =
-    if-case (λ x. x ≡ refusing k p → ⊥) (came n) (λ t. smallest-no-refusal came m (n + 1) k p) (λ f e. let z : _≡_ {A = ℕ} 0 1 = cc in omega arith) e
+    if-case (λ x. x ≡ refusing k p → ⊥) (came n) (λ t. smallest-no-refusal came m (n + 1) k p)
+    (λ f e. let z : _≡_ {A = ℕ} 0 1 = cc in omega arith) e
 
 asked-no-refusal : (r : Roll) (k p : ℕ) → asked r ≡ refusing k p → ⊥
 unfolding asked smallestMissing
@@ -142,12 +144,17 @@ same-refusal e = (cc, cc)
 
 -- a step that takes the section is none of the refusals
 pub took-none : (r : Roll) (s : List ℕ) → taking r s ≡ answering (after r s) → (k p : ℕ) → FirstFor r s k p → ⊥
-took-none r s t k p f = asked-no-refusal (after r s) k p (sym (ap (λ (x : Outcome). x .says) t) ∙ ap (λ (x : Outcome). x .says) (first-refuses r s f))
+took-none r s t k p f =
+    asked-no-refusal (after r s) k p
+    (sym (ap (λ (x : Outcome). x .says) t) ∙ ap (λ (x : Outcome). x .says) (first-refuses r s f))
 
 -- ---- the statements
 
 pub refuses-exactly-if : RefusesExactlyIf Promised
-refuses-exactly-if r s o is k p = (λ e. to (went r s) (sym (ap (λ (x : Outcome). x .says) is) ∙ e), λ f. ap (λ (x : Outcome). x .says) (is ∙ first-refuses r s f))
+refuses-exactly-if r s o is k p = (
+  λ e. to (went r s) (sym (ap (λ (x : Outcome). x .says) is) ∙ e),
+  λ f. ap (λ (x : Outcome). x .says) (is ∙ first-refuses r s f),
+)
   where
     to : Went r s → taking r s .says ≡ refusing k p → FirstFor r s k p
     to (refused {k = j} f) e =
@@ -163,25 +170,42 @@ refusal-keeps r s o is k p f = ap (λ (x : Outcome). x .roll) (is ∙ first-refu
 module _ (r : Roll) (s : List ℕ) (b : Bytes s) where
   -- a roll that keeps what this section has, and its marks
   abbrev Keeps : Roll → Type 0
-  Keeps q = (q .begun ≡ true) × OfSubTable (q .«sub_table») s × Versioned s (q .version) 1 × (q .last ≡ getD s 7 0) × ((n : ℕ) → (has (q .marks) n ≡ true) ↔ ComeFor r s n)
+  Keeps q = (q .begun ≡ true) × OfSubTable (q .«sub_table») s × Versioned s (q .version) 1 × (q .last ≡ getD s 7 0)
+      × ((n : ℕ) → (has (q .marks) n ≡ true) ↔ ComeFor r s n)
 
   own-sub-table : OfSubTable (subTableOf s) s
   own-sub-table = of-sub-table (subTableOf s) s .0 (same-same-ids _ _ (compared-as-it-stands s))
 
   begun-keeps : isCurrent s ≡ true → ((n : ℕ) → ComeFor r s n → numberIn s ≡ n) → Keeps (begunWith s)
   unfolding begunWith
-  begun-keeps v only =
-      (refl, own-sub-table, current-is s v, refl, λ n.
-      (λ h. ⊎-elim (λ e. just (sym e)) (λ e. absurd (false≢true (sym (unmarked-has-none n) ∙ e))) (marked-only unmarked (numberIn s) n h),
-      λ c. ap (has (marked unmarked (numberIn s))) (sym (only n c)) ∙ marked-has unmarked (numberIn s) unmarked-whole (b 6)))
+  begun-keeps v only = (
+    refl,
+    own-sub-table,
+    current-is s v,
+    refl,
+    λ n. (
+      λ h. ⊎-elim (λ e. just (sym e)) (λ e. absurd (false≢true (sym (unmarked-has-none n) ∙ e)))
+          (marked-only unmarked (numberIn s) n h),
+      λ c. ap (has (marked unmarked (numberIn s))) (sym (only n c))
+          ∙ marked-has unmarked (numberIn s) unmarked-whole (b 6),
+    ),
+  )
 
-  continued-keeps : isCurrent s ≡ true → Whole (r .marks) → r .begun ≡ true → OfSubTable (r .«sub_table») s → r .version ≡ versionIn s → r .last ≡ lastIn s
+  continued-keeps : isCurrent s ≡ true → Whole (r .marks) → r .begun ≡ true → OfSubTable (r .«sub_table») s
+      → r .version ≡ versionIn s → r .last ≡ lastIn s
       → Keeps (continued r s)
   unfolding continued
   continued-keeps v w e ids same last =
-      let version : Versioned s (r .version) 1 = subst (λ n. Versioned s n 1) (sym same) (current-is s v) in
-      (e, ids, version, last, λ n.
-      (λ h. ⊎-elim (λ x. just (sym x)) (λ x. earlier e version last x) (marked-only (r .marks) (numberIn s) n h), from n))
+      let version : Versioned s (r .version) 1 = subst (λ n. Versioned s n 1) (sym same) (current-is s v) in (
+        e,
+        ids,
+        version,
+        last,
+        λ n. (
+          λ h. ⊎-elim (λ x. just (sym x)) (λ x. earlier e version last x) (marked-only (r .marks) (numberIn s) n h),
+          from n,
+        ),
+      )
     where
       from : (n : ℕ) → ComeFor r s n → has (marked (r .marks) (numberIn s)) n ≡ true
       from n (just x) = ap (has (marked (r .marks) (numberIn s))) (sym x) ∙ marked-has (r .marks) (numberIn s) w (b 6)
@@ -200,7 +224,8 @@ module _ (r : Roll) (s : List ℕ) (b : Bytes s) where
   goes-on h = go (r .begun) (eqb (r .version) (versionIn s)) (eqb (r .last) (lastIn s)) refl refl refl (sym h)
     where
       go : (g v l : Bool) → r .begun ≡ g → eqb (r .version) (versionIn s) ≡ v → eqb (r .last) (lastIn s) ≡ l
-          → false ≡ (if g then (not v || not l) else true) → (r .begun ≡ true) × (r .version ≡ versionIn s) × (r .last ≡ lastIn s)
+          → false ≡ (if g then (not v || not l) else true)
+          → (r .begun ≡ true) × (r .version ≡ versionIn s) × (r .last ≡ lastIn s)
       go true true true e p q x = (e, eqb-true _ _ p, eqb-true _ _ q)
       go true true false e p q x = absurd (false≢true x)
       go true false l e p q x = absurd (false≢true x)
@@ -211,7 +236,9 @@ module _ (r : Roll) (s : List ℕ) (b : Bytes s) where
     where
       go : (a : Bool) → sameIds (compared (r .«sub_table»)) (subTableOf s) ≡ a → OfSubTable (r .«sub_table») s
       go true h = of-sub-table (r .«sub_table») s .0 h
-      go false h = absurd (false≢true (sym u ∙ applies-another r s e (λ x. false≢true (sym h ∙ of-sub-table (r .«sub_table») s .1 x))))
+      go false h =
+          absurd (false≢true (sym u
+          ∙ applies-another r s e (λ x. false≢true (sym h ∙ of-sub-table (r .«sub_table») s .1 x))))
 
   after-keeps : Whole (r .marks) → another r s ≡ false → isCurrent s ≡ true → Keeps (after r s)
   unfolding after
@@ -234,9 +261,10 @@ module _ (r : Roll) (s : List ℕ) (b : Bytes s) where
         last = last;
         marks = marks;
         says =
-          rw (kept .0)
-          (subst (λ n. Answers (ComeFor r s) n (smallest (has (after r s .marks)) (after r s .last + 1) 0)) last
-          (smallest-answers (has (after r s .marks)) (ComeFor r s) (λ n. marks n .0) (λ n. marks n .1) (after r s .last)));
+            rw (kept .0)
+            (subst (λ n. Answers (ComeFor r s) n (smallest (has (after r s .marks)) (after r s .last + 1) 0)) last
+            (smallest-answers (has (after r s .marks)) (ComeFor r s) (λ n. marks n .0) (λ n. marks n .1)
+            (after r s .last)));
       }
 
 pub takes-else : TakesElse Promised
@@ -249,4 +277,5 @@ takes-else r s o is b w none = go (went r s)
 pub after-whole : (r : Roll) (s : List ℕ) → Whole (r .marks) → Whole (after r s .marks)
 unfolding after begunWith continued
 after-whole r s w =
-    if-case (λ (q : Roll). Whole (q .marks)) (startsAfresh r s) (λ _. marked-whole unmarked (numberIn s) unmarked-whole) (λ _. marked-whole (r .marks) (numberIn s) w)
+    if-case (λ (q : Roll). Whole (q .marks)) (startsAfresh r s) (λ _. marked-whole unmarked (numberIn s) unmarked-whole)
+    (λ _. marked-whole (r .marks) (numberIn s) w)

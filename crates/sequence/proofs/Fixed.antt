@@ -1,14 +1,12 @@
 -- The statements about one section leave a roll no choice.
-use Prim.Native.Nat.{ℕ, _≤_}
-use mathlib.Core.Path.{_≡_, refl, sym, ap, _∙_, subst}
+use Prim.Native.Nat.{ℕ}
+use mathlib.Core.Path.{_≡_, refl, sym, _∙_, subst}
 use mathlib.Core.Bool.{Bool, true, false, false≢true}
 use mathlib.Core.Logic.{_↔_}
 use mathlib.Core.List.{List}
-use Rattle.wire.specs.Bytes.{Bytes}
-use Rattle.roll.specs.Answer.{Says}
 use Rattle.roll.specs.Marks.{has, Whole}
 use Rattle.roll.specs.Roll.{Outcome, taking}
-use Rattle.sequence.specs.Step.{FirstFor, ComeFor, Taken, Roller}
+use Rattle.sequence.specs.Step.{Taken, Roller}
 use Rattle.sequence.specs.Alike.{Alike, empty, begun, Fixed}
 use Rattle.sequence.proofs.HeadLaws.{version-is, ids-compared}
 use Rattle.sequence.proofs.Exactly.{Went, refused, took, went, first-refuses, took-none, taken-by, after-whole}
@@ -28,13 +26,17 @@ same-test true false x y = absurd (false≢true (y .1 (x .0 refl)))
 same-test false true x y = absurd (false≢true (x .1 (y .0 refl)))
 same-test false false x y = refl
 
-taken-alike : (r : Roll) (s : List ℕ) (o o' : Outcome) → Taken r s o → Taken r s o' → Whole (o .roll .marks) → Whole (o' .roll .marks)
+taken-alike : (r : Roll) (s : List ℕ) (o o' : Outcome) → Taken r s o → Taken r s o' → Whole (o .roll .marks)
+    → Whole (o' .roll .marks)
     → (o .says ≡ o' .says) × Alike (o .roll) (o' .roll)
-taken-alike r s o o' x y w w' =
-    (answers-once (x .says) (y .says),
-    begun (x .begun) (y .begun) (ids-compared (o .roll .«sub_table») s (x .ids) ∙ sym (ids-compared (o' .roll .«sub_table») s (y .ids)))
-    (sym (version-is s (o .roll .version) 1 (x .version) .0) ∙ version-is s (o' .roll .version) 1 (y .version) .0) (x .last ∙ sym (y .last)) w w'
-    (λ n h. same-test (has (o .roll .marks) n) (has (o' .roll .marks) n) (x .marks n) (y .marks n)))
+taken-alike r s o o' x y w w' = (
+  answers-once (x .says) (y .says),
+  begun (x .begun) (y .begun)
+      (ids-compared (o .roll .«sub_table») s (x .ids) ∙ sym (ids-compared (o' .roll .«sub_table») s (y .ids)))
+      (sym (version-is s (o .roll .version) 1 (x .version) .0) ∙ version-is s (o' .roll .version) 1 (y .version) .0)
+      (x .last ∙ sym (y .last)) w w'
+      (λ n h. same-test (has (o .roll .marks) n) (has (o' .roll .marks) n) (x .marks n) (y .marks n)),
+)
 
 pub fixed : (take : Roller) → Fixed take
 fixed take refuses keeps else r s o is b w w' = go (went r s)
@@ -46,4 +48,5 @@ fixed take refuses keeps else r s o is b w w' = go (went r s)
     go (took u v t) =
         let none = took-none r s t in
         let whole = subst (λ (x : Outcome). Whole (x .roll .marks)) (sym t) (after-whole r s w) in
-        taken-alike r s o (taking r s) (else r s o is b w none) (subst (Taken r s) (sym t) (taken-by r s b w u v)) w' whole
+        taken-alike r s o (taking r s) (else r s o is b w none) (subst (Taken r s) (sym t) (taken-by r s b w u v)) w'
+        whole

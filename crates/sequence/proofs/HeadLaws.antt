@@ -1,13 +1,13 @@
--- What the roll reads in a section's head stands there: the version and current_next_indicator, and the ids of a sub-table.
-use Prim.Native.Nat.{ℕ, _+_, _*_, _/_, _%_, _<_, _≤_}
+-- What the roll reads in a section's head stands there: the version and current_next_indicator, and the ids of a
+-- sub-table.
+use Prim.Native.Nat.{ℕ, _+_, _*_, _/_, _%_}
 use mathlib.Core.Path.{_≡_, refl, sym, ap, _∙_, subst}
-use mathlib.Core.Bool.{Bool, true, false, false≢true}
-use mathlib.Core.Logic.{_⊎_, inl, inr, _↔_}
+use mathlib.Core.Bool.{Bool, true, false}
+use mathlib.Core.Logic.{_↔_}
 use mathlib.Core.List.{List}
 use native.Mathlib.Omega.{arith}
 use lib.ListN.{getD}
-use lib.Dec.{eqb}
-use borrow.Author.Tests.{eqb-true, eqb-false, eq-eqb, ne-eqb}
+use borrow.Author.Tests.{eqb-true, eqb-false, ne-eqb}
 use Rattle.wire.specs.Number.{numberAt}
 use Rattle.tables.specs.Tables.{rowOf}
 use Rattle.roll.specs.Roll.{versionIn, isCurrent}
@@ -24,7 +24,12 @@ bits b = omega arith
 
 pub versioned : (s : List ℕ) → Versioned s (versionIn s) (getD s 5 0 % 2)
 unfolding versionIn
-versioned s = record { reserved = getD s 5 0 / 64; byte = bits (getD s 5 0); five-bits = omega arith; one-bit = omega arith }
+versioned s = record {
+  reserved = getD s 5 0 / 64;
+  byte = bits (getD s 5 0);
+  five-bits = omega arith;
+  one-bit = omega arith;
+}
 
 pub version-is : (s : List ℕ) (v c : ℕ) → Versioned s v c → (versionIn s ≡ v) × (getD s 5 0 % 2 ≡ c)
 unfolding versionIn
@@ -77,7 +82,8 @@ module _ (id e t n : ℕ) where
   unfolding idsThatCount
   counted-sdt p = rw p
 
-  counted-eit : isEit id ≡ true → (idsThatCount id e t n .«transport_stream_id» ≡ t) × (idsThatCount id e t n .«original_network_id» ≡ n)
+  counted-eit : isEit id ≡ true
+      → (idsThatCount id e t n .«transport_stream_id» ≡ t) × (idsThatCount id e t n .«original_network_id» ≡ n)
   unfolding idsThatCount
   counted-eit q = rw (eit-not-sdt id q, q) (refl, refl)
 
@@ -105,24 +111,30 @@ module _ (k : SubTable) (s : List ℕ) where
   ids-stand e =
       let id = getD s 0 0 in
       let table : k .«table_id» ≡ id =
-          sym (counted-table (k .«table_id») (k .extension) (k .«transport_stream_id») (k .«original_network_id»)) ∙ ap (λ (x : SubTable). x .«table_id») e
-          ∙ counted-table id (numberAt 2 s 3) (numberAt 2 s 8) (networkIn s) in
-      let same = ap (λ x. idsThatCount x (k .extension) (k .«transport_stream_id») (k .«original_network_id»)) (sym table) ∙ e in
+      sym (counted-table (k .«table_id») (k .extension) (k .«transport_stream_id») (k .«original_network_id»))
+      ∙ ap (λ (x : SubTable). x .«table_id») e
+      ∙ counted-table id (numberAt 2 s 3) (numberAt 2 s 8) (networkIn s) in
+      let same = ap (λ x. idsThatCount x (k .extension) (k .«transport_stream_id») (k .«original_network_id»))
+      (sym table)
+      ∙ e in
       record {
         table = table;
         extension =
-          sym (counted-extension id (k .extension) (k .«transport_stream_id») (k .«original_network_id»)) ∙ ap (λ (x : SubTable). x .extension) same
-          ∙ counted-extension id (numberAt 2 s 3) (numberAt 2 s 8) (networkIn s) ∙ pair-is s 3;
+            sym (counted-extension id (k .extension) (k .«transport_stream_id») (k .«original_network_id»))
+            ∙ ap (λ (x : SubTable). x .extension) same
+            ∙ counted-extension id (numberAt 2 s 3) (numberAt 2 s 8) (networkIn s) ∙ pair-is s 3;
         sdt = λ h.
-          let is = sdt-ids id .1 h in
-          sym (counted-sdt id (k .extension) (k .«transport_stream_id») (k .«original_network_id») is) ∙ ap (λ (x : SubTable). x .«original_network_id») same
-          ∙ counted-sdt id (numberAt 2 s 3) (numberAt 2 s 8) (networkIn s) is ∙ network-sdt s is;
+            let is = sdt-ids id .1 h in
+            sym (counted-sdt id (k .extension) (k .«transport_stream_id») (k .«original_network_id») is)
+            ∙ ap (λ (x : SubTable). x .«original_network_id») same
+            ∙ counted-sdt id (numberAt 2 s 3) (numberAt 2 s 8) (networkIn s) is ∙ network-sdt s is;
         eit = λ h.
-          let is = eit-ids id .1 h in
-          let kept = counted-eit id (k .extension) (k .«transport_stream_id») (k .«original_network_id») is in
-          let read = counted-eit id (numberAt 2 s 3) (numberAt 2 s 8) (networkIn s) is in
-          (sym (kept .0) ∙ ap (λ (x : SubTable). x .«transport_stream_id») same ∙ read .0 ∙ pair-is s 8,
-          sym (kept .1) ∙ ap (λ (x : SubTable). x .«original_network_id») same ∙ read .1 ∙ network-eit s is);
+            let is = eit-ids id .1 h in
+            let kept = counted-eit id (k .extension) (k .«transport_stream_id») (k .«original_network_id») is in
+            let read = counted-eit id (numberAt 2 s 3) (numberAt 2 s 8) (networkIn s) is in (
+              sym (kept .0) ∙ ap (λ (x : SubTable). x .«transport_stream_id») same ∙ read .0 ∙ pair-is s 8,
+              sym (kept .1) ∙ ap (λ (x : SubTable). x .«original_network_id») same ∙ read .1 ∙ network-eit s is,
+            );
       }
 
   pub ids-compared : OfSubTable k s → compared k ≡ subTableOf s
@@ -130,11 +142,15 @@ module _ (k : SubTable) (s : List ℕ) where
   ids-compared x =
       let id = getD s 0 0 in
       ap (λ i. idsThatCount i (k .extension) (k .«transport_stream_id») (k .«original_network_id»)) (x .table)
-      ∙ counted-same id (k .extension) (k .«transport_stream_id») (k .«original_network_id») (numberAt 2 s 3) (numberAt 2 s 8) (networkIn s)
+      ∙ counted-same id (k .extension) (k .«transport_stream_id») (k .«original_network_id») (numberAt 2 s 3)
+      (numberAt 2 s 8) (networkIn s)
       (x .extension ∙ sym (pair-is s 3))
       (λ h. x .sdt (sdt-ids id .0 h) ∙ sym (network-sdt s h))
       (λ h. let y = x .eit (eit-ids id .0 h) in (y .0 ∙ sym (pair-is s 8), y .1 ∙ sym (network-eit s h)))
 
   -- the roll's test: the same sub-table
   pub of-sub-table : sameIds (compared k) (subTableOf s) ≡ true ↔ OfSubTable k s
-  of-sub-table = (λ h. ids-stand (same-ids-same (compared k) (subTableOf s) h), λ x. same-same-ids (compared k) (subTableOf s) (ids-compared x))
+  of-sub-table = (
+    λ h. ids-stand (same-ids-same (compared k) (subTableOf s) h),
+    λ x. same-same-ids (compared k) (subTableOf s) (ids-compared x),
+  )

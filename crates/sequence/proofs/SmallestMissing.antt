@@ -1,5 +1,5 @@
 -- The smallest number that has not come, or complete, is what "It answers" asks.
-use Prim.Native.Nat.{ℕ, zero, suc, _+_, _<_, _≤_}
+use Prim.Native.Nat.{ℕ, zero, suc, _+_, _<_}
 use mathlib.Core.Path.{_≡_, refl, sym, _∙_, subst}
 use mathlib.Core.Bool.{Bool, true, false, false≢true}
 use native.Mathlib.Omega.{arith}
@@ -10,7 +10,8 @@ use Rattle.roll.specs.Marks.{smallest}
 use Rattle.sequence.specs.Step.{Answers, all, least}
 
 -- the smallest number that has not come, or complete, says what the marks say
-module _ (came : ℕ → Bool) (come : ℕ → Type 0) (sound : (n : ℕ) → came n ≡ true → come n) (whole : (n : ℕ) → come n → came n ≡ true) (last : ℕ) where
+module _ (came : ℕ → Bool) (come : ℕ → Type 0) (sound : (n : ℕ) → came n ≡ true → come n)
+    (whole : (n : ℕ) → come n → came n ≡ true) (last : ℕ) where
   answers-from : (k n : ℕ) → n + k ≡ last + 1 → ((j : ℕ) → j < n → come j) → Answers come last (smallest came k n)
   unfolding smallest
   answers-from zero n e below = all (λ j h. below j (omega arith))

@@ -21,20 +21,49 @@ pub record Refuses (t : List (List ℕ)) (r : Roll) (s : List ℕ) : Type 0 wher
 module _ (r : Roll) (s : List ℕ) where
   -- a roll that compares with what was taken takes exactly what belongs there
   pub taken-or-refused : (t : List (List ℕ)) → another r s ≡ not (belongs t s)
-      → ((takes t s ≡ true) × ((belongs t s ≡ true) × (taking r s ≡ answering (after r s)))) ⊎ ((takes t s ≡ false) × Refuses t r s)
+      → ((takes t s ≡ true) × ((belongs t s ≡ true) × (taking r s ≡ answering (after r s))))
+      ⊎ ((takes t s ≡ false) × Refuses t r s)
   unfolding taking takingAccepted takes
   taken-or-refused t h = go (isAccepted (judged s)) (hasNoSubTable s) (belongs t s) (isCurrent s) refl refl refl refl
     where
       go : (a n b c : Bool) → isAccepted (judged s) ≡ a → hasNoSubTable s ≡ n → belongs t s ≡ b → isCurrent s ≡ c
-          → ((takes t s ≡ true) × ((belongs t s ≡ true) × (taking r s ≡ answering (after r s)))) ⊎ ((takes t s ≡ false) × Refuses t r s)
+          → ((takes t s ≡ true) × ((belongs t s ≡ true) × (taking r s ≡ answering (after r s))))
+          ⊎ ((takes t s ≡ false) × Refuses t r s)
       go false n b c p q u v =
-          inr (rw p, record { number = numberOf (judged s); place = placeOf (judged s); first = by-the-judge (is-refused (judged s) p); same = rw p })
+          inr (
+            rw p,
+            record {
+              number = numberOf (judged s);
+              place = placeOf (judged s);
+              first = by-the-judge (is-refused (judged s) p);
+              same = rw p;
+            },
+          )
       go true true b c p q u v =
-          inr (rw (p, q), record { number = 83; place = 0; first = no-sub-table (is-accepted (judged s) p) q; same = rw (p, q) })
+          inr (
+            rw (p, q),
+            record { number = 83; place = 0; first = no-sub-table (is-accepted (judged s) p) q; same = rw (p, q) },
+          )
       go true false false c p q u v =
-          inr (rw (p, q, u), record { number = 82; place = 0; first = another-sub-table (is-accepted (judged s) p) q u; same = rw (p, q, h, u) })
+          inr (
+            rw (p, q, u),
+            record {
+              number = 82;
+              place = 0;
+              first = another-sub-table (is-accepted (judged s) p) q u;
+              same = rw (p, q, h, u);
+            },
+          )
       go true false true false p q u v =
-          inr (rw (p, q, u, v), record { number = 81; place = 0; first = not-current (is-accepted (judged s) p) q u v; same = rw (p, q, h, u, v) })
+          inr (
+            rw (p, q, u, v),
+            record {
+              number = 81;
+              place = 0;
+              first = not-current (is-accepted (judged s) p) q u v;
+              same = rw (p, q, h, u, v);
+            },
+          )
       go true false true true p q u v = inl (rw (p, q, u, v), (u, rw (p, q, h, u, v)))
 
   -- alike, by the same tests, for two rolls that compare alike
@@ -42,7 +71,8 @@ module _ (r : Roll) (s : List ℕ) where
       → ((taking r s ≡ answering (after r s)) × (taking q s ≡ answering (after q s)))
       ⊎ ((k : ℕ) × (p : ℕ) × ((taking r s ≡ refusal r k p) × (taking q s ≡ refusal q k p)))
   unfolding taking takingAccepted
-  both-taken-or-refused q h = go (isAccepted (judged s)) (hasNoSubTable s) (another q s) (isCurrent s) refl refl refl refl
+  both-taken-or-refused q h =
+      go (isAccepted (judged s)) (hasNoSubTable s) (another q s) (isCurrent s) refl refl refl refl
     where
       go : (a n b c : Bool) → isAccepted (judged s) ≡ a → hasNoSubTable s ≡ n → another q s ≡ b → isCurrent s ≡ c
           → ((taking r s ≡ answering (after r s)) × (taking q s ≡ answering (after q s)))

@@ -1,4 +1,5 @@
--- Which table_ids the rows stand for: SDT has 0x42 and 0x46, EIT 0x4E to 0x6F, and of accepted sections TDT (0x70) and TOT (0x73) have no sub-table.
+-- Which table_ids the rows stand for: SDT has 0x42 and 0x46, EIT 0x4E to 0x6F, and of accepted sections TDT (0x70) and
+-- TOT (0x73) have no sub-table.
 use Prim.Native.Nat.{ℕ, _<_, _≤_}
 use mathlib.Core.Path.{_≡_, refl, subst}
 use mathlib.Core.Bool.{Bool, true, false}
@@ -21,7 +22,10 @@ in-row id i h e = subst (λ (k : ℕ). InRow k id) e (row-in id (omega arith))
 
 pub sdt-ids : (id : ℕ) → isSdt id ≡ true ↔ ((id ≡ 0x42) ⊎ (id ≡ 0x46))
 unfolding cell
-sdt-ids id = (λ h. to (in-row id 1 (omega arith) (eqb-true (rowOf id) 1 h)), λ h. eq-eqb (rowOf id) 1 (row-is id 1 (omega arith) (from h)))
+sdt-ids id = (
+  λ h. to (in-row id 1 (omega arith) (eqb-true (rowOf id) 1 h)),
+  λ h. eq-eqb (rowOf id) 1 (row-is id 1 (omega arith) (from h)),
+)
   where
     to : InRow 1 id → (id ≡ 0x42) ⊎ (id ≡ 0x46)
     to (inl (a, b)) = inl (omega arith)
@@ -33,7 +37,10 @@ sdt-ids id = (λ h. to (in-row id 1 (omega arith) (eqb-true (rowOf id) 1 h)), λ
 
 pub eit-ids : (id : ℕ) → isEit id ≡ true ↔ ((0x4E ≤ id) × (id ≤ 0x6F))
 unfolding cell
-eit-ids id = (λ h. to (in-row id 3 (omega arith) (eqb-true (rowOf id) 3 h)), λ h. eq-eqb (rowOf id) 3 (row-is id 3 (omega arith) (inl h)))
+eit-ids id = (
+  λ h. to (in-row id 3 (omega arith) (eqb-true (rowOf id) 3 h)),
+  λ h. eq-eqb (rowOf id) 3 (row-is id 3 (omega arith) (inl h)),
+)
   where
     to : InRow 3 id → (0x4E ≤ id) × (id ≤ 0x6F)
     to (inl h) = h
@@ -59,7 +66,8 @@ module _ (s : List ℕ) (a : judged s ≡ accepted) where
       five (inl (a, b)) = omega arith
       five (inr (a, b)) = omega arith
 
-      to : (b : Bool) → eqb (rowOf (getD s 0 0)) 4 ≡ b → 4 ≤ rowOf (getD s 0 0) → (getD s 0 0 ≡ 0x70) ⊎ (getD s 0 0 ≡ 0x73)
+      to : (b : Bool) → eqb (rowOf (getD s 0 0)) 4 ≡ b → 4 ≤ rowOf (getD s 0 0)
+          → (getD s 0 0 ≡ 0x70) ⊎ (getD s 0 0 ≡ 0x73)
       to true e h = inl (four (in-row (getD s 0 0) 4 (omega arith) (eqb-true _ _ e)))
       to false e h =
           let n = eqb-false (rowOf (getD s 0 0)) 4 e in
@@ -68,5 +76,9 @@ module _ (s : List ℕ) (a : judged s ≡ accepted) where
           inr (five (in-row (getD s 0 0) 5 (omega arith) row))
 
       from : (getD s 0 0 ≡ 0x70) ⊎ (getD s 0 0 ≡ 0x73) → hasNoSubTable s ≡ true
-      from (inl e) = let r = row-is (getD s 0 0) 4 (omega arith) (inl (omega arith, omega arith)) in le-leb 4 (rowOf (getD s 0 0)) (omega arith)
-      from (inr e) = let r = row-is (getD s 0 0) 5 (omega arith) (inl (omega arith, omega arith)) in le-leb 4 (rowOf (getD s 0 0)) (omega arith)
+      from (inl e) =
+          let r = row-is (getD s 0 0) 4 (omega arith) (inl (omega arith, omega arith)) in le-leb 4 (rowOf (getD s 0 0))
+          (omega arith)
+      from (inr e) =
+          let r = row-is (getD s 0 0) 5 (omega arith) (inl (omega arith, omega arith)) in le-leb 4 (rowOf (getD s 0 0))
+          (omega arith)

@@ -1,6 +1,7 @@
--- Over whole sequences of sections from an empty roll: the marks are the numbers that have come since the last fresh start, and the answer is the
+-- Over whole sequences of sections from an empty roll: the marks are the numbers that have come since the last fresh
+-- start, and the answer is the
 -- smallest that has not, or complete.
-use Prim.Native.Nat.{ℕ, zero, suc, _+_, _<_, _≤_}
+use Prim.Native.Nat.{ℕ, _+_, _≤_}
 use mathlib.Core.Path.{_≡_, refl, sym, ap, _∙_, subst}
 use mathlib.Core.Bool.{Bool, true, false, not, _||_, false≢true}
 use mathlib.Core.Logic.{_⊎_, inl, inr, ⊎-elim}
@@ -10,9 +11,8 @@ use lib.Dec.{eqb, ltb}
 use borrow.Author.Tests.{eqb-true, eqb-false, ltb-true, ltb-false}
 use Rattle.wire.specs.If.{if_then_else_}
 use Rattle.wire.specs.Bytes.{Bytes}
-use Rattle.wire.proofs.IfLaws.{if-case}
 use Rattle.roll.specs.Answer.{Says, missing, complete}
-use Rattle.roll.specs.Marks.{has, unmarked, marked, Whole, smallest, smallestMissing}
+use Rattle.roll.specs.Marks.{has, unmarked, marked, smallest, smallestMissing}
 use Rattle.roll.specs.SubTable.{subTableOf, compared, sameIds}
 use Rattle.roll.specs.Roll.{versionIn, numberIn, lastIn, another, startsAfresh, begunWith, continued, after, asked, Outcome, answering, taking}
 use Rattle.sequence.specs.Sequence.{belongs, takes, taken, Come, just, earlier, Answered, nothing, some, Kept, Agrees, empty, begun, Next, took, refused, AllBytes, none, more, Run, start, step, MarksAre, EachFares, AnswersAre}
@@ -33,34 +33,54 @@ come-or-came (just e) = inl e
 come-or-came (earlier v l c) = inr (v, l, c)
 
 -- the fresh start
-afresh-agrees : (s : List ℕ) (t : List (List ℕ)) → Bytes s → ((n : ℕ) → Come (s ∷ t) n → numberIn s ≡ n) → Agrees (s ∷ t) (begunWith s)
+afresh-agrees : (s : List ℕ) (t : List (List ℕ)) → Bytes s → ((n : ℕ) → Come (s ∷ t) n → numberIn s ≡ n)
+    → Agrees (s ∷ t) (begunWith s)
 unfolding begunWith
 afresh-agrees s t b only =
     begun
-    (record { begun = refl; ids = refl; version = refl; last = refl; whole = marked-whole unmarked (numberIn s) unmarked-whole })
-    (λ n h. ⊎-elim (λ e. just (sym e)) (λ e. absurd (false≢true (sym (unmarked-has-none n) ∙ e))) (marked-only unmarked (numberIn s) n h))
-    (λ n c. ap (has (marked unmarked (numberIn s))) (sym (only n c)) ∙ marked-has unmarked (numberIn s) unmarked-whole (b 6))
+    (record {
+      begun = refl;
+      ids = refl;
+      version = refl;
+      last = refl;
+      whole = marked-whole unmarked (numberIn s) unmarked-whole;
+    })
+    (λ n h. ⊎-elim (λ e. just (sym e)) (λ e. absurd (false≢true (sym (unmarked-has-none n) ∙ e)))
+    (marked-only unmarked (numberIn s) n h))
+    (λ n c. ap (has (marked unmarked (numberIn s))) (sym (only n c))
+    ∙ marked-has unmarked (numberIn s) unmarked-whole (b 6))
 
 -- on with the same version and last number
-on-agrees : (s u : List ℕ) (t : List (List ℕ)) (r : Roll) → Bytes s → Kept u r → r .version ≡ versionIn s → r .last ≡ lastIn s
-    → subTableOf u ≡ subTableOf s → ((n : ℕ) → has (r .marks) n ≡ true → Come (u ∷ t) n) → ((n : ℕ) → Come (u ∷ t) n → has (r .marks) n ≡ true)
+on-agrees : (s u : List ℕ) (t : List (List ℕ)) (r : Roll) → Bytes s → Kept u r → r .version ≡ versionIn s
+    → r .last ≡ lastIn s
+    → subTableOf u ≡ subTableOf s → ((n : ℕ) → has (r .marks) n ≡ true → Come (u ∷ t) n)
+    → ((n : ℕ) → Come (u ∷ t) n → has (r .marks) n ≡ true)
     → Agrees (s ∷ u ∷ t) (continued r s)
 unfolding continued
 on-agrees s u t r b k v l i sound whole =
     begun
-    (record { begun = k .begun; ids = k .ids ∙ i; version = v; last = l; whole = marked-whole (r .marks) (numberIn s) (k .whole) })
-    (λ n h. ⊎-elim (λ e. just (sym e)) (λ e. earlier (sym v ∙ k .version) (sym l ∙ k .last) (sound n e)) (marked-only (r .marks) (numberIn s) n h))
+    (record {
+      begun = k .begun;
+      ids = k .ids ∙ i;
+      version = v;
+      last = l;
+      whole = marked-whole (r .marks) (numberIn s) (k .whole);
+    })
+    (λ n h. ⊎-elim (λ e. just (sym e)) (λ e. earlier (sym v ∙ k .version) (sym l ∙ k .last) (sound n e))
+    (marked-only (r .marks) (numberIn s) n h))
     (λ n c.
     ⊎-elim
     (λ e. ap (has (marked (r .marks) (numberIn s))) (sym e) ∙ marked-has (r .marks) (numberIn s) (k .whole) (b 6))
     (λ e. marked-more (r .marks) (numberIn s) n (k .whole) (b 6) (whole n (e .2)))
     (come-or-came c))
 
-afresh-by : (r : Roll) (s : List ℕ) → r .begun ≡ true → startsAfresh r s ≡ (not (eqb (r .version) (versionIn s)) || not (eqb (r .last) (lastIn s)))
+afresh-by : (r : Roll) (s : List ℕ) → r .begun ≡ true
+    → startsAfresh r s ≡ (not (eqb (r .version) (versionIn s)) || not (eqb (r .last) (lastIn s)))
 unfolding startsAfresh
 afresh-by r s e = rw e
 
-after-agrees : {t : List (List ℕ)} {r : Roll} → Agrees t r → (s : List ℕ) → Bytes s → belongs t s ≡ true → Agrees (s ∷ t) (after r s)
+after-agrees : {t : List (List ℕ)} {r : Roll} → Agrees t r → (s : List ℕ) → Bytes s → belongs t s ≡ true
+    → Agrees (s ∷ t) (after r s)
 unfolding after startsAfresh
 after-agrees (empty e) s b h = rw e (afresh-agrees s [] b (λ n c. first-come c))
 after-agrees (begun {s = u} {t} {r} k sound whole) s b h =
@@ -72,7 +92,9 @@ after-agrees (begun {s = u} {t} {r} k sound whole) s b h =
 
     go : (v l : Bool) → eqb (r .version) (versionIn s) ≡ v → eqb (r .last) (lastIn s) ≡ l
         → Agrees (s ∷ u ∷ t) (if not v || not l then begunWith s else continued r s)
-    go true true p q = on-agrees s u t r b k (eqb-true _ _ p) (eqb-true _ _ q) (same-ids-same (subTableOf u) (subTableOf s) h) sound whole
+    go true true p q =
+        on-agrees s u t r b k (eqb-true _ _ p) (eqb-true _ _ q) (same-ids-same (subTableOf u) (subTableOf s) h) sound
+        whole
     go true false p q = new (λ d. eqb-false _ _ q (k .last ∙ sym (d .1)))
     go false l p q = new (λ d. eqb-false _ _ p (k .version ∙ sym (d .0)))
 
@@ -87,18 +109,23 @@ agrees-answers : {t : List (List ℕ)} {r : Roll} → Agrees t r → Answered t 
 unfolding asked smallestMissing
 agrees-answers (empty e) = rw e nothing
 agrees-answers (begun {s} {t} {r} k sound whole) =
-    rw (k .begun) (some (subst (λ (n : ℕ). Answers (Come (s ∷ t)) n (smallest (has (r .marks)) (r .last + 1) 0)) (k .last)
+    rw (k .begun)
+    (some (subst (λ (n : ℕ). Answers (Come (s ∷ t)) n (smallest (has (r .marks)) (r .last + 1) 0)) (k .last)
     (smallest-answers (has (r .marks)) (Come (s ∷ t)) sound whole (r .last))))
 
 -- one section more, and the roll after it
-next : {t : List (List ℕ)} {r : Roll} → Agrees t r → (s : List ℕ) → Bytes s → Next t r s (taking r s) × ((takes t s ≡ true → Agrees (s ∷ t) (taking r s .roll)))
+next : {t : List (List ℕ)} {r : Roll} → Agrees t r → (s : List ℕ) → Bytes s
+    → Next t r s (taking r s) × ((takes t s ≡ true → Agrees (s ∷ t) (taking r s .roll)))
 next {t} {r} g s b = go (taken-or-refused r s t (another-agrees g s))
   where
-    go : ((takes t s ≡ true) × ((belongs t s ≡ true) × (taking r s ≡ answering (after r s)))) ⊎ ((takes t s ≡ false) × Refuses t r s)
+    go : ((takes t s ≡ true) × ((belongs t s ≡ true) × (taking r s ≡ answering (after r s))))
+        ⊎ ((takes t s ≡ false) × Refuses t r s)
         → Next t r s (taking r s) × ((takes t s ≡ true → Agrees (s ∷ t) (taking r s .roll)))
     go (inl (p, (h, e))) =
-        let a = after-agrees g s b h in
-        (took p (subst (λ (o : Outcome). Answered (s ∷ t) (o .says)) (sym e) (agrees-answers a)), λ _. subst (λ (o : Outcome). Agrees (s ∷ t) (o .roll)) (sym e) a)
+        let a = after-agrees g s b h in (
+          took p (subst (λ (o : Outcome). Answered (s ∷ t) (o .says)) (sym e) (agrees-answers a)),
+          λ _. subst (λ (o : Outcome). Agrees (s ∷ t) (o .roll)) (sym e) a,
+        )
     go (inr (p, y)) = (refused p (y .number) (y .place) (y .first) (y .same), λ q. absurd (false≢true (sym p ∙ q)))
 
 run-agrees : {given : List (List ℕ)} {r : Roll} → Run Promised given r → Agrees (taken given) r
@@ -108,7 +135,8 @@ run-agrees (step {given} {r} x s b o is) =
     let g = run-agrees x in
     subst (λ (o : Outcome). Agrees (taken (s ∷ given)) (o .roll)) (sym is) (go g (next g s b .0) (next g s b .1))
   where
-    go : Agrees (taken given) r → Next (taken given) r s (taking r s) → (takes (taken given) s ≡ true → Agrees (s ∷ taken given) (taking r s .roll))
+    go : Agrees (taken given) r → Next (taken given) r s (taking r s)
+        → (takes (taken given) s ≡ true → Agrees (s ∷ taken given) (taking r s .roll))
         → Agrees (taken (s ∷ given)) (taking r s .roll)
     go g (took p w) a = rw p (a p)
     go g (refused p k j f same) a = rw p (subst (λ (o : Outcome). Agrees (taken given) (o .roll)) (sym same) g)
@@ -126,7 +154,8 @@ answers-are given r x a is = subst (Answered (taken given)) (sym is) (agrees-ans
 pub complete-all : {come : ℕ → Type 0} {last : ℕ} → Answers come last complete → (n : ℕ) → n ≤ last → come n
 complete-all (all h) = h
 
-pub all-complete : {come : ℕ → Type 0} {last : ℕ} {x : Says} → Answers come last x → ((n : ℕ) → n ≤ last → come n) → x ≡ complete
+pub all-complete : {come : ℕ → Type 0} {last : ℕ} {x : Says} → Answers come last x → ((n : ℕ) → n ≤ last → come n)
+    → x ≡ complete
 all-complete (all h) f = refl
 all-complete (least n l not-come below) f = absurd (not-come (f n l))
 

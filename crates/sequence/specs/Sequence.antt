@@ -35,18 +35,20 @@ pub data FirstRefusal (t : List (List ℕ)) (s : List ℕ) : ℕ → ℕ → Typ
   -- "82 (another sub-table)"
   another-sub-table : judged s ≡ accepted → hasNoSubTable s ≡ false → belongs t s ≡ false → FirstRefusal t s 82 0
   -- "81 (current_next_indicator 0)"
-  not-current : judged s ≡ accepted → hasNoSubTable s ≡ false → belongs t s ≡ true → isCurrent s ≡ false → FirstRefusal t s 81 0
+  not-current : judged s ≡ accepted → hasNoSubTable s ≡ false → belongs t s ≡ true → isCurrent s ≡ false
+      → FirstRefusal t s 81 0
 
 -- those that are taken, of all that were given
 unfoldable pub taken : List (List ℕ) → List (List ℕ)
 taken [] = []
 taken (s ∷ given) = if takes (taken given) s then s ∷ taken given else taken given
 
--- the number has come since the last fresh start: with the last section taken; or before, where that one has the version and the last number of the
--- one taken before it, since "A new version or last number starts it afresh"
+-- the number has come since the last fresh start: with the last section taken; or before, where that one has the
+-- version and the last number of the one taken before it, since "A new version or last number starts it afresh"
 pub data Come : List (List ℕ) → ℕ → Type 0 where
   just : {s : List ℕ} {t : List (List ℕ)} {n : ℕ} → numberIn s ≡ n → Come (s ∷ t) n
-  earlier : {s u : List ℕ} {t : List (List ℕ)} {n : ℕ} → versionIn s ≡ versionIn u → lastIn s ≡ lastIn u → Come (u ∷ t) n → Come (s ∷ u ∷ t) n
+  earlier : {s u : List ℕ} {t : List (List ℕ)} {n : ℕ} → versionIn s ≡ versionIn u → lastIn s ≡ lastIn u
+      → Come (u ∷ t) n → Come (s ∷ u ∷ t) n
 
 -- the answer where these were taken
 pub data Answered : List (List ℕ) → Says → Type 0 where
@@ -72,18 +74,20 @@ pub data Agrees : List (List ℕ) → Roll → Type 0 where
   begun : {s : List ℕ} {t : List (List ℕ)} {r : Roll} → Kept s r → ((n : ℕ) → has (r .marks) n ≡ true → Come (s ∷ t) n)
       → ((n : ℕ) → Come (s ∷ t) n → has (r .marks) n ≡ true) → Agrees (s ∷ t) r
 
--- one section more, where t were taken before: taken exactly if none of the refusals applies, and then the answer is that of those taken; else refused
--- with the first that applies, "itself unchanged"
+-- one section more, where t were taken before: taken exactly if none of the refusals applies, and then the answer is
+-- that of those taken; else refused with the first that applies, "itself unchanged"
 pub data Next (t : List (List ℕ)) (r : Roll) (s : List ℕ) (o : Outcome) : Type 0 where
   took : takes t s ≡ true → Answered (s ∷ t) (o .says) → Next t r s o
   refused : takes t s ≡ false → (k p : ℕ) → FirstRefusal t s k p → o ≡ refusal r k p → Next t r s o
 
 -- ---- calls, one after the other
 
--- a roll that was empty when these were given to it by calls, one after the other, each with the roll that the one before gave
+-- a roll that was empty when these were given to it by calls, one after the other, each with the roll that the one
+-- before gave
 pub data Run (take : Roller) : List (List ℕ) → Roll → Type 0 where
   start : (r : Roll) → r .begun ≡ false → Run take [] r
-  step : {given : List (List ℕ)} {r : Roll} → Run take given r → (s : List ℕ) → Bytes s → (o : Outcome) → take r s o → Run take (s ∷ given) (o .roll)
+  step : {given : List (List ℕ)} {r : Roll} → Run take given r → (s : List ℕ) → Bytes s → (o : Outcome) → take r s o
+      → Run take (s ∷ given) (o .roll)
 
 module _ (take : Roller) where
   -- after any sections, the marks are the numbers that have come since the last fresh start, of those taken
@@ -92,8 +96,11 @@ module _ (take : Roller) where
 
   -- and each section more fares by those taken before it
   abbrev pub EachFares : Type 0
-  EachFares = (given : List (List ℕ)) (r : Roll) → Run take given r → (s : List ℕ) → Bytes s → (o : Outcome) → take r s o → Next (taken given) r s o
+  EachFares = (given : List (List ℕ)) (r : Roll) → Run take given r → (s : List ℕ) → Bytes s → (o : Outcome)
+      → take r s o → Next (taken given) r s o
 
-  -- asked without a section: complete exactly if all numbers from 0 to the last have come since the last fresh start, else the smallest that has not
+  -- asked without a section: complete exactly if all numbers from 0 to the last have come since the last fresh start,
+  -- else the smallest that has not
   abbrev pub AnswersAre : (Roll → Says → Type 0) → Type 0
-  AnswersAre ask = (given : List (List ℕ)) (r : Roll) → Run take given r → (x : Says) → ask r x → Answered (taken given) x
+  AnswersAre ask = (given : List (List ℕ)) (r : Roll) → Run take given r → (x : Says) → ask r x
+      → Answered (taken given) x

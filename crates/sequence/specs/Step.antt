@@ -1,4 +1,5 @@
--- One section for any roll, also for one that a caller made by hand: document 01, "The roll", by the section's own bytes.
+-- One section for any roll, also for one that a caller made by hand: document 01, "The roll", by the section's own
+-- bytes.
 use Prim.Native.Nat.{ℕ, _+_, _*_, _<_, _≤_}
 use mathlib.Core.Path.{_≡_}
 use mathlib.Core.Bool.{true}
@@ -33,7 +34,8 @@ pub record OfSubTable (k : SubTable) (s : List ℕ) : Type 0 where
   pub table : k .«table_id» ≡ getD s 0 0
   pub extension : k .extension ≡ pair s 3
   pub sdt : (getD s 0 0 ≡ 0x42) ⊎ (getD s 0 0 ≡ 0x46) → k .«original_network_id» ≡ pair s 8
-  pub eit : (0x4E ≤ getD s 0 0) × (getD s 0 0 ≤ 0x6F) → (k .«transport_stream_id» ≡ pair s 8) × (k .«original_network_id» ≡ pair s 10)
+  pub eit : (0x4E ≤ getD s 0 0) × (getD s 0 0 ≤ 0x6F)
+      → (k .«transport_stream_id» ≡ pair s 8) × (k .«original_network_id» ≡ pair s 10)
 
 -- ---- refusals
 
@@ -46,17 +48,21 @@ pub data Applies (r : Roll) (s : List ℕ) : ℕ → Type 0 where
   -- "81 (current_next_indicator 0)"
   not-current : (version : ℕ) → Versioned s version 0 → Applies r s 81
 
--- the first refusal for a roll, its number and place: "refuses 1 to 10, then 83 .., 82 .., 81 ..", so that of the last three the highest is first
+-- the first refusal for a roll, its number and place: "refuses 1 to 10, then 83 .., 82 .., 81 ..", so that of the last
+-- three the highest is first
 pub data FirstFor (r : Roll) (s : List ℕ) : ℕ → ℕ → Type 0 where
   of-the-judge : {k p : ℕ} → First s k p → FirstFor r s k p
-  of-the-roll : {k : ℕ} (loops : List (List Placed)) → Section s loops → Applies r s k → ((j : ℕ) → k < j → Applies r s j → ⊥) → FirstFor r s k 0
+  of-the-roll : {k : ℕ} (loops : List (List Placed)) → Section s loops → Applies r s k
+      → ((j : ℕ) → k < j → Applies r s j → ⊥) → FirstFor r s k 0
 
 -- ---- a section that is taken
 
--- the number has come: with this section; or before, where version and last number stay, since "A new version or last number starts it afresh"
+-- the number has come: with this section; or before, where version and last number stay, since "A new version or last
+-- number starts it afresh"
 pub data ComeFor (r : Roll) (s : List ℕ) (n : ℕ) : Type 0 where
   just : getD s 6 0 ≡ n → ComeFor r s n
-  earlier : r .begun ≡ true → Versioned s (r .version) 1 → r .last ≡ getD s 7 0 → has (r .marks) n ≡ true → ComeFor r s n
+  earlier : r .begun ≡ true → Versioned s (r .version) 1 → r .last ≡ getD s 7 0 → has (r .marks) n ≡ true
+      → ComeFor r s n
 
 -- "It answers the smallest number missing, or complete: all from 0 to last."
 pub data Answers (come : ℕ → Type 0) (last : ℕ) : Says → Type 0 where
@@ -79,9 +85,11 @@ abbrev pub Roller : Type 1
 Roller = Roll → List ℕ → Outcome → Type 0
 
 module _ (take : Roller) where
-  -- "Input to which numbered refusals apply gets the first of them in document 01's order ..; no other input is refused."
+  -- "Input to which numbered refusals apply gets the first of them in document 01's order ..; no other input is
+  -- refused."
   abbrev pub RefusesExactlyIf : Type 0
-  RefusesExactlyIf = (r : Roll) (s : List ℕ) (o : Outcome) → take r s o → (k p : ℕ) → (o .says ≡ refusing k p) ↔ FirstFor r s k p
+  RefusesExactlyIf = (r : Roll) (s : List ℕ) (o : Outcome) → take r s o → (k p : ℕ)
+      → (o .says ≡ refusing k p) ↔ FirstFor r s k p
 
   -- "itself unchanged"
   abbrev pub RefusalKeeps : Type 0
@@ -89,4 +97,5 @@ module _ (take : Roller) where
 
   -- "no other input is refused": every other section is taken
   abbrev pub TakesElse : Type 0
-  TakesElse = (r : Roll) (s : List ℕ) (o : Outcome) → take r s o → Bytes s → Whole (r .marks) → ((k p : ℕ) → FirstFor r s k p → ⊥) → Taken r s o
+  TakesElse = (r : Roll) (s : List ℕ) (o : Outcome) → take r s o → Bytes s → Whole (r .marks)
+      → ((k p : ℕ) → FirstFor r s k p → ⊥) → Taken r s o
