@@ -1,4 +1,5 @@
--- What stands at the front of bytes, by a form that sheets have: a whole value, bytes that more of them could make one, or bytes that none could.
+-- What stands at the front of bytes, by a form that sheets have: a whole value, bytes that more of them could make
+-- one, or bytes that none could.
 use Prim.{tt}
 use Prim.Native.Nat.{ℕ, zero, suc, _+_, _-_, _*_, _/_, _%_, _^_, _≤_, _<_}
 use mathlib.Core.Path.{_≡_, refl, sym, ap, ap₂, _∙_}
@@ -18,7 +19,8 @@ use Rattle.forms.specs.Laws.{Lawful, Complete}
 use Rattle.forms.proofs.Lawful.{read-on, stays, raw-read, bytes-behind}
 use Rattle.forms.proofs.FieldLaws.{field-lawful}
 
--- a whole value and what follows it; the beginning of a value, which u ends; or bytes that are refused, whatever follows
+-- a whole value and what follows it; the beginning of a value, which u ends; or bytes that are refused, whatever
+-- follows
 pub data View {A : Type 0} (c : Form A) (s : List ℕ) : Type 0 where
   whole : (a : A) (r : List ℕ) → c .Ok a → s ≡ c .show a ++ r → View c s
   early : (a : A) (u : List ℕ) → c .Ok a → s ++ u ≡ c .show a → c .read s ≡ refused 22 → View c s

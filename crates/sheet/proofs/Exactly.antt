@@ -1,4 +1,5 @@
--- Refusals 22 to 26 exactly if: whatever bytes a sheet has, one of document 01's sentences is true of them, and it is the one that the judge says.
+-- Refusals 22 to 26 exactly if: whatever bytes a sheet has, one of document 01's sentences is true of them, and it is
+-- the one that the judge says.
 use Prim.Native.Nat.{ℕ, suc, _+_, _<_, _≤_}
 use mathlib.Core.Path.{_≡_, refl, sym, ap, _∙_, subst}
 use mathlib.Core.Logic.{_⊎_, inl, inr}

@@ -1,5 +1,6 @@
--- What is wrong with bytes that are no sheet, by what stands there and not by how they are read: "21 comes first, then 22 to 24 as read left to right,
--- 25, 26." A whole sheet is what `sheetOf` shows of a content that a sheet can have; `SheetOk` has the limits of document 01's refusal 24.
+-- What is wrong with bytes that are no sheet, by what stands there and not by how they are read: "21 comes first,
+-- then 22 to 24 as read left to right, 25, 26." A whole sheet is what `sheetOf` shows of a content that a sheet can
+-- have; `SheetOk` has the limits of document 01's refusal 24.
 use Prim.Native.Nat.{ℕ, _+_, _<_, _≤_}
 use mathlib.Core.Path.{_≡_}
 use mathlib.Core.Logic.{_↔_}
@@ -20,7 +21,8 @@ pub data SheetFault (s : List ℕ) : ℕ → Type 0 where
   -- "23 table_id unknown": there is a first byte, and no row has it
   unknown : 0 < length s → ((i : ℕ) → i < 6 → InRow i (getD s 0 0) → ⊥) → SheetFault s 23
   -- "24 version above 31, ..": the table_id is known, and no whole sheet begins as s does, whatever more bytes follow
-  wide : (i : ℕ) → 0 < length s → i < 6 → InRow i (getD s 0 0) → ((c : Content) (more rest : List ℕ) → SheetOk c → s ++ more ≡ sheetOf c ++ rest → ⊥)
+  wide : (i : ℕ) → 0 < length s → i < 6 → InRow i (getD s 0 0)
+      → ((c : Content) (more rest : List ℕ) → SheetOk c → s ++ more ≡ sheetOf c ++ rest → ⊥)
       → SheetFault s 24
   -- "25 bytes after the sheet"
   after : (c : Content) (rest : List ℕ) → SheetOk c → 0 < length rest → s ≡ sheetOf c ++ rest → SheetFault s 25

@@ -1,5 +1,6 @@
--- Document 01's numbers for sheets, each tried at its limit: "24 version above 31, current, flag or free_CA_mode above 1, running_status above 7,
--- section number above last"; and the sheet of each kind, of which one byte less is 22 and one more is 25.
+-- Document 01's numbers for sheets, each tried at its limit: "24 version above 31, current, flag or free_CA_mode
+-- above 1, running_status above 7, section number above last"; and the sheet of each kind, of which one byte less is
+-- 22 and one more is 25.
 use Prim.Native.Nat.{ℕ}
 use mathlib.Core.Path.{_≡_}
 use mathlib.Core.List.{List, [], _∷_, _++_}
@@ -7,7 +8,8 @@ use lib.ListN.{take}
 use Rattle.wire.specs.Reading.{value, refused}
 use Rattle.sheet.specs.Reads.{judgedSheet}
 
--- an SDT sheet of one service: version, current, section number, last, schedule flag, present/following flag, running_status, free_CA_mode
+-- an SDT sheet of one service: version, current, section number, last, schedule flag, present/following flag,
+-- running_status, free_CA_mode
 abbrev pub sdtWith : ℕ → ℕ → ℕ → ℕ → ℕ → ℕ → ℕ → ℕ → List ℕ
 sdtWith v c n l s p r f = 0x42 ∷ 4 ∷ 5 ∷ v ∷ c ∷ n ∷ l ∷ 0 ∷ 0x85 ∷ 0 ∷ 1 ∷ 0x12 ∷ 0x34 ∷ s ∷ p ∷ r ∷ f ∷ 0 ∷ 0 ∷ []
 

@@ -68,7 +68,7 @@ top-ok row p = go (eqb (rowAt row .top) 1)
     go true o u = loop-ok bare p o u
     go false o u = o
 
-without-fields : (vs : List ℕ) → vs ≡ [] → sheetFields [] .Ok vs
+pub without-fields : (vs : List ℕ) → vs ≡ [] → sheetFields [] .Ok vs
 unfolding EachOk
 without-fields [] e = tt
 without-fields (v ∷ vs) e = let n = ap length e in absurd (omega arith)

@@ -13,7 +13,7 @@ use Rattle.section.specs.Reading.{judged}
 use Rattle.sheet.specs.Section.{contentOf, readSheet}
 use Rattle.turn.specs.Turn.{Outcome, gives, refuses, toSection, toSheet, sectionFrom, sheetFrom, sheetIf, wrote, answer, roomAfter}
 use Rattle.turn.specs.Ones.{ReservedWereOnes}
-use Rattle.turn.specs.Demand2.{SheetAndBack, SectionAndBack, WrittenAsOnes, BackOnlyIf}
+use Rattle.turn.specs.Demand2.{SheetAndBack, SectionAndBack, WrittenAsOnes, BackOnlyIf, AnySectionAndBack}
 use Rattle.turn.proofs.RoundTrips as trips
 use Rattle.turn.proofs.MadeOnes.{made-ones}
 use Rattle.turn.proofs.WholeLaws.{take-put}
@@ -95,3 +95,13 @@ pub back-only-if : BackOnlyIf
 back-only-if s o o' p p' n m w v a b e =
     subst ReservedWereOnes e
     (written-as-ones (take n o') p p' m (bytes-front (take n o') (drop n o') (sym (take-append-drop n o')) v) b)
+
+pub any-section-and-back : AnySectionAndBack
+any-section-and-back s o o' p p' n r w a big b =
+    let x = toSheet (length o) s in
+    let g = gave x n (a .0) in
+    let m = trips.sheet-at-most (length o) s (g .bytes) w (g .is) in
+    let k = sheet-room (length o) s (g .bytes) (g .is) in
+    let t : take n o' ≡ g .bytes = first-given o o' x n g (omega arith) (a .1) in
+    let y = trips.any-section-and-back (length p) (length o) s (g .bytes) w big (g .is) in
+    section-once r (section.Wrote (length s)) (b .0 ∙ ap answer (ap (toSection (length p)) t ∙ y .1) ∙ ap wrote (y .2))

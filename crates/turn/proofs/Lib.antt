@@ -6,6 +6,7 @@ pub mod AllOnes
 pub mod SheetSize
 pub mod RoundTrips
 pub mod MadeOnes
+pub mod AnyReserved
 pub mod PieceLaws
 pub mod HeadLaws
 pub mod CountLaws

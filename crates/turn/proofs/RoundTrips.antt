@@ -1,6 +1,6 @@
 -- Demand 2: "An accepted sheet made into a section and back is the same bytes; an accepted section made into a sheet and back is too, if its
 -- reserved bits were ones."
-use Prim.Native.Nat.{ℕ, _<_, _≤_}
+use Prim.Native.Nat.{ℕ, _+_, _<_, _≤_}
 use mathlib.Core.Path.{_≡_, refl, sym, ap, _∙_, subst}
 use mathlib.Core.List.{List}
 use mathlib.Core.Bool.{Bool, true, false}
@@ -11,10 +11,12 @@ use lib.Dec.{ltb}
 use Rattle.wire.specs.If.{if_then_else_}
 use Rattle.wire.specs.Bytes.{Bytes}
 use Rattle.wire.specs.Reading as reading
+use Rattle.tables.specs.Tables.{rowAt}
 use Rattle.verdict.specs.Verdict as verdict
 use Rattle.section.specs.Reading.{judged}
 use Rattle.sheet.specs.Content.{Content, rowIn}
 use Rattle.sheet.specs.Sheet.{sheetOf}
+use Rattle.sheet.proofs.SectionSize.{section-length}
 use Rattle.sheet.specs.Section.{sectionLength, sectionOf, contentOf, readSheet}
 use Rattle.turn.specs.Turn.{gives, refuses, sectionFrom, toSection, sheetFrom, sheetIf, toSheet}
 use Rattle.turn.specs.Ones.{OnesIn, ReservedWereOnes}
@@ -24,6 +26,7 @@ use Rattle.turn.proofs.Held.{held, read-again}
 use Rattle.turn.proofs.Accepted.{made-accepted}
 use Rattle.turn.proofs.Contained.{contained}
 use Rattle.turn.proofs.AllOnes.{sheet-ok}
+use Rattle.turn.proofs.AnyReserved.{same-sheet}
 use Rattle.turn.proofs.SheetSize.{sheet-fits, section-fits}
 
 gives-is : {a b : List ℕ} → gives a ≡ gives b → a ≡ b
@@ -130,6 +133,25 @@ section-and-back n m s t w h u e =
     let j = numbers-of (rowIn c) (x .holds .known) in
     let ok = sheet-ok c (x .holds) o (short c (x .holds)) in
     to-section n t c h (ap readSheet (x .made) ∙ read-again c ok k) ∙ ap gives (x .is)
+
+-- whatever its reserved bits, it becomes a sheet of which a section as long is made
+pub any-section-and-back : (n m : ℕ) (s t : List ℕ) → Bytes s → 4096 ≤ n → toSheet m s ≡ gives t
+    → (u : List ℕ) × (toSection n t ≡ gives u) × (length u ≡ length s)
+any-section-and-back n m s t w h e =
+    let x = from-section m s t w e .1 in
+    let c = x .content in
+    let y = same-sheet c (x .holds) (short c (x .holds)) in
+    let k = x .holds .most in
+    let i = y .size in
+    let j : sectionLength (y .other) ≤ rowAt (rowIn (y .other)) .most =
+    subst (λ row. sectionLength (y .other) ≤ rowAt row .most) (sym (y .row)) (omega arith) in
+    let known : rowIn (y .other) < 6 = subst (λ row. row < 6) (sym (y .row)) (x .holds .known) in
+    let long : length (sectionOf (y .other)) ≡ length (sectionOf c) =
+    section-length (y .other) known ∙ ap (λ l. 3 + l) i ∙ sym (section-length c (x .holds .known)) in (
+      sectionOf (y .other),
+      to-section n t (y .other) h (ap readSheet (x .made ∙ sym (y .shown)) ∙ read-again (y .other) (y .ok) j),
+      long ∙ ap length (x .is),
+    )
 
 -- ---- "Largest results are proved to fit"
 

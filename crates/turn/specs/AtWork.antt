@@ -1,5 +1,5 @@
--- Both turns at work: for each of the six tables a sheet and its section, byte for byte. So the premises of demand 2's theorems can be met, by a
--- table with a top loop, with entries and with descriptors as by any other.
+-- Both turns at work: for each of the six tables a sheet and its section, byte for byte. So the premises of demand
+-- 2's theorems can be met, by a table with a top loop, with entries and with descriptors as by any other.
 use Prim.Native.Nat.{ℕ}
 use mathlib.Core.Path.{_≡_}
 use mathlib.Core.List.{List, [], _∷_}
@@ -96,6 +96,7 @@ pub record AllSix : Type 0 where
   pub tdt : BothWays tdtSheet tdtSection
   pub tot : BothWays totSheet totSection
 
--- "Reserved bits are never judged", and are in no sheet: document 01's TDT with zeros in their place becomes the same sheet
+-- "Reserved bits are never judged", and are in no sheet: document 01's TDT with zeros in their place becomes the same
+-- sheet
 abbrev pub Unseen : Type 0
 Unseen = toSheet 5120 (0x70 ∷ 0 ∷ 5 ∷ 0xC0 ∷ 0x79 ∷ 0x12 ∷ 0x45 ∷ 0 ∷ []) ≡ gives tdtSheet

@@ -1,4 +1,5 @@
--- Demand 1, of both turns: "Input to which numbered refusals apply gets the first of them in document 01's order, .. no other input is refused."
+-- Demand 1, of both turns: "Input to which numbered refusals apply gets the first of them in document 01's order, ..
+-- no other input is refused."
 use Prim.Native.Nat.{ℕ, _+_, _<_, _≤_}
 use mathlib.Core.Path.{_≡_}
 use mathlib.Core.Logic.{_↔_}
@@ -17,7 +18,8 @@ use Rattle.turn.specs.declared.SectionAnswer.the-variants as section
 use Rattle.turn.specs.declared.SheetAnswer.{SheetAnswer}
 use Rattle.turn.specs.declared.SheetAnswer.the-variants as sheet
 
--- number and place of what is wrong with a sheet s and a room of n bytes: "21 comes first, then 22 to 24 as read left to right, 25, 26."
+-- number and place of what is wrong with a sheet s and a room of n bytes: "21 comes first, then 22 to 24 as read left
+-- to right, 25, 26."
 pub data SectionRefusal (n : ℕ) (s : List ℕ) : ℕ → ℕ → Type 0 where
   -- "21 room under .. 4,096 (for a section)", whatever the sheet
   small : n < 4096 → SectionRefusal n s 21 0
@@ -51,8 +53,10 @@ SheetMadeExactlyIf = (s o o' : List ℕ) (r : SheetAnswer) → Bytes s → ToShe
 
 -- "21 comes first": 21 exactly if the room is short, whatever it is to be made of
 abbrev pub SectionRoomFirst : Type 0
-SectionRoomFirst = (s o o' : List ℕ) (r : SectionAnswer) → Bytes s → ToSection s o r o' → (r ≡ section.Room) ↔ (length o < 4096)
+SectionRoomFirst = (s o o' : List ℕ) (r : SectionAnswer) → Bytes s → ToSection s o r o'
+    → (r ≡ section.Room) ↔ (length o < 4096)
 
 -- the same for a sheet
 abbrev pub SheetRoomFirst : Type 0
-SheetRoomFirst = (s o o' : List ℕ) (r : SheetAnswer) → Bytes s → ToSheet s o r o' → (r ≡ sheet.Room) ↔ (length o < 5120)
+SheetRoomFirst = (s o o' : List ℕ) (r : SheetAnswer) → Bytes s → ToSheet s o r o'
+    → (r ≡ sheet.Room) ↔ (length o < 5120)

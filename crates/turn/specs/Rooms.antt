@@ -1,4 +1,5 @@
--- What a call does to the room: "Success writes the first n bytes and tells n; later bytes stay.", and demand 1's "all lent room unaltered".
+-- What a call does to the room: "Success writes the first n bytes and tells n; later bytes stay.", and demand 1's
+-- "all lent room unaltered".
 use Prim.Native.Nat.{ℕ, _≤_}
 use mathlib.Core.Path.{_≡_}
 use mathlib.Core.List.{List}
@@ -34,12 +35,15 @@ SectionIsWritten = (s o o' : List ℕ) (n : ℕ) → Bytes s → ToSection s o (
 -- a sheet was written: that of the content which s has, an accepted section
 abbrev pub SheetIsWritten : Type 0
 SheetIsWritten = (s o o' : List ℕ) (n : ℕ) → Bytes s → ToSheet s o (sheet.Wrote n) o'
-    → (judged s ≡ accepted) × ((c : Content) × (sectionOf c ≡ s) × (contentOf s ≡ value c) × Written 5120 n (sheetOf c) o o')
+    → (judged s ≡ accepted)
+    × ((c : Content) × (sectionOf c ≡ s) × (contentOf s ≡ value c) × Written 5120 n (sheetOf c) o o')
 
 -- a refusal alters nothing
 abbrev pub RefusedSectionUnaltered : Type 0
-RefusedSectionUnaltered = (s o o' : List ℕ) (r : SectionAnswer) (k q : ℕ) → ToSection s o r o' → toldSection r ≡ refused k q → o' ≡ o
+RefusedSectionUnaltered = (s o o' : List ℕ) (r : SectionAnswer) (k q : ℕ) → ToSection s o r o'
+    → toldSection r ≡ refused k q → o' ≡ o
 
 -- the same for a sheet
 abbrev pub RefusedSheetUnaltered : Type 0
-RefusedSheetUnaltered = (s o o' : List ℕ) (r : SheetAnswer) (k q : ℕ) → ToSheet s o r o' → toldSheet r ≡ refused k q → o' ≡ o
+RefusedSheetUnaltered = (s o o' : List ℕ) (r : SheetAnswer) (k q : ℕ) → ToSheet s o r o'
+    → toldSheet r ≡ refused k q → o' ≡ o

@@ -1,4 +1,5 @@
--- section_length from a sheet's length and the number of its entries, as the judge computes it. That it is the length of the section is proved.
+-- section_length from a sheet's length and the number of its entries, as the judge computes it. That it is the length
+-- of the section is proved.
 use Prim.Native.Nat.{ℕ, _+_, _-_, _*_}
 use mathlib.Core.List.{List, [], _∷_}
 use lib.ListN.{length, getD}
@@ -8,7 +9,8 @@ use Rattle.wire.specs.Number.{numberAt}
 use Rattle.wire.specs.Reading.{Reading, value, refused}
 use Rattle.forms.specs.Room.{sum}
 
--- in each entry the sheet has so many bytes more than the section: SDT's flags and both tables' running_status and free_CA_mode
+-- in each entry the sheet has so many bytes more than the section: SDT's flags and both tables' running_status and
+-- free_CA_mode
 unfoldable pub cut : ℕ → ℕ
 cut row = getD (0 ∷ 3 ∷ 0 ∷ 2 ∷ 0 ∷ 0 ∷ []) row 0
 
