@@ -1,10 +1,11 @@
 #!/usr/bin/env python3
-"""The sections that the gate judges: what each is, and what document 01 says of it.
+"""The sections that the gate judges and the loops that it walks over: what each is, and what document 01 says of it.
 
     tests/sections.py            writes crates/judging/stdin and crates/judging/stdout
     tests/sections.py --check    says whether the two are what this file says, and changes nothing
 
-The answers are written by hand, from document 01 and its worked values; the CRC_32 here is a bit at a time.
+The answers are written by hand, from document 01 and its worked values; the CRC_32 here is a bit at a time. A loop is
+put together from descriptors and what stands behind them, and the listing of its walk from the same pieces: no loop is read here.
 """
 import sys
 from pathlib import Path
@@ -164,15 +165,71 @@ CASES = [
 ]
 
 
+def descriptor(tag, body):
+    """A descriptor as broadcast: tag, length, body."""
+    return bytes([tag, len(body)]) + body
+
+
+def walk(descriptors, rest=b"", skipped=0):
+    """A loop of descriptors and of a rest in which none can be read; the place where the walk over it begins, behind as many
+    descriptors as are skipped; and the lines of the walk. Each descriptor is handed out as it was put in, then comes the end or 9."""
+    at = sum(len(d) for d in descriptors[:skipped])
+    start, lines = at, []
+    for d in descriptors[skipped:]:
+        at += len(d)
+        lines.append(f"descriptor, then at {at}: " + " ".join(str(byte) for byte in d))
+    lines.append(f"refused 9 {at}, at {at}" if rest else f"end, at {at}")
+    return start, b"".join(descriptors) + rest, lines
+
+
+EMPTY = descriptor(0x42, b"")
+LONG = descriptor(0x42, bytes(range(255)))
+LAST = descriptor(0xFF, b"\xFF")
+
+WALKS = [
+    # document 01, "Worked values": loop 42 00, one descriptor; loop 42, 9
+    walk([EMPTY]),
+    walk([], b"\x42"),
+    # each in turn, then the end
+    walk([]),
+    walk([NAME]),
+    walk([NAME, LIST, EMPTY]),
+    walk([EMPTY, EMPTY, NAME, LAST]),
+    walk([LONG, NAME]),
+    walk([LIST, LONG]),
+    # from a place behind the first ones
+    walk([NAME, LIST, EMPTY], skipped=1),
+    walk([NAME, LIST, EMPTY], skipped=2),
+    walk([NAME, LIST, EMPTY], skipped=3),
+    # a fault behind some
+    walk([NAME], b"\x41"),
+    walk([NAME, EMPTY], b"\x41\x01"),
+    walk([LIST, NAME], b"\x41\x03\x00\x01"),
+    walk([EMPTY, LIST, NAME], b"\x41\xFF" + bytes(254), skipped=1),
+    # a place beyond the end: none can be read there
+    (6, NAME, ["refused 9 6, at 6"]),
+    (255, b"", ["refused 9 255, at 255"]),
+    # a place within a descriptor: what stands there is read as one, 03 6F of 40 03 6F 6E 65 as a tag and a length that goes past
+    (1, NAME, ["refused 9 1, at 1"]),
+    (3, bytes.fromhex("41 03 00 01 00"), ["descriptor, then at 5: 1 0", "end, at 5"]),
+]
+
+
+def record(kind, byte, data):
+    """A record of the program's input: 0 for a section and a tag, 1 for a loop and a place."""
+    return bytes([kind, byte]) + len(data).to_bytes(2, "big") + data
+
+
 def main():
-    stdin = b"".join(bytes([tag]) + len(data).to_bytes(2, "big") + data for _, tag, data in CASES)
-    stdout = "".join(said + "\n" for said, _, _ in CASES).encode()
+    stdin = b"".join(record(0, tag, data) for _, tag, data in CASES) + b"".join(record(1, at, data) for at, data, _ in WALKS)
+    said = [line for line, _, _ in CASES] + [line for _, _, lines in WALKS for line in lines]
+    stdout = "".join(line + "\n" for line in said).encode()
     if "--check" not in sys.argv:
         (HERE / "stdin").write_bytes(stdin)
         (HERE / "stdout").write_bytes(stdout)
     elif (HERE / "stdin").read_bytes() != stdin or (HERE / "stdout").read_bytes() != stdout:
         sys.exit("sections: crates/judging/stdin and stdout are not what tests/sections.py says: run it")
-    print(f"sections: {len(CASES)} cases")
+    print(f"sections: {len(CASES)} cases, {len(WALKS)} walks")
 
 
 if __name__ == "__main__":

@@ -54,17 +54,35 @@ returns-3 c = search needs
 part-requires : tie.Need-part-requires
 part-requires c κs = search needs
 
+array-read-if4 : tie.Need-array-read-if4
+array-read-if4 c = search needs
+
 array-read-tell : tie.Need-array-read-tell
 array-read-tell c = search needs
 
 tell-requires : tie.Need-tell-requires
 tell-requires c κs = search needs
 
+array-read-wide-3 : tie.Need-array-read-wide-3
+array-read-wide-3 c = search needs
+
+wide-requires-3 : tie.Need-wide-requires-3
+wide-requires-3 c κs = search needs
+
+tell-walk-requires : tie.Need-tell-walk-requires
+tell-walk-requires c κs = search needs
+
 same-length-2 : tie.Need-same-length-2
 same-length-2 c = search needs
 
 returns-4 : tie.Need-returns-4
 returns-4 c = search needs
+
+same-length-3 : tie.Need-same-length-3
+same-length-3 c = search needs
+
+returns-5 : tie.Need-returns-5
+returns-5 c = search needs
 
 pub turn-spec : {M : Type 1} → statement M
 turn-spec =
@@ -86,7 +104,13 @@ turn-spec =
     same-length
     returns-3
     part-requires
+    array-read-if4
     array-read-tell
     tell-requires
+    array-read-wide-3
+    wide-requires-3
+    tell-walk-requires
     same-length-2
-    returns-4)
+    returns-4
+    same-length-3
+    returns-5)
