@@ -54,7 +54,8 @@ def packed(sections, counter, pid=PID):
     return out, counter
 
 
-def stream():
+def stream(count=60):
+    """Each table once and then so many sections chosen among them, as packets with what happens to streams."""
     rng = random.Random(412)
     tables = [
         made.nit(top=made.loop(made.NAME), second=made.loop(made.entry(made.LIST) * 20)),
@@ -65,7 +66,7 @@ def stream():
         made.TDT,
         made.tot(made.loop(bytes.fromhex("580D4742520200 00C0791245000100"))),
     ]
-    chosen = [rng.choice(tables) for _ in range(60)]
+    chosen = [rng.choice(tables) for _ in range(count)]
     packets, _ = packed(tables + chosen, 0)
     out = []
     for i, p in enumerate(packets):

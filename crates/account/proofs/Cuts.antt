@@ -16,7 +16,10 @@ pieces-add zero m l =
 pieces-add (suc q) m l =
     let more : 188 + q * 188 ≡ suc q * 188 = omega arith in
     ap (λ (n : ℕ). pieces n l) (suc-add q m)
-    ∙ ap (λ (x : List (List ℕ)). take 188 l ∷ x) (pieces-add q m (drop 188 l) ∙ ap (λ (x : List ℕ). pieces q (drop 188 l) ++ pieces m x) (drop-drop (q * 188) 188 l ∙ ap (λ (n : ℕ). drop n l) more))
+    ∙ ap (λ (x : List (List ℕ)). take 188 l ∷ x)
+    (pieces-add q m (drop 188 l)
+    ∙ ap (λ (x : List ℕ). pieces q (drop 188 l) ++ pieces m x)
+    (drop-drop (q * 188) 188 l ∙ ap (λ (n : ℕ). drop n l) more))
 
 -- only whole pieces are looked at
 pub pieces-front : (q : ℕ) (a b : List ℕ) → q * 188 ≤ length a → pieces q (a ++ b) ≡ pieces q a
@@ -38,7 +41,8 @@ module _ (input more hold out : List ℕ) where
   pub rest-more : drop (length input - length input % 188) (input ++ more) ≡ restOf input ++ more
   rest-more = drop-append-le (length input - length input % 188) input more (omega arith)
 
-  pub pieces-more : pieces (length (input ++ more) / 188) (input ++ more) ≡ pieces (length input / 188) input ++ pieces ((length input % 188 + length more) / 188) (restOf input ++ more)
+  pub pieces-more : pieces (length (input ++ more) / 188) (input ++ more)
+      ≡ pieces (length input / 188) input ++ pieces ((length input % 188 + length more) / 188) (restOf input ++ more)
   pieces-more =
       let q : ℕ = length input / 188 in
       let m : ℕ = (length input % 188 + length more) / 188 in
@@ -46,19 +50,26 @@ module _ (input more hold out : List ℕ) where
       let at : q * 188 ≡ length input - length input % 188 = omega arith in
       ap (λ (n : ℕ). pieces n (input ++ more)) count
       ∙ pieces-add q m (input ++ more)
-      ∙ ap (λ (x : List (List ℕ)). x ++ pieces m (drop (q * 188) (input ++ more))) (pieces-front q input more (omega arith))
+      ∙ ap (λ (x : List (List ℕ)). x ++ pieces m (drop (q * 188) (input ++ more)))
+      (pieces-front q input more (omega arith))
       ∙ ap (λ (n : ℕ). pieces q input ++ pieces m (drop n (input ++ more))) at
       ∙ ap (λ (x : List ℕ). pieces q input ++ pieces m x) rest-more
 
   -- an input that has begun goes on
-  pub account-more : 188 ≤ length input → accountOf (input ++ more) hold out ≡ enteredAll (accountOf input hold out) (pieces ((length input % 188 + length more) / 188) (restOf input ++ more))
+  pub account-more : 188 ≤ length input
+      → accountOf (input ++ more) hold out
+      ≡ enteredAll (accountOf input hold out) (pieces ((length input % 188 + length more) / 188) (restOf input ++ more))
   account-more k =
-      ap (λ (n : ℕ). enteredAll (keptAs (freshAccount n) hold out) (pieces (length (input ++ more) / 188) (input ++ more))) (pid-front input more k)
+      ap (λ (n : ℕ). enteredAll (keptAs (freshAccount n) hold out)
+      (pieces (length (input ++ more) / 188) (input ++ more)))
+      (pid-front input more k)
       ∙ ap (enteredAll (keptAs (freshAccount (firstPid input)) hold out)) pieces-more
-      ∙ entered-append (keptAs (freshAccount (firstPid input)) hold out) (pieces (length input / 188) input) (pieces ((length input % 188 + length more) / 188) (restOf input ++ more))
+      ∙ entered-append (keptAs (freshAccount (firstPid input)) hold out) (pieces (length input / 188) input)
+      (pieces ((length input % 188 + length more) / 188) (restOf input ++ more))
 
 -- an input of less than a packet has changed nothing
-pub account-none : (input hold out : List ℕ) → length input < 188 → accountOf input hold out ≡ keptAs (freshAccount (firstPid input)) hold out
+pub account-none : (input hold out : List ℕ) → length input < 188
+    → accountOf input hold out ≡ keptAs (freshAccount (firstPid input)) hold out
 account-none input hold out k =
     let none : length input / 188 ≡ 0 = omega arith in
     ap (λ (n : ℕ). enteredAll (keptAs (freshAccount (firstPid input)) hold out) (pieces n input)) none

@@ -32,7 +32,8 @@ got-in (pos (suc n)) error size = omega arith
 got-in (negsuc n) error size = failed-in size error
 
 pub got-in-by : (answer error : ℤ) {n : ℕ} {g : Got} (size : ℕ) → g ≡ gotAs answer error n → n ≡ size → GotIn size g
-got-in-by answer error {n} {g} size e k = subst (λ (m : ℕ). GotIn m g) k (subst (GotIn n) (sym e) (got-in answer error n))
+got-in-by answer error {n} {g} size e k =
+    subst (λ (m : ℕ). GotIn m g) k (subst (GotIn n) (sym e) (got-in answer error n))
 
 -- ---- the tests by which the code tells them apart
 
@@ -50,7 +51,8 @@ module _ (answer error : ℤ) (size : ℕ) (f : SFits w64 answer) where
   bytes-if (pos (suc m)) n k e = ap Bytes e
   bytes-if (negsuc m) n k e = absurd (true-not-false (sym k))
 
-  pub got-bytes : (n : ℕ) → ltZ (pos 0) (here answer) ≡ true → n ≡ clamped (here answer) size → Bytes n ≡ gotAs answer error size
+  pub got-bytes : (n : ℕ) → ltZ (pos 0) (here answer) ≡ true → n ≡ clamped (here answer) size
+      → Bytes n ≡ gotAs answer error size
   got-bytes n k e = bytes-if (here answer) n k e ∙ ap (λ (z : ℤ). gotAs z error size) is
 
   end-if : (z : ℤ) → SFits w64 z → ofZ w64 z ≡ 0 → End ≡ gotAs z error size
@@ -66,7 +68,8 @@ module _ (answer error : ℤ) (size : ℕ) (f : SFits w64 answer) where
   failed-if (pos (suc m)) k e = absurd (true-not-false (sym (lt-ltb 0 (suc m) (omega arith)) ∙ k))
   failed-if (negsuc m) k e = refl
 
-  pub got-failed : ltZ (pos 0) (here answer) ≡ false → (ofZ w64 answer ≡ 0 → ⊥) → failedAs error ≡ gotAs answer error size
+  pub got-failed : ltZ (pos 0) (here answer) ≡ false → (ofZ w64 answer ≡ 0 → ⊥)
+      → failedAs error ≡ gotAs answer error size
   got-failed k e = failed-if answer (subst (λ (z : ℤ). ltZ (pos 0) z ≡ false) is k) e
 
 pub got-again : (error : ℤ) → SFits w32 error → ofZ w32 error ≡ 4 → Again ≡ failedAs error

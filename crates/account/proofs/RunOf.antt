@@ -1,8 +1,9 @@
--- Entering packets from a fresh account is a run of the collector, and what the account counts is what the calls of that run say.
+-- Entering packets from a fresh account is a run of the collector, and what the account counts is what the calls of that
+-- run say.
 use mathlib.Core.Path.{_≡_, refl, sym, ap, _∙_, subst}
 use mathlib.Core.Bool.{Bool, _||_, not}
 use mathlib.Core.List.{List, [], _∷_, _++_, map, flatten}
-use mathlib.Core.Option.{Option, none}
+use mathlib.Core.Option.{Option}
 use Prim.Native.Nat.{ℕ, zero, suc, _+_, _%_, _^_, _≤_}
 use native.Mathlib.Omega.{arith}
 use lib.Dec.{ltb, eqb}
@@ -14,7 +15,7 @@ use Rattle.collector.specs.Refusals as Refusals
 use Rattle.collector.specs.Answer.{Told, refused, repeated, taken, Outcome}
 use Rattle.collector.specs.Collected.{over, outcomeOf, collected}
 use Rattle.collector.specs.declared.Record.{Record}
-use Rattle.history.specs.Run.{Promised, Call, Run, no-call, one-call, Fare, fareOf, ruledFare, Lent, lentOf, lastAfter, carriedBy, rulingOn, faresFrom, takenFrom, cut, handedBy, handed}
+use Rattle.history.specs.Run.{Promised, Call, Run, no-call, one-call, Fare, fareOf, ruledFare, lentOf, lastAfter, carriedBy, rulingOn, faresFrom, takenFrom, cut, handedBy, handed}
 use Rattle.account.specs.Entered.{Kept, tallied, entered, enteredAll}
 use Rattle.account.specs.Lines.{lent, oneTaken, oneRepeated, oneRefused, total}
 use Rattle.account.specs.declared.tally.Account.{Account}
@@ -40,12 +41,16 @@ tallied-rec a r (refused n) = refl
 tallied-rec a r repeated = refl
 tallied-rec a r (taken n b) = refl
 
-pub runs : (k : Kept) (ps : List (List ℕ)) → Run Promised (k .account .rec) (k .hold) (callsFrom k ps) (enteredAll k ps .account .rec) (enteredAll k ps .hold)
+pub runs : (k : Kept) (ps : List (List ℕ))
+    → Run Promised (k .account .rec) (k .hold) (callsFrom k ps) (enteredAll k ps .account .rec) (enteredAll k ps .hold)
 runs k [] = no-call
 runs k (p ∷ ps) =
     let o : Outcome = outcome k p in
     one-call refl
-    (subst (λ (r : Record). Run Promised r (o .hold) (callsFrom (entered k p) ps) (enteredAll (entered k p) ps .account .rec) (enteredAll (entered k p) ps .hold)) (tallied-rec (k .account) (o .rec) (o .said)) (runs (entered k p) ps))
+    (subst
+    (λ (r : Record). Run Promised r (o .hold) (callsFrom (entered k p) ps)
+    (enteredAll (entered k p) ps .account .rec) (enteredAll (entered k p) ps .hold))
+    (tallied-rec (k .account) (o .rec) (o .said)) (runs (entered k p) ps))
 
 -- the PID stays
 outcome-pid : (r : Record) (hold out : List ℕ) (z : Ruling) → outcomeOf r hold out z .rec .pid ≡ r .pid
@@ -60,7 +65,8 @@ pid-stays k (p ∷ ps) =
     let r : Record = k .account .rec in
     pid-stays (entered k p) ps
     ∙ ap (λ (z : Record). z .pid) (tallied-rec (k .account) (outcome k p .rec) (outcome k p .said))
-    ∙ outcome-pid r (k .hold) (k .out) (ruling (cannotStand r (k .hold)) (r .pid) (lastOf (r .last)) (length (k .hold)) (length (k .out)) p)
+    ∙ outcome-pid r (k .hold) (k .out)
+    (ruling (cannotStand r (k .hold)) (r .pid) (lastOf (r .last)) (length (k .hold)) (length (k .out)) p)
 
 -- ---- what the account counts
 
@@ -82,10 +88,26 @@ same : (a n : ℕ) → a ≡ n % 2 ^ 64 → a ≡ (n + 0) % 2 ^ 64
 same a n e = omega arith
 
 tally-one : (a : Account) (t r f s : ℕ) → Tally a t r f s → (rec : Record) (said : Told)
-    → Tally (tallied a rec said) (t + oneTaken (fareOf said)) (r + oneRepeated (fareOf said)) (f + oneRefused (fareOf said)) (s + sectionsBy said)
-tally-one a t r f s x rec (refused n) = record { taken-is = same _ t (x .taken-is); repeated-is = same _ r (x .repeated-is); refused-is = more _ f 1 (x .refused-is); sections-is = same _ s (x .sections-is) }
-tally-one a t r f s x rec repeated = record { taken-is = same _ t (x .taken-is); repeated-is = more _ r 1 (x .repeated-is); refused-is = same _ f (x .refused-is); sections-is = same _ s (x .sections-is) }
-tally-one a t r f s x rec (taken n b) = record { taken-is = more _ t 1 (x .taken-is); repeated-is = same _ r (x .repeated-is); refused-is = same _ f (x .refused-is); sections-is = more _ s n (x .sections-is) }
+    → Tally (tallied a rec said) (t + oneTaken (fareOf said)) (r + oneRepeated (fareOf said))
+    (f + oneRefused (fareOf said)) (s + sectionsBy said)
+tally-one a t r f s x rec (refused n) = record {
+  taken-is = same _ t (x .taken-is);
+  repeated-is = same _ r (x .repeated-is);
+  refused-is = more _ f 1 (x .refused-is);
+  sections-is = same _ s (x .sections-is);
+}
+tally-one a t r f s x rec repeated = record {
+  taken-is = same _ t (x .taken-is);
+  repeated-is = more _ r 1 (x .repeated-is);
+  refused-is = same _ f (x .refused-is);
+  sections-is = same _ s (x .sections-is);
+}
+tally-one a t r f s x rec (taken n b) = record {
+  taken-is = more _ t 1 (x .taken-is);
+  repeated-is = same _ r (x .repeated-is);
+  refused-is = same _ f (x .refused-is);
+  sections-is = more _ s n (x .sections-is);
+}
 
 -- as many sections come out as the answer says
 length-cut : (n : ℕ) (bs : List ℕ) → length (cut n bs) ≡ n
@@ -101,19 +123,37 @@ abbrev pub faresBy : List Call → List Fare
 faresBy ks = map (λ c. fareOf (c .said)) ks
 
 pub tally-all : (k : Kept) (ps : List (List ℕ)) (t r f s : ℕ) → Tally (k .account) t r f s
-    → Tally (enteredAll k ps .account) (t + total oneTaken (faresBy (callsFrom k ps))) (r + total oneRepeated (faresBy (callsFrom k ps))) (f + total oneRefused (faresBy (callsFrom k ps))) (s + length (handed (callsFrom k ps)))
-tally-all k [] t r f s x = record { taken-is = same _ t (x .taken-is); repeated-is = same _ r (x .repeated-is); refused-is = same _ f (x .refused-is); sections-is = same _ s (x .sections-is) }
+    → Tally (enteredAll k ps .account) (t + total oneTaken (faresBy (callsFrom k ps)))
+    (r + total oneRepeated (faresBy (callsFrom k ps))) (f + total oneRefused (faresBy (callsFrom k ps)))
+    (s + length (handed (callsFrom k ps)))
+tally-all k [] t r f s x = record {
+  taken-is = same _ t (x .taken-is);
+  repeated-is = same _ r (x .repeated-is);
+  refused-is = same _ f (x .refused-is);
+  sections-is = same _ s (x .sections-is);
+}
 tally-all k (p ∷ ps) t r f s x =
     let said : Told = outcome k p .said in
     let ks : List Call = callsFrom (entered k p) ps in
-    let y = tally-all (entered k p) ps (t + oneTaken (fareOf said)) (r + oneRepeated (fareOf said)) (f + oneRefused (fareOf said)) (s + sectionsBy said) (tally-one (k .account) t r f s x (outcome k p .rec) said) in
+    let y = tally-all (entered k p) ps (t + oneTaken (fareOf said)) (r + oneRepeated (fareOf said))
+    (f + oneRefused (fareOf said)) (s + sectionsBy said)
+    (tally-one (k .account) t r f s x (outcome k p .rec) said) in
     let handed-all : length (handed (callsFrom k (p ∷ ps))) ≡ sectionsBy said + length (handed ks) =
-        length-append (handedBy said (outcome k p .out)) (handed ks) ∙ ap (λ (n : ℕ). n + length (handed ks)) (handed-by said (outcome k p .out)) in
+    length-append (handedBy said (outcome k p .out)) (handed ks)
+    ∙ ap (λ (n : ℕ). n + length (handed ks)) (handed-by said (outcome k p .out)) in
     record {
-      taken-is = y .taken-is ∙ ap (λ (n : ℕ). n % 2 ^ 64) (assoc t (oneTaken (fareOf said)) (total oneTaken (faresBy ks)));
-      repeated-is = y .repeated-is ∙ ap (λ (n : ℕ). n % 2 ^ 64) (assoc r (oneRepeated (fareOf said)) (total oneRepeated (faresBy ks)));
-      refused-is = y .refused-is ∙ ap (λ (n : ℕ). n % 2 ^ 64) (assoc f (oneRefused (fareOf said)) (total oneRefused (faresBy ks)));
-      sections-is = y .sections-is ∙ ap (λ (n : ℕ). n % 2 ^ 64) (assoc s (sectionsBy said) (length (handed ks)) ∙ ap (λ (n : ℕ). s + n) (sym handed-all));
+      taken-is =
+          y .taken-is ∙ ap (λ (n : ℕ). n % 2 ^ 64) (assoc t (oneTaken (fareOf said)) (total oneTaken (faresBy ks)));
+      repeated-is =
+          y .repeated-is
+          ∙ ap (λ (n : ℕ). n % 2 ^ 64) (assoc r (oneRepeated (fareOf said)) (total oneRepeated (faresBy ks)));
+      refused-is =
+          y .refused-is
+          ∙ ap (λ (n : ℕ). n % 2 ^ 64) (assoc f (oneRefused (fareOf said)) (total oneRefused (faresBy ks)));
+      sections-is =
+          y .sections-is
+          ∙ ap (λ (n : ℕ). n % 2 ^ 64)
+          (assoc s (sectionsBy said) (length (handed ks)) ∙ ap (λ (n : ℕ). s + n) (sym handed-all));
     }
   where
     assoc : (a b c : ℕ) → a + b + c ≡ a + (b + c)
@@ -121,17 +161,24 @@ tally-all k (p ∷ ps) t r f s x =
 
 -- ---- a room that is large enough: its size counts for nothing
 
-room-enough : (pid size : ℕ) (last : Option ℕ) (p : List ℕ) (n : ℕ) → 4280 ≤ n → rulingOn pid size last (record { packet = p; room = n }) ≡ rulingOn pid size last (lent p)
+room-enough : (pid size : ℕ) (last : Option ℕ) (p : List ℕ) (n : ℕ) → 4280 ≤ n
+    → rulingOn pid size last (record { packet = p; room = n }) ≡ rulingOn pid size last (lent p)
 unfolding judged
 room-enough pid size last p n k =
-    ap (λ (t : Bool). ruledBy last p (judgedBy (firstOf (41 when not (eqb (length p) 188) ∷ 42 when (ltb size 4096 || t) ∷ 43 when ltb 8191 pid ∷ headerRefusals pid p)) p)) (le-ltb n 4280 k ∙ sym (le-ltb 4280 4280 (omega arith)))
+    ap (λ (t : Bool). ruledBy last p
+    (judgedBy
+    (firstOf (41 when not (eqb (length p) 188) ∷ 42 when (ltb size 4096 || t) ∷ 43 when ltb 8191 pid
+    ∷ headerRefusals pid p))
+    p))
+    (le-ltb n 4280 k ∙ sym (le-ltb 4280 4280 (omega arith)))
 
 -- an out room grows only
 outcome-room : (r : Record) (hold out : List ℕ) (z : Ruling) → length out ≤ length (outcomeOf r hold out z .out)
 outcome-room r hold out (Refusals.refused n) = omega arith
 outcome-room r hold out Refusals.repeated = omega arith
 outcome-room r hold out Refusals.bare = omega arith
-outcome-room r hold out (Refusals.takes q) = over-room (flatten (takenIn plain (lastOf (r .last)) (holding (take (r .in_hand) hold)) q .sections)) out
+outcome-room r hold out (Refusals.takes q) =
+    over-room (flatten (takenIn plain (lastOf (r .last)) (holding (take (r .in_hand) hold)) q .sections)) out
   where
     over-room : (bs room : List ℕ) → length room ≤ length (over bs room)
     over-room bs room = omega (arith, length-append bs (drop (length bs) room), length-drop (length bs) room)
@@ -139,20 +186,25 @@ outcome-room r hold out (Refusals.takes q) = over-room (flatten (takenIn plain (
 room-after : (k : Kept) (p : List ℕ) → 4280 ≤ length (k .out) → 4280 ≤ length (entered k p .out)
 room-after k p w =
     let r : Record = k .account .rec in
-    let o = outcome-room r (k .hold) (k .out) (ruling (cannotStand r (k .hold)) (r .pid) (lastOf (r .last)) (length (k .hold)) (length (k .out)) p) in
+    let o = outcome-room r (k .hold) (k .out)
+    (ruling (cannotStand r (k .hold)) (r .pid) (lastOf (r .last)) (length (k .hold)) (length (k .out)) p) in
     omega arith
 
 module _ (pid size : ℕ) where
-  pub fares-are : (k : Kept) (ps : List (List ℕ)) → 4280 ≤ length (k .out) → (last : Option ℕ) → faresFrom pid size last (map lentOf (callsFrom k ps)) ≡ faresFrom pid size last (map lent ps)
+  pub fares-are : (k : Kept) (ps : List (List ℕ)) → 4280 ≤ length (k .out) → (last : Option ℕ)
+      → faresFrom pid size last (map lentOf (callsFrom k ps)) ≡ faresFrom pid size last (map lent ps)
   fares-are k [] w last = refl
   fares-are k (p ∷ ps) w last =
       let e = room-enough pid size last p (length (k .out)) w in
       (λ i. ruledFare (e i) ∷ faresFrom pid size (lastAfter last (e i)) (map lentOf (callsFrom (entered k p) ps)))
-      ∙ ap (λ (l : List Fare). ruledFare (rulingOn pid size last (lent p)) ∷ l) (fares-are (entered k p) ps (room-after k p w) (lastAfter last (rulingOn pid size last (lent p))))
+      ∙ ap (λ (l : List Fare). ruledFare (rulingOn pid size last (lent p)) ∷ l)
+      (fares-are (entered k p) ps (room-after k p w) (lastAfter last (rulingOn pid size last (lent p))))
 
-  pub taken-are : (k : Kept) (ps : List (List ℕ)) → 4280 ≤ length (k .out) → (last : Option ℕ) → takenFrom pid size last (map lentOf (callsFrom k ps)) ≡ takenFrom pid size last (map lent ps)
+  pub taken-are : (k : Kept) (ps : List (List ℕ)) → 4280 ≤ length (k .out) → (last : Option ℕ)
+      → takenFrom pid size last (map lentOf (callsFrom k ps)) ≡ takenFrom pid size last (map lent ps)
   taken-are k [] w last = refl
   taken-are k (p ∷ ps) w last =
       let e = room-enough pid size last p (length (k .out)) w in
       (λ i. carriedBy (e i) ++ takenFrom pid size (lastAfter last (e i)) (map lentOf (callsFrom (entered k p) ps)))
-      ∙ ap (λ (l : List (Carried ℕ)). carriedBy (rulingOn pid size last (lent p)) ++ l) (taken-are (entered k p) ps (room-after k p w) (lastAfter last (rulingOn pid size last (lent p))))
+      ∙ ap (λ (l : List (Carried ℕ)). carriedBy (rulingOn pid size last (lent p)) ++ l)
+      (taken-are (entered k p) ps (room-after k p w) (lastAfter last (rulingOn pid size last (lent p))))

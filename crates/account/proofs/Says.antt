@@ -1,4 +1,5 @@
--- What the program says of the input that it read: the account is a run of the collector, and its lines are demand 3's counts.
+-- What the program says of the input that it read: the account is a run of the collector, and its lines are demand 3's
+-- counts.
 use mathlib.Core.Path.{_≡_, refl, sym, ap, _∙_, subst}
 use mathlib.Core.Bool.{Bool, true, false, not, _||_}
 use mathlib.Core.List.{List, [], _∷_, _++_, map, map-append, flatten, append-assoc, append-nil}
@@ -18,12 +19,12 @@ use Rattle.collector.specs.Collected.{freshRecord}
 use Rattle.collector.proofs.Marks.{flatten-append, flatten-one}
 use Rattle.history.specs.History.{Byte, valueOf, historyOf}
 use Rattle.history.specs.Run.{Promised, Call, Run, Fare, refused, ruledFare, Lent, lentOf, lastAfter, rulingOn, faresFrom, takenFrom, handed}
-use Rattle.history.specs.Demand3.{Counted, HandedOut, storyBy}
+use Rattle.history.specs.Demand3.{Counted, storyBy}
 use Rattle.history.proofs.Demand3.{by-packets-alone, counters-are-fates, delivered-in-order}
 use Rattle.account.specs.Entered.{firstPid, freshAccount, Kept, keptAs, entered, enteredAll, pieces}
 use Rattle.account.specs.Heard.{State, endedOf}
 use Rattle.account.specs.Input.{Heard, none-yet, one-more, CameTo, accountOf, restOf, wholeAccount, endOf}
-use Rattle.account.specs.Lines.{packetsOf, Cut, CutAt188, pidIn, lent, lentIn, faresIn, LastPieceRefused, storyIn, oneTaken, oneRepeated, oneRefused, total, Lines, IsRun, Says}
+use Rattle.account.specs.Lines.{packetsOf, Cut, CutAt188, pidIn, lent, faresIn, LastPieceRefused, storyIn, oneTaken, oneRepeated, oneRefused, total, Lines, IsRun, Says}
 use Rattle.account.specs.declared.tally.Account.{Account}
 use Rattle.account.specs.declared.place.Place.{Place}
 use Rattle.account.specs.declared.place.Stage.the-variants.{Over}
@@ -43,7 +44,8 @@ pieces-join zero l = refl
 pieces-join (suc n) l =
     let behind : suc n * 188 ≡ 188 + n * 188 = omega arith in
     append-assoc (take 188 l) (flatten (pieces n (drop 188 l))) (drop (suc n * 188) l)
-    ∙ ap (λ (m : List ℕ). take 188 l ++ (flatten (pieces n (drop 188 l)) ++ m)) (ap (λ (m : ℕ). drop m l) behind ∙ sym (drop-drop (n * 188) 188 l))
+    ∙ ap (λ (m : List ℕ). take 188 l ++ (flatten (pieces n (drop 188 l)) ++ m))
+    (ap (λ (m : ℕ). drop m l) behind ∙ sym (drop-drop (n * 188) 188 l))
     ∙ ap (λ (m : List ℕ). take 188 l ++ m) (pieces-join n (drop 188 l))
     ∙ take-append-drop 188 l
 
@@ -53,14 +55,17 @@ cut-cons p (q ∷ ps) e c = (e, c)
 
 cut-pieces : (n : ℕ) (l : List ℕ) (ps : List (List ℕ)) → n * 188 ≤ length l → Cut ps → Cut (pieces n l ++ ps)
 cut-pieces zero l ps k c = c
-cut-pieces (suc n) l ps k c = cut-cons (take 188 l) (pieces n (drop 188 l) ++ ps) (length-take-le 188 l (omega arith)) (cut-pieces n (drop 188 l) ps (omega (arith, length-drop 188 l)) c)
+cut-pieces (suc n) l ps k c =
+    cut-cons (take 188 l) (pieces n (drop 188 l) ++ ps) (length-take-le 188 l (omega arith))
+    (cut-pieces n (drop 188 l) ps (omega (arith, length-drop 188 l)) c)
 
 no-bytes : (l : List ℕ) → length l ≡ 0 → [] ≡ l
 no-bytes [] e = refl
 no-bytes (b ∷ l) e = absurd (omega arith)
 
 -- what is behind the whole pieces, as a piece if there is any
-last-cut : (l : List ℕ) (t : Bool) → eqb (length l) 0 ≡ t → length l < 188 → (flatten (if t then [] else l ∷ []) ≡ l) × Cut (if t then [] else l ∷ [])
+last-cut : (l : List ℕ) (t : Bool) → eqb (length l) 0 ≡ t → length l < 188
+    → (flatten (if t then [] else l ∷ []) ≡ l) × Cut (if t then [] else l ∷ [])
 unfolding flatten
 last-cut l true e k = (no-bytes l (eqb-true _ _ e), tt)
 last-cut l false e k = (flatten-one l, (omega (arith, eqb-false (length l) 0 e), omega arith))
@@ -68,45 +73,59 @@ last-cut l false e k = (flatten-one l, (omega (arith, eqb-false (length l) 0 e),
 pub cut-at-188 : CutAt188
 cut-at-188 input =
     let n : ℕ = length input / 188 in
-    let size : length (restOf input) ≡ length input % 188 = omega (arith, length-drop (length input - length input % 188) input) in
+    let size : length (restOf input) ≡ length input % 188 =
+    omega (arith, length-drop (length input - length input % 188) input) in
     let at : length input - length input % 188 ≡ n * 188 = omega arith in
-    let end = last-cut (restOf input) (eqb (length input % 188) 0) (ap (λ (m : ℕ). eqb m 0) size) (omega arith) in
-    (
+    let end = last-cut (restOf input) (eqb (length input % 188) 0) (ap (λ (m : ℕ). eqb m 0) size) (omega arith) in (
       flatten-append (pieces n input) (if eqb (length input % 188) 0 then [] else restOf input ∷ [])
-      ∙ ap (λ (m : List ℕ). flatten (pieces n input) ++ m) (end .0 ∙ ap (λ (m : ℕ). drop m input) at)
-      ∙ pieces-join n input,
+          ∙ ap (λ (m : List ℕ). flatten (pieces n input) ++ m) (end .0 ∙ ap (λ (m : ℕ). drop m input) at)
+          ∙ pieces-join n input,
       cut-pieces n input (if eqb (length input % 188) 0 then [] else restOf input ∷ []) (omega arith) (end .1),
     )
 
 -- ---- a last piece
 
-short-refused : (pid size : ℕ) (last : Option ℕ) (x : Lent) → (length (x .packet) ≡ 188 → ⊥) → ruledFare (rulingOn pid size last x) ≡ refused 41
+short-refused : (pid size : ℕ) (last : Option ℕ) (x : Lent) → (length (x .packet) ≡ 188 → ⊥)
+    → ruledFare (rulingOn pid size last x) ≡ refused 41
 unfolding judged
 short-refused pid size last x k =
     let p : List ℕ = x .packet in
-    ap (λ (t : Bool). ruledFare (ruledBy last p (judgedBy (firstOf (41 when not t ∷ 42 when (ltb size 4096 || ltb (x .room) 4280) ∷ 43 when ltb 8191 pid ∷ headerRefusals pid p)) p))) (ne-eqb (length p) 188 k)
+    ap (λ (t : Bool). ruledFare (ruledBy last p
+    (judgedBy
+    (firstOf (41 when not t ∷ 42 when (ltb size 4096 || ltb (x .room) 4280) ∷ 43 when ltb 8191 pid
+    ∷ headerRefusals pid p))
+    p)))
+    (ne-eqb (length p) 188 k)
 
-fares-short : (pid size : ℕ) (last : Option ℕ) (xs : List Lent) (x : Lent) → (length (x .packet) ≡ 188 → ⊥) → faresFrom pid size last (xs ++ x ∷ []) ≡ faresFrom pid size last xs ++ (refused 41 ∷ [])
+fares-short : (pid size : ℕ) (last : Option ℕ) (xs : List Lent) (x : Lent) → (length (x .packet) ≡ 188 → ⊥)
+    → faresFrom pid size last (xs ++ x ∷ []) ≡ faresFrom pid size last xs ++ (refused 41 ∷ [])
 fares-short pid size last [] x k = ap (λ (f : Fare). f ∷ []) (short-refused pid size last x k)
-fares-short pid size last (y ∷ xs) x k = ap (λ (l : List Fare). ruledFare (rulingOn pid size last y) ∷ l) (fares-short pid size (lastAfter last (rulingOn pid size last y)) xs x k)
+fares-short pid size last (y ∷ xs) x k =
+    ap (λ (l : List Fare). ruledFare (rulingOn pid size last y) ∷ l)
+    (fares-short pid size (lastAfter last (rulingOn pid size last y)) xs x k)
 
 pub last-piece-refused : LastPieceRefused
 last-piece-refused input k =
     let whole : List (List ℕ) = pieces (length input / 188) input in
-    let short : length (restOf input) ≡ 188 → ⊥ = λ e. let d = length-drop (length input - length input % 188) input in omega arith in
-    ap (λ (t : Bool). faresFrom (pidIn input) 4096 none (map lent (whole ++ (if t then [] else restOf input ∷ [])))) (ne-eqb (length input % 188) 0 k)
+    let short : length (restOf input) ≡ 188 → ⊥ = λ e. let d =
+    length-drop (length input - length input % 188) input in omega arith in
+    ap (λ (t : Bool). faresFrom (pidIn input) 4096 none (map lent (whole ++ (if t then [] else restOf input ∷ []))))
+    (ne-eqb (length input % 188) 0 k)
     ∙ ap (faresFrom (pidIn input) 4096 none) (map-append lent whole (restOf input ∷ []))
     ∙ fares-short (pidIn input) 4096 none (map lent whole) (lent (restOf input)) short
 
 -- ---- the account
 
-module _ (input hold₀ out₀ : List ℕ) (enough : 188 ≤ length input) (hold-is : length hold₀ ≡ 4096) (out-is : length out₀ ≡ 4280) where
+module _ (input hold₀ out₀ : List ℕ) (enough : 188 ≤ length input) (hold-is : length hold₀ ≡ 4096)
+    (out-is : length out₀ ≡ 4280) where
   abbrev from : Kept
   from = keptAs (freshAccount (pidIn input)) hold₀ out₀
 
   -- the PID is that of the first packet
   first-pid-is : firstPid input ≡ pidIn input
-  first-pid-is = ap firstPid (sym (take-append-drop 188 input)) ∙ pid-front (take 188 input) (drop 188 input) (omega (arith, length-take-le 188 input enough))
+  first-pid-is =
+      ap firstPid (sym (take-append-drop 188 input))
+      ∙ pid-front (take 188 input) (drop 188 input) (omega (arith, length-take-le 188 input enough))
 
   abbrev whole : List (List ℕ)
   whole = pieces (length input / 188) input
@@ -117,9 +136,14 @@ module _ (input hold₀ out₀ : List ℕ) (enough : 188 ≤ length input) (hold
       is : accountOf input hold₀ out₀ ≡ enteredAll from whole
       is = ap (λ (n : ℕ). enteredAll (keptAs (freshAccount n) hold₀ out₀) whole) first-pid-is
 
-      by : (t : Bool) → (if t then accountOf input hold₀ out₀ .account else entered (accountOf input hold₀ out₀) (restOf input) .account) ≡ enteredAll from (whole ++ (if t then [] else restOf input ∷ [])) .account
+      by : (t : Bool)
+          → (if t then accountOf input hold₀ out₀ .account else entered (accountOf input hold₀ out₀)
+          (restOf input) .account)
+          ≡ enteredAll from (whole ++ (if t then [] else restOf input ∷ [])) .account
       by true = ap (λ (k : Kept). k .account) (is ∙ ap (enteredAll from) (sym (append-nil whole)))
-      by false = ap (λ (k : Kept). entered k (restOf input) .account) is ∙ ap (λ (k : Kept). k .account) (sym (entered-append from whole (restOf input ∷ [])))
+      by false =
+          ap (λ (k : Kept). entered k (restOf input) .account) is
+          ∙ ap (λ (k : Kept). k .account) (sym (entered-append from whole (restOf input ∷ [])))
 
   abbrev after : Kept
   after = enteredAll from (packetsOf input)
@@ -141,10 +165,14 @@ module _ (input hold₀ out₀ : List ℕ) (enough : 188 ≤ length input) (hold
   story : storyBy (pidIn input) hold₀ calls ≡ storyIn input
   story =
       ap (λ (qs : List (Carried ℕ)). historyOf qs .story)
-      (ap (λ (n : ℕ). takenFrom (pidIn input) n none (map lentOf calls)) hold-is ∙ taken-are (pidIn input) 4096 from (packetsOf input) (omega arith) none)
+      (ap (λ (n : ℕ). takenFrom (pidIn input) n none (map lentOf calls)) hold-is
+      ∙ taken-are (pidIn input) 4096 from (packetsOf input) (omega arith) none)
 
-  tally : Tally (after .account) (0 + total oneTaken (faresBy calls)) (0 + total oneRepeated (faresBy calls)) (0 + total oneRefused (faresBy calls)) (0 + length (handed calls))
-  tally = tally-all from (packetsOf input) 0 0 0 0 (record { taken-is = refl; repeated-is = refl; refused-is = refl; sections-is = refl })
+  tally : Tally (after .account) (0 + total oneTaken (faresBy calls)) (0 + total oneRepeated (faresBy calls))
+      (0 + total oneRefused (faresBy calls)) (0 + length (handed calls))
+  tally =
+      tally-all from (packetsOf input) 0 0 0 0
+      (record { taken-is = refl; repeated-is = refl; refused-is = refl; sections-is = refl })
 
   counts : (one : Fare → ℕ) → (0 + total one (faresBy calls)) % 2 ^ 64 ≡ total one (faresIn input) % 2 ^ 64
   counts one = ap (λ (n : ℕ). n % 2 ^ 64) (zero-add (total one (faresBy calls)) ∙ ap (total one) fares)
@@ -161,7 +189,8 @@ module _ (input hold₀ out₀ : List ℕ) (enough : 188 ≤ length input) (hold
   lines : Lines input (after .account)
   lines =
       let c : Counted (after .account .rec) (after .hold) (storyIn input) =
-          subst (Counted (after .account .rec) (after .hold)) story (counters-are-fates (pidIn input) hold₀ calls (after .account .rec) (after .hold) run) in
+      subst (Counted (after .account .rec) (after .hold)) story
+      (counters-are-fates (pidIn input) hold₀ calls (after .account .rec) (after .hold) run) in
       record {
         pid-is = pid-stays from (packetsOf input);
         taken-is = tally .taken-is ∙ counts oneTaken;
@@ -177,24 +206,35 @@ module _ (input hold₀ out₀ : List ℕ) (enough : 188 ≤ length input) (hold
       }
 
   is-run : IsRun input (after .account)
-  is-run = record { hold = hold₀; hold′ = after .hold; calls = calls; hold-long = hold-is; packets-are = packets-are from (packetsOf input); run = run }
+  is-run = record {
+    hold = hold₀;
+    hold′ = after .hold;
+    calls = calls;
+    hold-long = hold-is;
+    packets-are = packets-are from (packetsOf input);
+    run = run;
+  }
 
   whole-says : Says input (Ended.Account (wholeAccount input hold₀ out₀))
   whole-says = subst (λ (a : Account). Says input (Ended.Account a)) (sym all-entered) (enough, is-run, lines)
 
 -- ---- the program
 
-rooms-are : {hold₀ out₀ input : List ℕ} {reads : ℕ} {s : State} → Heard hold₀ out₀ input reads s → (length hold₀ ≡ 4096) × (length out₀ ≡ 4280)
+rooms-are : {hold₀ out₀ input : List ℕ} {reads : ℕ} {s : State} → Heard hold₀ out₀ input reads s
+    → (length hold₀ ≡ 4096) × (length out₀ ≡ 4280)
 rooms-are (none-yet k h o) = (h, o)
 rooms-are (one-more x w buf got l b) = rooms-are x
 
 end-says : (input hold out : List ℕ) → length hold ≡ 4096 → length out ≡ 4280 → Says input (endOf input hold out)
 end-says input hold out h o =
-    if-case (Says input) (ltb (length input) 188) {x = NoPackets} {y = Ended.Account (wholeAccount input hold out)} (λ e. ltb-true _ _ e) (λ e. whole-says input hold out (ltb-false _ _ e) h o)
+    if-case (Says input) (ltb (length input) 188) {x = NoPackets} {y = Ended.Account (wholeAccount input hold out)}
+    (λ e. ltb-true _ _ e) (λ e. whole-says input hold out (ltb-false _ _ e) h o)
 
 -- where reading is over, what the program says is so of the bytes that the reads brought
-pub account-says : (hold₀ out₀ : List ℕ) (p : Place) (x : CameTo hold₀ out₀ p) → p .stage ≡ Over → Says (x .input) (endedOf p)
+pub account-says : (hold₀ out₀ : List ℕ) (p : Place) (x : CameTo hold₀ out₀ p) → p .stage ≡ Over
+    → Says (x .input) (endedOf p)
 account-says hold₀ out₀ p x e =
     let rooms = rooms-are (x .heard) in
-    let end : endedOf p ≡ endOf (x .input) hold₀ out₀ = ap endedOf (sym (x .place-is)) ∙ reads-end (x .heard) (ap (λ (q : Place). q .stage) (x .place-is) ∙ e) in
+    let end : endedOf p ≡ endOf (x .input) hold₀ out₀ =
+    ap endedOf (sym (x .place-is)) ∙ reads-end (x .heard) (ap (λ (q : Place). q .stage) (x .place-is) ∙ e) in
     subst (Says (x .input)) (sym end) (end-says (x .input) hold₀ out₀ (rooms .0) (rooms .1))

@@ -1,5 +1,5 @@
--- What one read may come to, and what each outcome makes of all that is kept between reads: the place, the buffer, the hold and the out room.
--- Which bytes a read brings is the one thing that nothing here fixes.
+-- What one read may come to, and what each outcome makes of all that is kept between reads: the place, the buffer, the
+-- hold and the out room. Which bytes a read brings is the one thing that nothing here fixes.
 use mathlib.Core.Path.{_≡_}
 use mathlib.Core.Bool.{Bool, true, false}
 use mathlib.Core.List.{List, _++_}
@@ -25,7 +25,7 @@ abbrev pub failedAs : ℤ → Got
 failedAs (pos n) = if eqb n 4 then Again else Failed
 failedAs (negsuc n) = Failed
 
--- `read` answers how many bytes came, no more than the room has; 0 at the end of the input; and a negative number where it failed
+-- `read` answers how many bytes came, no more than the room has; 0 at the end of the input; below 0 where it failed
 abbrev pub gotAs : ℤ → ℤ → ℕ → Got
 gotAs (pos zero) error size = End
 gotAs (pos (suc n)) error size = Bytes (min (suc n) size)
@@ -87,20 +87,27 @@ waits n s = stateAs (placeAs (s .place .begun) n (s .place .account) Stage.Readi
 
 -- the whole packets among the first n bytes are entered, and what is left of them stands at the front
 abbrev pub moved : ℕ → List ℕ → Kept → State
-moved n buf k = stateAs (placeAs true (n % 188) (k .account) Stage.Reading) (toFront buf (n - n % 188) (n % 188)) (k .hold) (k .out)
+moved n buf k =
+    stateAs (placeAs true (n % 188) (k .account) Stage.Reading) (toFront buf (n - n % 188) (n % 188)) (k .hold) (k .out)
 
 -- the buffer's first n bytes have come
 abbrev pub absorbed : ℕ → State → State
-absorbed n s = if ltb n 188 then waits n s else moved n (s .buf) (enteredAll (keptAs (accountFor (s .place) (s .buf)) (s .hold) (s .out)) (pieces (n / 188) (s .buf)))
+absorbed n s =
+    if ltb n 188 then waits n s
+    else moved n (s .buf)
+    (enteredAll (keptAs (accountFor (s .place) (s .buf)) (s .hold) (s .out)) (pieces (n / 188) (s .buf)))
 
 -- "A last piece under 188 bytes counts as refused (41)": it is entered too, and the collector refuses it
+abbrev pub withPiece : ℕ → List ℕ → Kept → Kept
+withPiece left buf k = if eqb left 0 then k else entered k (take left buf)
+
 abbrev pub lastPiece : Place → List ℕ → List ℕ → List ℕ → Kept
 lastPiece p buf hold out =
-    if p .begun then (if eqb (p .left) 0 then keptAs (p .account) hold out else entered (keptAs (p .account) hold out) (take (p .left) buf))
-    else keptAs (p .account) hold out
+    if p .begun then withPiece (p .left) buf (keptAs (p .account) hold out) else keptAs (p .account) hold out
 
 abbrev pub finishedAs : State → Kept → State
-finishedAs s k = stateAs (placeAs (s .place .begun) (s .place .left) (k .account) Stage.Over) (s .buf) (k .hold) (k .out)
+finishedAs s k =
+    stateAs (placeAs (s .place .begun) (s .place .left) (k .account) Stage.Over) (s .buf) (k .hold) (k .out)
 
 -- the input is at its end
 abbrev pub finished : State → State
@@ -111,7 +118,8 @@ abbrev pub heardAs : Got → State → State
 heardAs (Bytes n) s = absorbed (s .place .left + n) s
 heardAs Again s = s
 heardAs End s = finished s
-heardAs Failed s = stateAs (placeAs (s .place .begun) (s .place .left) (s .place .account) Stage.Failed) (s .buf) (s .hold) (s .out)
+heardAs Failed s =
+    stateAs (placeAs (s .place .begun) (s .place .left) (s .place .account) Stage.Failed) (s .buf) (s .hold) (s .out)
 
 -- ---- when it is over
 

@@ -1,4 +1,5 @@
--- The account of an input from its bytes alone, by demand 3's statements: how each packet fares, and what becomes of each payload byte.
+-- The account of an input from its bytes alone, by demand 3's statements: how each packet fares, and what becomes of each
+-- payload byte.
 use mathlib.Core.Path.{_≡_}
 use mathlib.Core.List.{List, [], _∷_, _++_, map, flatten}
 use mathlib.Core.Option.{none}
@@ -49,7 +50,8 @@ faresIn input = faresFrom (pidIn input) 4096 none (lentIn input)
 -- "A last piece under 188 bytes counts as refused (41)"
 abbrev pub LastPieceRefused : Type 0
 LastPieceRefused = (input : List ℕ) → (length input % 188 ≡ 0 → ⊥)
-    → faresIn input ≡ faresFrom (pidIn input) 4096 none (map lent (pieces (length input / 188) input)) ++ (refused 41 ∷ [])
+    → faresIn input
+    ≡ faresFrom (pidIn input) 4096 none (map lent (pieces (length input / 188) input)) ++ (refused 41 ∷ [])
 
 -- the fate of every payload byte of the packets taken, and the sections delivered
 abbrev pub storyIn : List ℕ → Story Byte
@@ -78,7 +80,8 @@ total one (f ∷ fs) = one f + total one fs
 
 -- ---- the lines
 
--- the account of an input of at least a packet, line by line. The collector's counters run round past 2^32 - 1, the program's own past 2^64 - 1.
+-- the account of an input of at least a packet, line by line. The collector's counters run round past 2^32 - 1, the
+-- program's own past 2^64 - 1.
 pub record Lines (input : List ℕ) (a : Account) : Type 0 where
   pub pid-is : a .rec .pid ≡ pidIn input
   pub taken-is : a .taken ≡ total oneTaken (faresIn input) % 2 ^ 64
@@ -92,7 +95,8 @@ pub record Lines (input : List ℕ) (a : Account) : Type 0 where
   pub in-hand-is : a .rec .in_hand ≡ countOf in-hand (storyIn input .marks)
   pub sections-is : a .sections ≡ length (storyIn input .sections) % 2 ^ 64
 
--- an account is a run of the collector: from a fresh record for that PID, a call for each packet in order, to the record that the account has
+-- an account is a run of the collector: from a fresh record for that PID, a call for each packet in order, to the record
+-- that the account has
 pub record IsRun (input : List ℕ) (a : Account) : Type 0 where
   pub hold : List ℕ
   pub hold′ : List ℕ

@@ -1,4 +1,5 @@
-// Where reading stands: the whole packets of what has come are entered, and what is left goes to the front for the next read.
+// Where reading stands: the whole packets of what has come are entered, and what is left goes to the front for the next
+// read.
 use crate::reading;
 use crate::reading::Came;
 use crate::reading::Got;
@@ -24,8 +25,8 @@ pub enum Stage {
     Failed,
 }
 
-// Whether a first packet came, the bytes at the front of the buffer that are not entered yet, the account, and the stage. Only `start` and
-// `heard` hand one out, so that reading can be over only because a read said so.
+// Whether a first packet came, the bytes at the front of the buffer that are not entered yet, the account, and the stage.
+// Only `start` and `heard` hand one out, so that reading can be over only because a read said so.
 pub struct Place {
     begun: bool,
     left: usize,
@@ -38,11 +39,12 @@ pub fn start() -> Place
     ensures { λ r. ⌜ r ≡ startPlace ⌝ }
 {
     let account = tally::fresh(0);
+    let stage = Stage::Reading;
     Place {
         begun: false,
         left: 0,
         account,
-        stage: Stage::Reading,
+        stage,
     }
 }
 

@@ -1,15 +1,13 @@
 -- `account::input::account_of` meets its contract: after each turn one read more is heard.
-use mathlib.Core.Path.{_≡_, refl, sym, ap, _∙_, subst}
+use mathlib.Core.Path.{_≡_, refl, sym, _∙_, subst}
 use mathlib.Core.List.{List, [], _++_}
 use Prim.Native.Nat.{ℕ, suc, _+_, _-_, _^_}
 use native.Mathlib.Omega.{arith}
 use borrow.Author.Needs.{needs}
 use lib.ListN.{length}
-use Rattle.account.specs.Heard.{State, stateAs, Behind, Fits, brought, heardAs}
+use Rattle.account.specs.Heard.{stateAs, Behind, Fits, brought}
 use Rattle.account.specs.Input.{Heard, none-yet, one-more}
 use Rattle.account.specs.declared.place.Place.{Place}
-use Rattle.account.specs.declared.place.Stage.the-variants.{Reading}
-use Rattle.account.specs.declared.reading.Got.{Got}
 use Rattle.account.proofs.Stands.{still-reading, over-not-reading, left-few}
 use Rattle.account.proofs.input.account_of.Statement.{statement}
 use Rattle.account.proofs.input.account_of.Tie as tie
@@ -39,7 +37,11 @@ loop-holds c =
     record {
       input = [];
       reads = 0;
-      heard = subst (λ (p : Place). Heard (a .hold .now) (a .out .now) [] 0 (stateAs p (a .buf .now) (a .hold .now) (a .out .now))) (sym (c .start .ensures)) (none-yet (s .pre .0) (s .pre .1) (s .pre .2));
+      heard =
+          subst
+          (λ (p : Place). Heard (a .hold .now) (a .out .now) [] 0
+          (stateAs p (a .buf .now) (a .hold .now) (a .out .now)))
+          (sym (c .start .ensures)) (none-yet (s .pre .0) (s .pre .1) (s .pre .2));
       count = refl;
       buf-long = refl;
       hold-long = refl;
@@ -86,8 +88,11 @@ head r = r .before .before .before .before .before .before
 abbrev begin : tie.After-read-behind Inv-loop μ-loop → tie.Start Inv-loop μ-loop
 begin r = head r .before .before .before .before .before
 
-behind : (r : tie.After-read-behind Inv-loop μ-loop) → Behind (head r .loop .p .left) (head r .loop .buf) (r .read-behind .last .0) (r .read-behind .result .got)
-behind r = subst (λ (n : ℕ). Behind n (head r .loop .buf) (r .read-behind .last .0) (r .read-behind .result .got)) (r .before .left-of .ensures) (r .read-behind .ensures)
+behind : (r : tie.After-read-behind Inv-loop μ-loop)
+    → Behind (head r .loop .p .left) (head r .loop .buf) (r .read-behind .last .0) (r .read-behind .result .got)
+behind r =
+    subst (λ (n : ℕ). Behind n (head r .loop .buf) (r .read-behind .last .0) (r .read-behind .result .got))
+    (r .before .left-of .ensures) (r .read-behind .ensures)
 
 heard-requires : tie.Need-heard-requires Inv-loop μ-loop
 heard-requires c κs =
@@ -110,8 +115,14 @@ loop-again c =
     record {
       input = l .inv .input ++ brought (l .p .left) (r .read-behind .last .0) (r .read-behind .result .got);
       reads = suc (l .inv .reads);
-      heard = subst (Heard (begin r .args .hold .now) (begin r .args .out .now) (l .inv .input ++ brought (l .p .left) (r .read-behind .last .0) (r .read-behind .result .got)) (suc (l .inv .reads))) (sym (x .heard .ensures))
-          (one-more (l .inv .heard) (still-reading (l .p .stage) (sym (i .before .is-over .ensures) ∙ i .if1 .left)) (r .read-behind .last .0) (r .read-behind .result .got) (r .read-behind .kept .0) (behind r));
+      heard =
+          subst
+          (Heard (begin r .args .hold .now) (begin r .args .out .now)
+          (l .inv .input ++ brought (l .p .left) (r .read-behind .last .0) (r .read-behind .result .got))
+          (suc (l .inv .reads)))
+          (sym (x .heard .ensures))
+          (one-more (l .inv .heard) (still-reading (l .p .stage) (sym (i .before .is-over .ensures) ∙ i .if1 .left))
+          (r .read-behind .last .0) (r .read-behind .result .got) (r .read-behind .kept .0) (behind r));
       count = omega (arith, l .inv .count);
       buf-long = x .heard .kept .1 .1 .0 ∙ r .read-behind .kept .0 ∙ l .inv .buf-long;
       hold-long = x .heard .kept .1 .1 .1 .0 ∙ l .inv .hold-long;

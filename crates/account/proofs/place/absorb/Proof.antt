@@ -21,7 +21,8 @@ module _ (n : ℕ) (s : State) where
   few : n < 188 → waits n s ≡ absorbed n s
   few k = ap (λ (t : Bool). if t then waits n s else moved n (s .buf) all) (sym (lt-ltb n 188 k))
 
-  packets : 188 ≤ n → (a : Account) (buf hold out : List ℕ) → buf ≡ toFront (s .buf) (n - n % 188) (n % 188) → keptAs a hold out ≡ all
+  packets : 188 ≤ n → (a : Account) (buf hold out : List ℕ) → buf ≡ toFront (s .buf) (n - n % 188) (n % 188)
+      → keptAs a hold out ≡ all
       → stateAs (placeAs true (n % 188) a Reading) buf hold out ≡ absorbed n s
   packets k a buf hold out e w =
       (λ i. stateAs (placeAs true (n % 188) (w i .account) Reading) (e i) (w i .hold) (w i .out))
@@ -60,8 +61,13 @@ returns-2 c =
     let k = e .before .before .before .before in
     let t = k .before .before in
     let a = t .before .before .before .before .args in
-    packets (a .n) (stateAs (a .p) (a .buf .now) (a .hold .now) (a .out .now)) (t .if1 .left) (e .enter-all .result) _ _ _ (f .to-front .ensures)
-    (e .enter-all .ensures ∙ ap (λ (z : Account). enteredAll (keptAs z (a .hold .now) (a .out .now)) (pieces (a .n / 188) (a .buf .now))) (k .account-for .ensures))
+    packets (a .n) (stateAs (a .p) (a .buf .now) (a .hold .now) (a .out .now)) (t .if1 .left) (e .enter-all .result) _ _
+    _ (f .to-front .ensures)
+    (e .enter-all .ensures
+    ∙ ap (λ (z : Account). enteredAll (keptAs z (a .hold .now) (a .out .now)) (pieces (a .n / 188) (a .buf .now)))
+    (k .account-for .ensures))
 
 pub absorb-spec : {M : Type 1} → statement M
-absorb-spec = tie.close (tie.spec returns account-for-requires enter-all-requires sub-to-front to-front-requires same-length same-length-2 same-length-3 returns-2)
+absorb-spec =
+    tie.close (tie.spec returns account-for-requires enter-all-requires sub-to-front to-front-requires same-length
+    same-length-2 same-length-3 returns-2)

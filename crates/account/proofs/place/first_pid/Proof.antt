@@ -26,4 +26,6 @@ returns : tie.Need-returns
 returns c = search needs
 
 pub first-pid-spec : {M : Type 1} → statement M
-first-pid-spec = tie.close (tie.spec shared-slice-read-result cast-result mul-result shared-slice-read-result-2 cast-result-2 add-result returns)
+first-pid-spec =
+    tie.close (tie.spec shared-slice-read-result cast-result mul-result shared-slice-read-result-2 cast-result-2
+    add-result returns)

@@ -35,15 +35,17 @@ got-of-requires c κs = search needs
 enum-known-got : tie.Need-enum-known-got
 enum-known-got c = search needs
 
+-- in the arm of some bytes: they fit behind what is left
+bytes-fit : (g : tie.After-got)
+    → Fits (start (g .before .before) .args .p .left) (Bytes (g .got .given .0 .0))
+    (length (start (g .before .before) .args .buf .now))
+bytes-fit g = fits (g .before .before) (Bytes (g .got .given .0 .0)) (g .got .given .1)
+
 add-absorb : tie.Need-add-absorb
-add-absorb c =
-    let g = c .before .before .before .before in
-    omega (arith, fits (g .before .before) (Bytes (g .got .given .0 .0)) (g .got .given .1))
+add-absorb c = omega (arith, bytes-fit (c .before .before .before .before))
 
 absorb-requires : tie.Need-absorb-requires
-absorb-requires c κs =
-    let g = c .before .before .before .before in
-    fits (g .before .before) (Bytes (g .got .given .0 .0)) (g .got .given .1)
+absorb-requires c κs = omega (arith, bytes-fit (c .before .before .before .before))
 
 enum-told : tie.Need-enum-told
 enum-told c = search needs

@@ -27,10 +27,14 @@ module _ (p : Place) (buf hold out : List ℕ) where
   not-begun e = ap (λ (t : Bool). if t then (if eqb (p .left) 0 then same else piece) else same) (sym e)
 
   none-left : p .begun ≡ true → p .left ≡ 0 → same ≡ lastPiece p buf hold out
-  none-left e k = ap (λ (t : Bool). if t then same else piece) (sym (eq-eqb _ _ k)) ∙ ap (λ (t : Bool). if t then (if eqb (p .left) 0 then same else piece) else same) (sym e)
+  none-left e k =
+      ap (λ (t : Bool). if t then same else piece) (sym (eq-eqb _ _ k))
+      ∙ ap (λ (t : Bool). if t then (if eqb (p .left) 0 then same else piece) else same) (sym e)
 
   some-left : p .begun ≡ true → (p .left ≡ 0 → ⊥) → piece ≡ lastPiece p buf hold out
-  some-left e k = ap (λ (t : Bool). if t then same else piece) (sym (ne-eqb _ _ k)) ∙ ap (λ (t : Bool). if t then (if eqb (p .left) 0 then same else piece) else same) (sym e)
+  some-left e k =
+      ap (λ (t : Bool). if t then same else piece) (sym (ne-eqb _ _ k))
+      ∙ ap (λ (t : Bool). if t then (if eqb (p .left) 0 then same else piece) else same) (sym e)
 
 returns : tie.Need-returns
 returns c =
@@ -64,7 +68,9 @@ returns-3 c =
     let t = k .before .before .before .before in
     let i = t .before in
     let a = i .before .before .before .before .before .before .args in
-    k .enter .ensures ∙ some-left (a .p) (a .buf .now) (a .hold .now) (a .out .now) (not-false _ (i .if1 .left)) (t .if2 .left)
+    k .enter .ensures
+    ∙ some-left (a .p) (a .buf .now) (a .hold .now) (a .out .now) (not-false _ (i .if1 .left)) (t .if2 .left)
 
 pub last-piece-spec : {M : Type 1} → statement M
-last-piece-spec = tie.close (tie.spec returns returns-2 slice-aggregate-enter enter-requires same-length same-length-2 returns-3)
+last-piece-spec =
+    tie.close (tie.spec returns returns-2 slice-aggregate-enter enter-requires same-length same-length-2 returns-3)

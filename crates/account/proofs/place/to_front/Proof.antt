@@ -16,17 +16,18 @@ record Front (buf₀ : List ℕ) (from n : ℕ) (buf : List ℕ) (i : ℕ) : Typ
   moved : take i buf ≡ take i (drop from buf₀)
   stand : drop i buf ≡ drop i buf₀
 
-more : (buf₀ : List ℕ) (from n : ℕ) (buf : List ℕ) (i : ℕ) → Front buf₀ from n buf i → from + n ≤ length buf₀ → n ≤ from → i < n → Front buf₀ from n (set buf i (getD buf (from + i) 0)) (i + 1)
+more : (buf₀ : List ℕ) (from n : ℕ) (buf : List ℕ) (i : ℕ) → Front buf₀ from n buf i → from + n ≤ length buf₀ → n ≤ from
+    → i < n → Front buf₀ from n (set buf i (getD buf (from + i) 0)) (i + 1)
 more buf₀ from n buf i x fits apart k =
     let v : ℕ = getD buf (from + i) 0 in
     let there : i + (from + i - i) ≡ from + i = omega arith in
     let is : v ≡ getD (drop from buf₀) i 0 =
-        ap (λ (m : ℕ). getD buf m 0) (sym there)
-        ∙ sym (getD-drop i buf (from + i - i) 0)
-        ∙ ap (λ (l : List ℕ). getD l (from + i - i) 0) (x .stand)
-        ∙ getD-drop i buf₀ (from + i - i) 0
-        ∙ ap (λ (m : ℕ). getD buf₀ m 0) there
-        ∙ sym (getD-drop from buf₀ i 0) in
+    ap (λ (m : ℕ). getD buf m 0) (sym there)
+    ∙ sym (getD-drop i buf (from + i - i) 0)
+    ∙ ap (λ (l : List ℕ). getD l (from + i - i) 0) (x .stand)
+    ∙ getD-drop i buf₀ (from + i - i) 0
+    ∙ ap (λ (m : ℕ). getD buf₀ m 0) there
+    ∙ sym (getD-drop from buf₀ i 0) in
     record {
       few = omega arith;
       long = length-set buf i v ∙ x .long;
@@ -37,7 +38,11 @@ more buf₀ from n buf i x fits apart k =
           ∙ ap (λ (b : ℕ). take i (drop from buf₀) ++ (b ∷ [])) is
           ∙ sym (take-suc (drop from buf₀) i 0 (omega (arith, length-drop from buf₀)))
           ∙ ap (λ (m : ℕ). take m (drop from buf₀)) (sym (add-one i));
-      stand = drop-set-lt (i + 1) buf i v (omega arith) ∙ sym (drop-drop 1 i buf) ∙ ap (drop 1) (x .stand) ∙ drop-drop 1 i buf₀;
+      stand =
+          drop-set-lt (i + 1) buf i v (omega arith)
+          ∙ sym (drop-drop 1 i buf)
+          ∙ ap (drop 1) (x .stand)
+          ∙ drop-drop 1 i buf₀;
     }
 
 abbrev Inv-loop : tie.InvT-loop
@@ -85,4 +90,6 @@ returns c =
     ∙ ap (toFront buf₀ (s .args .from)) all
 
 pub to-front-spec : {M : Type 1} → statement M
-to-front-spec = tie.close (tie.spec Inv-loop μ-loop loop-holds add-buf slice-read-buf slice-write-buf add-i loop-less loop-again same-length returns)
+to-front-spec =
+    tie.close (tie.spec Inv-loop μ-loop loop-holds add-buf slice-read-buf slice-write-buf add-i loop-less loop-again
+    same-length returns)

@@ -11,7 +11,8 @@ count-requires c κs = search needs
 returns : tie.Need-returns
 returns c =
     let s = c .before .before .before in
-    got-bytes (s .args .answer) (s .args .error) _ (s .fits .answer) (c .count .result) (c .before .if1 .taken) (c .count .ensures .1)
+    got-bytes (s .args .answer) (s .args .error) _ (s .fits .answer) (c .count .result) (c .before .if1 .taken)
+    (c .count .ensures .1)
 
 returns-2 : tie.Need-returns-2
 returns-2 c =

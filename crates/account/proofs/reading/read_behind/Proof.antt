@@ -28,9 +28,16 @@ returns c =
     let a = k .before .before .before .args in
     let n = length (a .buf .now) - a .left in
     record {
-      fits = omega (arith, k .read-into .ensures, length-take n (drop (a .left) (a .buf .now)), length-drop (a .left) (a .buf .now));
+      fits =
+          omega (
+            arith,
+            k .read-into .ensures,
+            length-take n (drop (a .left) (a .buf .now)),
+            length-drop (a .left) (a .buf .now),
+          );
       kept = take-put (a .left) n (a .buf .now) (k .read-into .last .0) (omega arith);
     }
 
 pub read-behind-spec : {M : Type 1} → statement M
-read-behind-spec = tie.close (tie.spec sub-read-into part-read-into-start part-read-into-end read-into-requires same-length returns)
+read-behind-spec =
+    tie.close (tie.spec sub-read-into part-read-into-start part-read-into-end read-into-requires same-length returns)

@@ -22,7 +22,8 @@ same-length c = search needs
 returns : tie.Need-returns
 returns c =
     let r = c .before .before .before .before .before in
-    got-in-by (toZ w64 (ofZ w64 (r .read .result))) (toZ w32 (ofZ w32 (c .before .before .errno .result))) (length (r .before .before .before .args .room .now)) (c .got-as .ensures) (r .read .kept .1 .0)
+    got-in-by (toZ w64 (ofZ w64 (r .read .result))) (toZ w32 (ofZ w32 (c .before .before .errno .result)))
+    (length (r .before .before .before .args .room .now)) (c .got-as .ensures) (r .read .kept .1 .0)
 
 pub read-into-spec : {M : Type 1} → statement M
 read-into-spec = tie.close (tie.spec read-requires errno-requires got-as-requires same-length returns)

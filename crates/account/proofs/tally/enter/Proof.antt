@@ -21,7 +21,8 @@ returns : tie.Need-returns
 returns c =
     let k = c .before .before .before .before .before .before in
     let a = k .before .before .before .before .before .before .before .args .a in
-    (λ i. keptAs (c .one-more .ensures i) (k .step .last .1 .0) (k .step .last .1 .1 .0)) ∙ ap (enteredAs a) (k .step .ensures)
+    (λ i. keptAs (c .one-more .ensures i) (k .step .last .1 .0) (k .step .last .1 .1 .0))
+    ∙ ap (enteredAs a) (k .step .ensures)
 
 pub enter-spec : {M : Type 1} → statement M
 enter-spec = tie.close (tie.spec step-requires one-more-requires same-length same-length-2 returns)

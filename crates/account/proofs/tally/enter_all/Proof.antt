@@ -18,8 +18,11 @@ record Going (k₀ : Kept) (bytes : List ℕ) (n : ℕ) (hold₀ out₀ hold out
   same : enteredAll k₀ (pieces (n / 188) bytes) ≡ enteredAll (keptAs b hold out) (pieces ((n - i) / 188) (drop i bytes))
 
 -- one packet more
-more : (k₀ : Kept) (bytes : List ℕ) (n : ℕ) (hold₀ out₀ hold out : List ℕ) (b : Account) (i : ℕ) → Going k₀ bytes n hold₀ out₀ hold out b i → i + 188 ≤ n → (b′ : Account) (hold′ out′ : List ℕ) → length hold′ ≡ length hold → length out′ ≡ length out
-    → keptAs b′ hold′ out′ ≡ entered (keptAs b hold out) (take 188 (drop i bytes)) → Going k₀ bytes n hold₀ out₀ hold′ out′ b′ (i + 188)
+more : (k₀ : Kept) (bytes : List ℕ) (n : ℕ) (hold₀ out₀ hold out : List ℕ) (b : Account) (i : ℕ)
+    → Going k₀ bytes n hold₀ out₀ hold out b i → i + 188 ≤ n → (b′ : Account) (hold′ out′ : List ℕ)
+    → length hold′ ≡ length hold → length out′ ≡ length out
+    → keptAs b′ hold′ out′ ≡ entered (keptAs b hold out) (take 188 (drop i bytes))
+    → Going k₀ bytes n hold₀ out₀ hold′ out′ b′ (i + 188)
 more k₀ bytes n hold₀ out₀ hold out b i x k b′ hold′ out′ l₁ l₂ e =
     let one : (n - i) / 188 ≡ suc ((n - (i + 188)) / 188) = omega arith in
     record {
@@ -30,7 +33,8 @@ more k₀ bytes n hold₀ out₀ hold out b i x k b′ hold′ out′ l₁ l₂ 
           x .same
           ∙ ap (λ (m : ℕ). enteredAll (keptAs b hold out) (pieces m (drop i bytes))) one
           ∙ ap (λ (z : Kept). enteredAll z (pieces ((n - (i + 188)) / 188) (drop 188 (drop i bytes)))) (sym e)
-          ∙ ap (λ (l : List ℕ). enteredAll (keptAs b′ hold′ out′) (pieces ((n - (i + 188)) / 188) l)) (drop-drop 188 i bytes);
+          ∙ ap (λ (l : List ℕ). enteredAll (keptAs b′ hold′ out′) (pieces ((n - (i + 188)) / 188) l))
+          (drop-drop 188 i bytes);
     }
 
 abbrev Inv-loop : tie.InvT-loop
@@ -43,7 +47,13 @@ loop-holds : tie.Need-loop-holds Inv-loop μ-loop
 loop-holds c =
     let a = c .before .before .before .args in
     let all : a .n ≡ a .n - 0 = omega arith in
-    record { few = omega arith; hold-long = refl; out-long = refl; same = ap (λ (m : ℕ). enteredAll (keptAs (a .a) (a .hold .now) (a .out .now)) (pieces (m / 188) (a .bytes .now))) all }
+    record {
+      few = omega arith;
+      hold-long = refl;
+      out-long = refl;
+      same = ap
+          (λ (m : ℕ). enteredAll (keptAs (a .a) (a .hold .now) (a .out .now)) (pieces (m / 188) (a .bytes .now))) all;
+    }
 
 add-loop : tie.Need-add-loop Inv-loop μ-loop
 add-loop c = omega (arith, c .loop .inv .few)
@@ -73,8 +83,11 @@ loop-again c =
     let s = e .before .before .before .before .before .before .before .before .before in
     let a = s .args in
     let one : l .i + 188 - l .i ≡ 188 = omega arith in
-    more (keptAs (a .a) (a .hold .now) (a .out .now)) (a .bytes .now) (a .n) (a .hold .now) (a .out .now) (l .hold) (l .out) (l .b) (l .i) (l .inv) (omega arith) (e .enter .result) _ _ (e .enter .kept .1 .0) (e .enter .kept .1 .1 .0)
-    (e .enter .ensures ∙ ap (λ (m : ℕ). entered (keptAs (l .b) (l .hold) (l .out)) (take m (drop (l .i) (a .bytes .now)))) one)
+    more (keptAs (a .a) (a .hold .now) (a .out .now)) (a .bytes .now) (a .n) (a .hold .now) (a .out .now) (l .hold)
+    (l .out) (l .b) (l .i) (l .inv) (omega arith) (e .enter .result) _ _ (e .enter .kept .1 .0)
+    (e .enter .kept .1 .1 .0)
+    (e .enter .ensures
+    ∙ ap (λ (m : ℕ). entered (keptAs (l .b) (l .hold) (l .out)) (take m (drop (l .i) (a .bytes .now)))) one)
 
 same-length : tie.Need-same-length Inv-loop μ-loop
 same-length c = c .before .loop .inv .hold-long
@@ -87,7 +100,8 @@ returns c =
     let l = c .before .loop in
     let a = c .before .before .before .before .before .args in
     let none : (a .n - l .i) / 188 ≡ 0 = omega arith in
-    sym (l .inv .same ∙ ap (λ (m : ℕ). enteredAll (keptAs (l .b) (l .hold) (l .out)) (pieces m (drop (l .i) (a .bytes .now)))) none)
+    sym (l .inv .same
+    ∙ ap (λ (m : ℕ). enteredAll (keptAs (l .b) (l .hold) (l .out)) (pieces m (drop (l .i) (a .bytes .now)))) none)
 
 pub enter-all-spec : {M : Type 1} → statement M
 enter-all-spec =

@@ -36,14 +36,28 @@ returns : tie.Need-returns
 returns c =
     let s = c .before .before .before in
     let a = s .args .a in
-    (λ i. record { rec = s .args .rec; taken = a .taken; repeated = a .repeated; refused = c .wrapping-add-u64 .ensures i; sections = a .sections })
+    (λ i.
+    record {
+      rec = s .args .rec;
+      taken = a .taken;
+      repeated = a .repeated;
+      refused = c .wrapping-add-u64 .ensures i;
+      sections = a .sections;
+    })
     ∙ sym (ap (after s) (c .before .enum-told .given .1))
 
 returns-2 : tie.Need-returns-2
 returns-2 c =
     let s = c .before .before .before in
     let a = s .args .a in
-    (λ i. record { rec = s .args .rec; taken = a .taken; repeated = c .wrapping-add-u642 .ensures i; refused = a .refused; sections = a .sections })
+    (λ i.
+    record {
+      rec = s .args .rec;
+      taken = a .taken;
+      repeated = c .wrapping-add-u642 .ensures i;
+      refused = a .refused;
+      sections = a .sections;
+    })
     ∙ sym (ap (after s) (c .before .enum-told2 .given .1))
 
 returns-3 : tie.Need-returns-3
@@ -51,7 +65,14 @@ returns-3 c =
     let k = c .before .before .before in
     let s = k .before .before in
     let a = s .args .a in
-    (λ i. record { rec = s .args .rec; taken = c .before .wrapping-add-u643 .ensures i; repeated = a .repeated; refused = a .refused; sections = c .wrapping-add-u644 .ensures i })
+    (λ i.
+    record {
+      rec = s .args .rec;
+      taken = c .before .wrapping-add-u643 .ensures i;
+      repeated = a .repeated;
+      refused = a .refused;
+      sections = c .wrapping-add-u644 .ensures i;
+    })
     ∙ sym (ap (after s) (k .answer .given .1))
 
 pub one-more-spec : {M : Type 1} → statement M
