@@ -12,25 +12,20 @@ use Rattle.wire.proofs.ReadingLaws.{value-is, never, through}
 use Rattle.wire.specs.Number.{number}
 use Rattle.wire.specs.Digits.{bcdOf}
 use Rattle.wire.proofs.IfLaws.{if-case}
-use Rattle.clock.specs.Field.{field, hms}
-use Rattle.clock.specs.Time.{day, timeOf}
+use Rattle.clock.specs.Field.{field, hms, InRange}
+use Rattle.clock.specs.Time.{day, timeOf, Defined}
 use Rattle.clock.specs.Duration.{durationOf}
 use Rattle.clock.specs.Offset.{signed, offsetOf}
 use Rattle.clock.specs.declared.Hms.{Hms}
 use Rattle.clock.specs.declared.time.Time.{Time}
 use Rattle.clock.specs.declared.time.Moment.the-variants.{At}
 
-field-below : (limit b n : ℕ) → field limit b ≡ value n → n < limit
+pub field-below : (limit b n : ℕ) → field limit b ≡ value n → n < limit
 unfolding field
 field-below limit b n e =
     let t = through (bcdOf 2 b) _ n e in
     if-case (λ x. x ≡ value n → n < limit) (ltb (t .0) limit)
     (λ h q. subst (λ m. m < limit) (value-is q) (ltb-true (t .0) limit h)) (λ _ q. absurd (never (sym q))) (t .2)
-
-pub record InRange (limit : ℕ) (t : Hms) : Type 0 where
-  pub hour : t .hour < limit
-  pub minute : t .minute < 60
-  pub second : t .second < 60
 
 hms-in-range : (limit h m s : ℕ) (t : Hms) → hms limit h m s ≡ value t → InRange limit t
 unfolding hms
@@ -39,7 +34,11 @@ hms-in-range limit h m s t e =
     let b = through (field 60 m) _ t (a .2) in
     let c = through (field 60 s) _ t (b .2) in
     subst (InRange limit) (value-is (c .2))
-    (record { hour = field-below limit h (a .0) (a .1); minute = field-below 60 m (b .0) (b .1); second = field-below 60 s (c .0) (c .1) })
+    (record {
+      hour = field-below limit h (a .0) (a .1);
+      minute = field-below 60 m (b .0) (b .1);
+      second = field-below 60 s (c .0) (c .1);
+    })
 
 pub duration-in-range : (h m s : ℕ) (t : Hms) → durationOf h m s ≡ value t → InRange 100 t
 unfolding durationOf
@@ -50,26 +49,22 @@ day-from mjd d =
     if-case (λ x. x ≡ value d → 15079 ≤ d) (ltb mjd 15079)
     (λ _ e. absurd (never (sym e))) (λ h e. subst (λ n. 15079 ≤ n) (value-is e) (ltb-false mjd 15079 h))
 
-abbrev Defined : Time → Type 0
-Defined t = (15079 ≤ t .mjd) × InRange 24 (t .clock)
-
-at-is : {t u : Time} → At t ≡ At u → t ≡ u
-at-is e = cc
-
-defined : (mjd h m s : ℕ) (t : Time) → (day mjd >>= λ d. hms 24 h m s >>= λ c. value (At (record { mjd = d; clock = c }))) ≡ value (At t) → Defined t
+defined : (mjd h m s : ℕ) (t : Time)
+    → (day mjd >>= λ d. hms 24 h m s >>= λ c. value (At (record { mjd = d; clock = c }))) ≡ value (At t)
+    → Defined (At t)
 defined mjd h m s t e =
     let a = through (day mjd) _ (At t) e in
     let b = through (hms 24 h m s) _ (At t) (a .2) in
-    subst Defined (at-is (value-is (b .2))) (day-from mjd (a .0) (a .1), hms-in-range 24 h m s (b .0) (b .1))
+    subst Defined (value-is (b .2)) (day-from mjd (a .0) (a .1), hms-in-range 24 h m s (b .0) (b .1))
 
-pub time-in-range : (mjd h m s : ℕ) (t : Time) → timeOf mjd h m s ≡ value (At t) → (15079 ≤ t .mjd) × InRange 24 (t .clock)
+pub time-in-range : (mjd h m s : ℕ) (t : Time) → timeOf mjd h m s ≡ value (At t) → Defined (At t)
 unfolding timeOf
 time-in-range mjd h m s t =
-    if-case (λ x. x ≡ value (At t) → Defined t) (eqb (number (mjd ∷ h ∷ m ∷ s ∷ [])) 0xFF_FFFF_FFFF)
+    if-case (λ x. x ≡ value (At t) → Defined (At t)) (eqb (number (mjd ∷ h ∷ m ∷ s ∷ [])) 0xFF_FFFF_FFFF)
     (λ _ e. let z : _≡_ {A = ℕ} 0 1 = cc in absurd (omega arith))
     (λ _ e. defined mjd h m s t e)
 
-size-of : (behind : Bool) (n : ℕ) → natAbs (signed behind n) ≡ n
+pub size-of : (behind : Bool) (n : ℕ) → natAbs (signed behind n) ≡ n
 size-of true zero = refl
 size-of true (suc n) = refl
 size-of false n = refl

@@ -1,9 +1,10 @@
 -- The fields of a clock: two BCD digits in a byte, below a limit.
-use Prim.Native.Nat.{ℕ}
+use mathlib.Core.Path.{_≡_}
+use Prim.Native.Nat.{ℕ, _<_}
 use lib.Dec.{ltb}
 use Rattle.wire.specs.If.{if_then_else_}
 use Rattle.wire.specs.Reading.{Reading, value, refused, _>>=_}
-use Rattle.wire.specs.Digits.{bcdOf}
+use Rattle.wire.specs.Digits.{bcdOf, bcdShow}
 use Rattle.clock.specs.Fault.{numbered}
 use Rattle.clock.specs.declared.Hms.{Hms}
 use Rattle.clock.specs.declared.field.Field.{Field}
@@ -26,6 +27,18 @@ hms limit h m s = do
   minute ← field 60 m
   second ← field 60 s
   value (record { hour = hour; minute = minute; second = second })
+
+-- "64 hour above 23, minute or second above 59": a clock whose fields are below their limits
+pub record InRange (limit : ℕ) (t : Hms) : Type 0 where
+  pub hour : t .hour < limit
+  pub minute : t .minute < 60
+  pub second : t .second < 60
+
+-- h, m and s are the clock's two digits each, in BCD
+pub record Written (t : Hms) (h m s : ℕ) : Type 0 where
+  pub hour : bcdShow 2 (t .hour) ≡ h
+  pub minute : bcdShow 2 (t .minute) ≡ m
+  pub second : bcdShow 2 (t .second) ≡ s
 
 -- document 01's number for every answer
 abbrev pub told : Field → Reading ℕ

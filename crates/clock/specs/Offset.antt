@@ -1,8 +1,9 @@
 -- An offset from UTC.
 use mathlib.Core.Bool.{Bool, true, false}
-use Prim.Native.Nat.{ℕ, _+_, _*_}
-use lib.IntN.{ℤ, pos, negℤ}
+use Prim.Native.Nat.{ℕ, _+_, _*_, _/_, _%_}
+use lib.IntN.{ℤ, pos, negℤ, natAbs}
 use Rattle.wire.specs.Reading.{Reading, value, refused, _>>=_}
+use Rattle.wire.specs.Digits.{bcdShow}
 use Rattle.clock.specs.Fault.{numbered}
 use Rattle.clock.specs.Field.{field}
 use Rattle.clock.specs.declared.offset.Answer.{Answer}
@@ -19,6 +20,10 @@ offsetOf behind h m = do
   hour ← field 24 h
   minute ← field 60 m
   value (signed behind (hour * 60 + minute))
+
+-- the number that its sixteen bits are, two BCD digits of hours and two of minutes, whatever its sign
+abbrev pub offsetShown : ℤ → ℕ
+offsetShown z = bcdShow 2 (natAbs z / 60) * 256 + bcdShow 2 (natAbs z % 60)
 
 -- document 01's number for every answer
 abbrev pub told : Answer → Reading ℤ

@@ -1,2 +1,3 @@
 -- What holds of the answers.
+pub mod Layouts
 pub mod Unique

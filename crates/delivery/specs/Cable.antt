@@ -1,33 +1,57 @@
 -- 0x44 cable delivery system: EN 300 468, clause 6.2.13.1.
-use mathlib.Core.List.{List}
-use Prim.Native.Nat.{ℕ}
-use lib.ListN.{getD}
+use mathlib.Core.List.{List, [], _∷_}
+use Prim.Native.Nat.{ℕ, _^_, _<_}
 use Rattle.wire.specs.Reading.{Reading, value, refused, _>>=_}
-use Rattle.wire.specs.Number.{bitsAt}
+use Rattle.wire.specs.Digits.{bcdShow}
+use Rattle.forms.specs.Fields.{Field, kept, reserved}
 use Rattle.layout.specs.Refusal.{numbered}
 use Rattle.layout.specs.Body.{fixed}
-use Rattle.layout.specs.Field.{digitsAt}
+use Rattle.layout.specs.Widths.{size, bitsOf, byteOf, digitsOf}
 use Rattle.delivery.specs.declared.cable.Cable.{Cable}
 use Rattle.delivery.specs.declared.cable.Answer.{Answer}
 use Rattle.delivery.specs.declared.cable.Answer.the-variants.{Is, Refused}
 
--- "Cable .. frequencies count steps of 100 Hz".
--- 0 frequency, 8 BCD digits; 4 reserved 12; 5 b3-b0 FEC_outer; 6 modulation 8; 7 symbol_rate, 7 BCD digits; 10 b3-b0 FEC_inner
+-- the body, in the order of the table. "Cable .. frequencies count steps of 100 Hz"
+abbrev pub layout : List Field
+layout =
+    kept 32 -- 0 frequency, 8 BCD digits
+    ∷ reserved 12
+    ∷ kept 4 -- 2 FEC_outer
+    ∷ kept 8 -- 3 modulation
+    ∷ kept 28 -- 4 symbol_rate, 7 BCD digits
+    ∷ kept 4 -- 5 FEC_inner
+    ∷ []
+
+-- each field by its index in the layout
 unfoldable pub fields : List ℕ → Reading Cable
 fields b = do
-  frequency ← digitsAt 8 b 0
-  rate ← digitsAt 7 b 7
+  frequency ← digitsOf layout 0 b
+  rate ← digitsOf layout 4 b
   value (record {
     frequency = record { 0 = frequency };
-    «fec_outer» = bitsAt 3 0 b 5;
-    modulation = getD b 6 0;
+    «fec_outer» = bitsOf layout 2 b;
+    modulation = byteOf layout 3 b;
     «symbol_rate» = rate;
-    «fec_inner» = bitsAt 3 0 b 10;
+    «fec_inner» = bitsOf layout 5 b;
   })
 
--- the tag 0x44, and a body of 11 bytes
+-- the tag 0x44, and a body of the layout's 11 bytes
 unfoldable pub cable : List ℕ → Reading Cable
-cable s = fixed 11 0x44 s >>= fields
+cable s = fixed (size layout) 0x44 s >>= fields
+
+-- the values that its kept fields have, in the layout's order
+abbrev pub shown : Cable → List ℕ
+shown f =
+    bcdShow 8 (f .frequency .0)
+    ∷ f .«fec_outer»
+    ∷ f .modulation
+    ∷ bcdShow 7 (f .«symbol_rate»)
+    ∷ f .«fec_inner»
+    ∷ []
+
+-- its numbers in BCD have no more digits than their fields
+abbrev pub Digits : Cable → Type 0
+Digits f = (f .frequency .0 < 10 ^ 8) × (f .«symbol_rate» < 10 ^ 7)
 
 -- document 01's number for every answer
 abbrev pub told : Answer → Reading Cable

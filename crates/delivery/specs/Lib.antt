@@ -1,5 +1,4 @@
--- What the readings of the delivery systems tell. In the layouts, the number in front of a field is its place in the body or the
--- item, and the one behind it its bits.
+-- What the readings of the delivery systems tell.
 pub mod Satellite
 pub mod Cable
 pub mod Terrestrial

@@ -15,7 +15,7 @@ use Rattle.wire.proofs.PartLaws.{part-front}
 use Rattle.layout.specs.Refusal.{partAt, bytesOf}
 use Rattle.layout.specs.Body.{lengthed, framed}
 use Rattle.layout.specs.Items.{items, count, place}
-use Rattle.layout.specs.Texts.{twoTexts}
+use Rattle.layout.specs.Texts.{twoTexts, Filled}
 use Rattle.layout.specs.declared.texts.TwoTexts.{TwoTexts}
 use Rattle.layout.proofs.Inside.{inside}
 
@@ -47,7 +47,7 @@ whole-part tag s b e = ap (λ l. take (length b) (drop 2 l)) (framed-is tag s b 
 
 -- ---- two texts
 
-cons-at : (l : List ℕ) (i : ℕ) → i < length l → drop i l ≡ getD l i 0 ∷ drop (i + 1) l
+pub cons-at : (l : List ℕ) (i : ℕ) → i < length l → drop i l ≡ getD l i 0 ∷ drop (i + 1) l
 cons-at l i h = rw add-one (drop-cons l i 0 h)
 
 -- the part at a place of the body is that many bytes of it
@@ -55,12 +55,6 @@ pub part-at : (s : List ℕ) (at n : ℕ) → bytesOf s (partAt at n) ≡ take n
 part-at s at n = ap (take n) (sym (drop-drop at 2 s))
 
 module _ (h : ℕ) (s : List ℕ) where
-  -- h bytes, and then each text after its length, and nothing else
-  abbrev pub Filled : TwoTexts → Type 0
-  Filled t =
-      drop 2 s
-      ≡ take h (drop 2 s) ++ (t .first .length ∷ (bytesOf s (t .first) ++ (t .second .length ∷ bytesOf s (t .second))))
-
   module _ (a n : ℕ) (first : getD (drop 2 s) h 0 ≡ a) (second : getD (drop 2 s) (h + 1 + a) 0 ≡ n)
       (fills : length (drop 2 s) ≡ h + 2 + a + n) where
     last : drop (h + 1 + a + 1) (drop 2 s) ≡ bytesOf s (partAt (h + 2 + a) n)
@@ -69,7 +63,7 @@ module _ (h : ℕ) (s : List ℕ) where
         let l : length (drop (h + 2 + a) (drop 2 s)) ≤ n = simp length-drop (omega (arith, length-drop 2 s)) in
         ap (λ i. drop i (drop 2 s)) e ∙ sym (take-all n (drop (h + 2 + a) (drop 2 s)) l) ∙ sym (part-at s (h + 2 + a) n)
 
-    filled : Filled (record { first = partAt (h + 1) a; second = partAt (h + 2 + a) n })
+    filled : Filled h s (record { first = partAt (h + 1) a; second = partAt (h + 2 + a) n })
     filled =
         sym (take-append-drop h (drop 2 s))
         ∙ ap (λ x. take h (drop 2 s) ++ x)
@@ -78,25 +72,29 @@ module _ (h : ℕ) (s : List ℕ) where
         (part-front (drop 2 s) (h + 1) a
         ∙ ap₂ _++_ (sym (part-at s (h + 1) a)) (cons-at (drop 2 s) (h + 1 + a) (omega arith) ∙ ap₂ _∷_ second last)))
 
-  pub texts-are : (t : TwoTexts) → twoTexts h (drop 2 s) ≡ value t → Filled t
+  pub texts-are : (t : TwoTexts) → twoTexts h (drop 2 s) ≡ value t → Filled h s t
   unfolding twoTexts
   texts-are t =
       let b : List ℕ = drop 2 s in
       let a : ℕ = getD b h 0 in
       let n : ℕ = getD b (h + 1 + a) 0 in
-      if-case (λ x. x ≡ value t → Filled t) (eqb (length b) (h + 2 + a + n))
-      (λ l e. subst Filled (value-is e) (filled a n refl refl (eqb-true (length b) (h + 2 + a + n) l)))
+      if-case (λ x. x ≡ value t → Filled h s t) (eqb (length b) (h + 2 + a + n))
+      (λ l e. subst (Filled h s) (value-is e) (filled a n refl refl (eqb-true (length b) (h + 2 + a + n) l)))
       (λ l e. absurd (never (sym e)))
 
 -- such a body is read, and the texts are those
 pub texts-if : (head x y : List ℕ)
     → twoTexts (length head) (head ++ (length x ∷ (x ++ (length y ∷ y))))
-    ≡ value (record { first = partAt (length head + 1) (length x); second = partAt (length head + 2 + length x) (length y) })
+    ≡ value (record {
+      first = partAt (length head + 1) (length x);
+      second = partAt (length head + 2 + length x) (length y);
+    })
 unfolding twoTexts
 texts-if head x y =
     let b : List ℕ = head ++ (length x ∷ (x ++ (length y ∷ y))) in
     let p : getD b (length head) 0 ≡ length x = getD-at head (length x) (x ++ (length y ∷ y)) 0 (length head) refl in
-    let m : length (head ++ (length x ∷ x)) ≡ length head + 1 + length x = length-append head (length x ∷ x) ∙ omega arith in
+    let m : length (head ++ (length x ∷ x)) ≡ length head + 1 + length x =
+    length-append head (length x ∷ x) ∙ omega arith in
     let q : getD b (length head + 1 + length x) 0 ≡ length y =
     ap (λ z. getD z (length head + 1 + length x) 0) (sym (append-assoc head (length x ∷ x) (length y ∷ y)))
     ∙ getD-at (head ++ (length x ∷ x)) (length y) y 0 (length head + 1 + length x) m in
@@ -126,7 +124,8 @@ module _ (k tag : ℕ) (s : List ℕ) (i : ℕ) where
   unfolding items
   body-of b e =
       let t = through (framed tag s) _ b e in
-      if-case (λ x. x ≡ value b → framed tag s ≡ value b) (eqb (length (t .0) % k) 0) (λ _ q. t .1 ∙ q) (λ _ q. absurd (never (sym q))) (t .2)
+      if-case (λ x. x ≡ value b → framed tag s ≡ value b) (eqb (length (t .0) % k) 0) (λ _ q. t .1 ∙ q)
+      (λ _ q. absurd (never (sym q))) (t .2)
 
   -- an item that is read lies whole inside the caller's bytes
   pub item-inside : (at : ℕ) → place k tag s i ≡ value at → at + k ≤ length s

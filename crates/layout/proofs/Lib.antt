@@ -2,4 +2,6 @@
 pub mod Frames
 pub mod Inside
 pub mod Exactly
+pub mod Accepts
 pub mod Unique
+pub mod WidthLaws

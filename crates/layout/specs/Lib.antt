@@ -4,3 +4,5 @@ pub mod Body
 pub mod Items
 pub mod Field
 pub mod Texts
+pub mod Widths
+pub mod Shapes

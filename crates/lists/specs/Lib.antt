@@ -1,5 +1,4 @@
--- What the readings of the descriptors that are lists tell. In the layouts, the number in front of a field is its place in the body or the
--- item, and the one behind it its bits.
+-- What the readings of the descriptors that are lists tell.
 pub mod ServiceList
 pub mod Content
 pub mod ParentalRating

@@ -1,26 +1,37 @@
 -- 0x55 parental rating: EN 300 468, clause 6.2.28.
-use mathlib.Core.List.{List}
+use mathlib.Core.List.{List, [], _∷_}
 use Prim.Native.Nat.{ℕ}
-use lib.ListN.{getD}
 use Rattle.wire.specs.Reading.{Reading, value, refused, _>>=_}
-use Rattle.wire.specs.Number.{numberAt}
+use Rattle.forms.specs.Fields.{Field, kept}
 use Rattle.layout.specs.Refusal.{numbered}
 use Rattle.layout.specs.Items.{item, count}
+use Rattle.layout.specs.Widths.{size, byteOf, numberOf}
 use Rattle.lists.specs.declared.parental_rating.Item.{Item}
 use Rattle.lists.specs.declared.parental_rating.Answer.{Answer}
 use Rattle.lists.specs.declared.parental_rating.Answer.the-variants.{Is, Refused}
 
--- repeated 4 bytes: 0 country_code 24; 3 rating 8
-abbrev pub fields : List ℕ → Item
-fields b = record { «country_code» = numberAt 3 b 0; rating = getD b 3 0 }
+-- an item, in the order of the table
+abbrev pub layout : List Field
+layout =
+    kept 24 -- 0 country_code
+    ∷ kept 8 -- 1 rating
+    ∷ []
 
--- the item of an index, of a body of items of 4 bytes behind the tag 0x55
+-- each field by its index in the layout
+abbrev pub fields : List ℕ → Item
+fields b = record { «country_code» = numberOf layout 0 b; rating = byteOf layout 1 b }
+
+-- the item of an index, of a body of items of the layout's 4 bytes behind the tag 0x55
 unfoldable pub parentalRating : List ℕ → ℕ → Reading Item
-parentalRating s index = item 4 0x55 s index >>= λ b. value (fields b)
+parentalRating s index = item (size layout) 0x55 s index >>= λ b. value (fields b)
 
 -- how many there are
 abbrev pub ratingCount : List ℕ → Reading ℕ
-ratingCount s = count 4 0x55 s
+ratingCount s = count (size layout) 0x55 s
+
+-- the values that its fields have, in the layout's order
+abbrev pub shown : Item → List ℕ
+shown i = i .«country_code» ∷ i .rating ∷ []
 
 -- document 01's number for every answer
 abbrev pub told : Answer → Reading Item

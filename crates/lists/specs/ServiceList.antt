@@ -1,26 +1,37 @@
 -- 0x41 service list: EN 300 468, clause 6.2.35.
-use mathlib.Core.List.{List}
+use mathlib.Core.List.{List, [], _∷_}
 use Prim.Native.Nat.{ℕ}
-use lib.ListN.{getD}
 use Rattle.wire.specs.Reading.{Reading, value, refused, _>>=_}
-use Rattle.wire.specs.Number.{numberAt}
+use Rattle.forms.specs.Fields.{Field, kept}
 use Rattle.layout.specs.Refusal.{numbered}
 use Rattle.layout.specs.Items.{item, count}
+use Rattle.layout.specs.Widths.{size, byteOf, numberOf}
 use Rattle.lists.specs.declared.service_list.Item.{Item}
 use Rattle.lists.specs.declared.service_list.Answer.{Answer}
 use Rattle.lists.specs.declared.service_list.Answer.the-variants.{Is, Refused}
 
--- repeated 3 bytes: 0 service_id 16; 2 service_type 8
-abbrev pub fields : List ℕ → Item
-fields b = record { «service_id» = numberAt 2 b 0; «service_type» = getD b 2 0 }
+-- an item, in the order of the table
+abbrev pub layout : List Field
+layout =
+    kept 16 -- 0 service_id
+    ∷ kept 8 -- 1 service_type
+    ∷ []
 
--- the item of an index, of a body of items of 3 bytes behind the tag 0x41
+-- each field by its index in the layout
+abbrev pub fields : List ℕ → Item
+fields b = record { «service_id» = numberOf layout 0 b; «service_type» = byteOf layout 1 b }
+
+-- the item of an index, of a body of items of the layout's 3 bytes behind the tag 0x41
 unfoldable pub serviceList : List ℕ → ℕ → Reading Item
-serviceList s index = item 3 0x41 s index >>= λ b. value (fields b)
+serviceList s index = item (size layout) 0x41 s index >>= λ b. value (fields b)
 
 -- how many there are
 abbrev pub serviceCount : List ℕ → Reading ℕ
-serviceCount s = count 3 0x41 s
+serviceCount s = count (size layout) 0x41 s
+
+-- the values that its fields have, in the layout's order
+abbrev pub shown : Item → List ℕ
+shown i = i .«service_id» ∷ i .«service_type» ∷ []
 
 -- document 01's number for every answer
 abbrev pub told : Answer → Reading Item

@@ -7,10 +7,10 @@ use Rattle.wire.specs.Reading.{value}
 use Rattle.wire.proofs.ReadingLaws.{value-is, through}
 use Rattle.layout.specs.Refusal.{bytesOf}
 use Rattle.layout.specs.Body.{framed}
-use Rattle.layout.specs.Texts.{twoTexts}
+use Rattle.layout.specs.Texts.{twoTexts, Filled}
 use Rattle.layout.specs.declared.Part.{Part}
 use Rattle.layout.specs.declared.texts.TwoTexts.{TwoTexts}
-use Rattle.layout.proofs.Exactly.{framed-is, whole-part, Filled, texts-are}
+use Rattle.layout.proofs.Exactly.{framed-is, whole-part, texts-are}
 use Rattle.texts.specs.Whole.{whole}
 use Rattle.texts.specs.NetworkName.{networkName}
 use Rattle.texts.specs.Stuffing.{stuffing}

@@ -1,3 +1,4 @@
 -- What holds of the answers.
 pub mod Handed
+pub mod Layouts
 pub mod Unique

@@ -1,5 +1,4 @@
--- What the readings of the descriptors that hold texts tell. In the layouts, the number in front of a field is its place in the body or the
--- item, and the one behind it its bits.
+-- What the readings of the descriptors that hold texts tell.
 pub mod Whole
 pub mod NetworkName
 pub mod Stuffing

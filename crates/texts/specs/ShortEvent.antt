@@ -1,24 +1,35 @@
 -- 0x4D short event: EN 300 468, clause 6.2.37.
-use mathlib.Core.List.{List}
+use mathlib.Core.List.{List, [], _∷_}
 use Prim.Native.Nat.{ℕ}
-use Rattle.wire.specs.Number.{numberAt}
 use Rattle.wire.specs.Reading.{Reading, value, refused, _>>=_}
+use Rattle.forms.specs.Fields.{Field, kept}
 use Rattle.layout.specs.Refusal.{numbered}
 use Rattle.layout.specs.Body.{framed}
 use Rattle.layout.specs.Texts.{twoTexts}
+use Rattle.layout.specs.Widths.{size, numberOf}
+use Rattle.layout.specs.declared.texts.TwoTexts.{TwoTexts}
 use Rattle.texts.specs.declared.short_event.ShortEvent.{ShortEvent}
 use Rattle.texts.specs.declared.short_event.Answer.{Answer}
 use Rattle.texts.specs.declared.short_event.Answer.the-variants.{Is, Refused}
 
--- 0 language_code 24; 3 length of the name 8; 4.. the name; then length of the text 8, and the text to the end
+-- what stands in front of the texts
+abbrev pub layout : List Field
+layout = kept 24 -- 0 language_code
+    ∷ []
+
+-- behind it the length of the name, 8 bits, and the name; then the length of the text, 8 bits, and the text to the end
 unfoldable pub fields : List ℕ → Reading ShortEvent
 fields b = do
-  texts ← twoTexts 3 b
-  value (record { «language_code» = numberAt 3 b 0; «event_name» = texts .first; text = texts .second })
+  parts ← twoTexts (size layout) b
+  value (record { «language_code» = numberOf layout 0 b; «event_name» = parts .first; text = parts .second })
 
 -- the tag 0x4D, and a body of those fields
 unfoldable pub shortEvent : List ℕ → Reading ShortEvent
 shortEvent s = framed 0x4D s >>= fields
+
+-- its two texts
+abbrev pub texts : ShortEvent → TwoTexts
+texts f = record { first = f .«event_name»; second = f .text }
 
 -- document 01's number for every answer
 abbrev pub told : Answer → Reading ShortEvent

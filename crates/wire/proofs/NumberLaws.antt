@@ -1,9 +1,10 @@
 -- Numbers in what is left of a list.
 use mathlib.Core.Path.{_≡_, refl, ap, ap₂, _∙_}
-use mathlib.Core.List.{List, _∷_}
-use Prim.Native.Nat.{ℕ, zero, suc, _+_}
-use native.Mathlib.Nat.{add-assoc, add-zero}
-use lib.ListN.{drop}
+use mathlib.Core.List.{List, _∷_, _++_}
+use Prim.Native.Nat.{ℕ, zero, suc, _+_, _≤_}
+use native.Mathlib.Nat.{add-assoc, add-zero, zero-add}
+use native.Mathlib.Omega.{arith}
+use lib.ListN.{length, drop, List·getD-append}
 use lib.Seq.{getD-drop}
 use Rattle.wire.specs.Number.{number, bytesAt, numberAt}
 
@@ -16,3 +17,12 @@ bytes-after (suc n) s k i = ap₂ _∷_ (getD-drop k s i 0) (bytes-after n s k (
 pub number-after : (n : ℕ) (s : List ℕ) (k : ℕ) → number (bytesAt n (drop k s) 0) ≡ numberAt n s k
 unfolding numberAt
 number-after n s k = ap number (bytes-after n s k 0) ∙ rw add-zero
+
+-- the number in the first n bytes of a list is theirs, whatever follows
+pub number-in-front : (n : ℕ) (x y : List ℕ) → n ≤ length x → numberAt n (x ++ y) 0 ≡ numberAt n x 0
+unfolding numberAt
+number-in-front n x y h = ap number (go n 0 (rw zero-add h))
+  where
+    go : (n i : ℕ) → i + n ≤ length x → bytesAt n (x ++ y) i ≡ bytesAt n x i
+    go zero i h = refl
+    go (suc n) i h = ap₂ _∷_ (List·getD-append x y 0 i (omega arith)) (go n (i + 1) (omega arith))
