@@ -164,11 +164,13 @@ all-bits-of-the-pid =
     ∷ filled (0x47 ∷ 0x5F ∷ 0x7F ∷ 0x12 ∷ 0x00 ∷ []) gives refused 46
     ∷ [])
 
--- "11 with length above 182; or 10 with length other than 183", scrambling control 01 and 10
+-- transport_error_indicator without the start flag; scrambling control 01 and 10; "11 with length above 182; or 10 with
+-- length other than 183"
 abbrev pub each-control : Story
 each-control =
     fromFresh 20 (recordOf 20 (Counter 0) 0 0 0 0 0 1)
-    (filled (0x47 ∷ 0x00 ∷ 0x14 ∷ 0x50 ∷ []) gives refused 47
+    (filled (0x47 ∷ 0x80 ∷ 0x14 ∷ 0x10 ∷ []) gives refused 45
+    ∷ filled (0x47 ∷ 0x00 ∷ 0x14 ∷ 0x50 ∷ []) gives refused 47
     ∷ filled (0x47 ∷ 0x00 ∷ 0x14 ∷ 0x90 ∷ []) gives refused 47
     ∷ filled (0x47 ∷ 0x00 ∷ 0x14 ∷ 0x30 ∷ 183 ∷ []) gives refused 48
     ∷ filled (0x47 ∷ 0x00 ∷ 0x14 ∷ 0x20 ∷ 182 ∷ []) gives refused 48
