@@ -110,8 +110,8 @@ stands r = record {
 }
 
 pub collect-tells : (t : collector.Told) → Tells t (collectSays t)
-collect-tells (collector.refused k) = Tells.refused refl
-collect-tells collector.repeated = Tells.repeated refl refl
+collect-tells (collector.refused k) = Tells.refused refl refl refl refl
+collect-tells collector.repeated = Tells.repeated refl refl refl refl
 collect-tells (collector.taken n b) = Tells.taken refl refl refl refl
 
 -- ---- a run, call by call

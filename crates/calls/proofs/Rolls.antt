@@ -81,9 +81,9 @@ pub says-stand : (q : of.Roll) → Stands (rollSays q) q
 says-stand q = subst (Stands (rollSays q)) (roll-back q) (stands (rollSays q))
 
 pub answer-tells : (x : Says) → Tells x (rollAnswer x)
-answer-tells (missing n) = least refl refl refl
-answer-tells complete = all refl refl
-answer-tells (refusing k p) = Tells.refusal refl refl
+answer-tells (missing n) = least refl refl refl refl
+answer-tells complete = all refl refl refl refl
+answer-tells (refusing k p) = Tells.refusal refl refl refl refl
 
 pub empty-begins : (r : Roll) → PromisedEmpty r → r .begun ≡ 0
 unfolding rollSays emptyRoll
@@ -117,12 +117,12 @@ calls-beneath r s o is = record {
 -- a number other than 0 is that of a refusal
 number-says : {x : Says} {a : RollAnswer} (k p : ℕ) → (k ≡ 0 → ⊥) → Tells x a → a .number ≡ k → a .place ≡ p
     → x ≡ refusing k p
-number-says k p n0 (least z c m) e f = absurd (n0 (sym e ∙ z))
-number-says k p n0 (all z c) e f = absurd (n0 (sym e ∙ z))
-number-says k p n0 (Tells.refusal i j) e f = ap₂ refusing (sym i ∙ e) (sym j ∙ f)
+number-says k p n0 (least z q c m) e f = absurd (n0 (sym e ∙ z))
+number-says k p n0 (all z q c m) e f = absurd (n0 (sym e ∙ z))
+number-says k p n0 (Tells.refusal i j c m) e f = ap₂ refusing (sym i ∙ e) (sym j ∙ f)
 
 refusal-told : {k p : ℕ} {a : RollAnswer} → Tells (refusing k p) a → (a .number ≡ k) × (a .place ≡ p)
-refusal-told (Tells.refusal i j) = (i, j)
+refusal-told (Tells.refusal i j c m) = (i, j)
 
 pub refuses-exactly : RefusesExactlyIf Promised
 refuses-exactly r s o is k p n0 =

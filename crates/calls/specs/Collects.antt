@@ -32,11 +32,14 @@ pub record Stands (r : Record) (x : of.Record) : Type 0 where
   pub filler : x .filler ≡ r .filler
   pub skipped : x .skipped ≡ r .skipped
 
--- the answer tells what is said: a refusal's number; "repeated"; or taken, with the number of sections and of their
+-- the answer tells what is said, and is 0 elsewhere: a refusal's number; "repeated"; or taken, with the number of
+-- sections and of their
 -- bytes
 pub data Tells : Told → CollectAnswer → Type 0 where
-  refused : {k : ℕ} {a : CollectAnswer} → a .number ≡ k → Tells (Answer.refused k) a
-  repeated : {a : CollectAnswer} → a .number ≡ 0 → a .repeated ≡ 1 → Tells Answer.repeated a
+  refused : {k : ℕ} {a : CollectAnswer} → a .number ≡ k → a .repeated ≡ 0 → a .sections ≡ 0 → a .size ≡ 0
+      → Tells (Answer.refused k) a
+  repeated : {a : CollectAnswer} → a .number ≡ 0 → a .repeated ≡ 1 → a .sections ≡ 0 → a .size ≡ 0
+      → Tells Answer.repeated a
   taken : {n b : ℕ} {a : CollectAnswer} → a .number ≡ 0 → a .repeated ≡ 0 → a .sections ≡ n → a .size ≡ b
       → Tells (Answer.taken n b) a
 

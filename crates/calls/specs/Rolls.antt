@@ -25,7 +25,7 @@ use Rattle.cabinet.specs.declared.rolls.RollAnswer.{RollAnswer}
 
 -- the numbers stand for the roll
 pub record Stands (r : Roll) (q : of.Roll) : Type 0 where
-  -- "0 for an empty roll": any other number is one that is begun
+  -- 0 for an empty roll, any other number for one that is begun
   pub begun : (q .begun ≡ false) ↔ (r .begun ≡ 0)
   pub table : q .«sub_table» .«table_id» ≡ r .«table_id»
   pub extension : q .«sub_table» .extension ≡ r .extension
@@ -36,11 +36,14 @@ pub record Stands (r : Roll) (q : of.Roll) : Type 0 where
   -- any number but 0 is a mark
   pub marks : (n : ℕ) → (has (q .marks) n ≡ false) ↔ (getD (r .came) n 0 ≡ 0)
 
--- the answer tells what is said: the smallest number missing; complete; or a refusal's number and place
+-- the answer tells what is said, and is 0 elsewhere: the smallest number missing; complete; or a refusal's number and
+-- place
 pub data Tells : Says → RollAnswer → Type 0 where
-  least : {n : ℕ} {a : RollAnswer} → a .number ≡ 0 → a .complete ≡ 0 → a .missing ≡ n → Tells (missing n) a
-  all : {a : RollAnswer} → a .number ≡ 0 → a .complete ≡ 1 → Tells complete a
-  refusal : {k p : ℕ} {a : RollAnswer} → a .number ≡ k → a .place ≡ p → Tells (refusing k p) a
+  least : {n : ℕ} {a : RollAnswer} → a .number ≡ 0 → a .place ≡ 0 → a .complete ≡ 0 → a .missing ≡ n
+      → Tells (missing n) a
+  all : {a : RollAnswer} → a .number ≡ 0 → a .place ≡ 0 → a .complete ≡ 1 → a .missing ≡ 0 → Tells complete a
+  refusal : {k p : ℕ} {a : RollAnswer} → a .number ≡ k → a .place ≡ p → a .complete ≡ 0 → a .missing ≡ 0
+      → Tells (refusing k p) a
 
 -- ---- calls
 

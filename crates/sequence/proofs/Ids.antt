@@ -23,11 +23,11 @@ pub compared-as-it-stands : (s : List ℕ) → compared (subTableOf s) ≡ subTa
 unfolding subTableOf
 compared-as-it-stands s = counted-twice (getD s 0 0) (numberAt 2 s 3) (numberAt 2 s 8) (networkIn s)
 
-and-left : (a b : Bool) → (a && b) ≡ true → a ≡ true
+pub and-left : (a b : Bool) → (a && b) ≡ true → a ≡ true
 and-left true b h = refl
 and-left false b h = h
 
-and-right : (a b : Bool) → (a && b) ≡ true → b ≡ true
+pub and-right : (a b : Bool) → (a && b) ≡ true → b ≡ true
 and-right true b h = h
 and-right false b h = absurd (false≢true h)
 

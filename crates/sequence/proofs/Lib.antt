@@ -10,4 +10,5 @@ pub mod WholeSequence
 pub mod AboveLast
 pub mod Fixed
 pub mod AtWork
+pub mod TakenAtWork
 pub mod Tied
