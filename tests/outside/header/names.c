@@ -1,4 +1,4 @@
-/* The header's constants are those of the library, and every text of lohitunga_text: a line `number text` for each that is not the text of any number. */
+/* The header's constants are those of the library. Prints `number text` for every number that has a text of its own. */
 #include <stdio.h>
 #include <string.h>
 
