@@ -1,6 +1,6 @@
 #!/bin/sh
-# The library as a user of C gets it: installed, and out of the tar file, with the header's own first program against the
-# static and the shared library.
+# The library as a user of C gets it: installed, and out of the tar file, with the header's own first program against
+# the static and the shared library.
 set -eu
 cd "$(dirname "$0")/../.."
 . tools/x86-64
@@ -40,7 +40,8 @@ for place in "$room/usr" "$room/lohitunga-$version-x86_64-linux"; do
     $cc $words $static "$room/first.c" "$(asked --variable=libdir)/liblohitunga.a" -o "$room/static"
     says "static, $place" $before "$room/static"
     $cc $words "$room/first.c" $(asked --libs) -o "$room/shared"
-    $objdump -p "$room/shared" | grep -q "NEEDED *liblohitunga.so.$interface\$" || bad "the program names no liblohitunga.so.$interface"
+    $objdump -p "$room/shared" >"$room/parts"
+    grep -q "NEEDED *liblohitunga.so.$interface\$" "$room/parts" || bad "the program names no liblohitunga.so.$interface"
     # where programs are emulated there is no C library to share
     [ -n "$static" ] || says "shared, $place" env LD_LIBRARY_PATH="$place/lib" "$room/shared"
 done

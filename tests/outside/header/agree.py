@@ -56,7 +56,8 @@ def source():
             assert len(structs[snake(name)]) == body.count(":"), f"a field of {name} is not understood"
         exported = r"#\[no_mangle\]\s*pub extern \"C\" fn (\w+)\((.*?)\) -> (\w+)\s"
         for name, words, result in re.findall(exported, text, re.S):
-            functions[name] = ([kind for _, kind in re.findall(r"(\w+):\s*(&?(?:mut )?(?:\[.*?\]|\w+))", words)], result)
+            kinds = re.findall(r"\w+:\s*(&?(?:mut )?(?:\[.*?\]|\w+))", words)
+            functions[name] = (kinds, result)
     return structs, functions
 
 

@@ -1,5 +1,5 @@
-/* What the header allows of what is lent: a null pointer with a length of 0, for every call that takes bytes, and inputs
- * that overlap each other. */
+/* What the header allows of what is lent: a null pointer with a length of 0, for every call that takes bytes, and
+ * inputs that overlap each other. */
 #include <stdio.h>
 #include <stdlib.h>
 #include <string.h>
