@@ -2,10 +2,11 @@
 #
 #     make                          target/lib: liblohitunga.a, the shared library and the pkg-config file
 #     make install PREFIX=/usr      library, headers, pkg-config file and documents; DESTDIR is put before PREFIX
-#     make dist                     target/lohitunga-VERSION-x86_64-linux.tar.gz with the built library: who has it needs no prover
+#     make dist                     target/lohitunga-VERSION-x86_64-linux.tar.gz, with the built library: no prover needed
 #     make clean                    what `make` and `make dist` have made
 #
-# The library is made of the kit's archives, one for each crate that is named here; each is proved before it is compiled.
+# The library is made of the kit's archives, one for each crate that is named here; each is proved before it is
+# compiled.
 CRATES = cabinet
 PREFIX = /usr/local
 DESTDIR =

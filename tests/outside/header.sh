@@ -1,5 +1,6 @@
 #!/bin/sh
-# The header for C: it declares what the source has, field by field; sizes and places; its constants and texts; what may be lent; C++.
+# The header for C: it declares what the source has, field by field; sizes and places; its constants and texts; what may
+# be lent; C++.
 set -eu
 cd "$(dirname "$0")/../.."
 . tools/x86-64
@@ -15,7 +16,8 @@ mkdir -p "$out"
 python3 $here/agree.py
 python3 $here/agree.py --layout >"$out/layout"
 sed '1,/^$/d' $here/layout.c | cmp -s - "$out/layout" || {
-    echo "header: the layout of a struct is not that of $here/layout.c. Where that is meant, LOHITUNGA_INTERFACE goes up, and layout.c is written anew:"
+    echo "header: the layout of a struct is not that of $here/layout.c."
+    echo "Where that is meant, LOHITUNGA_INTERFACE goes up, and layout.c is written anew:"
     sed '1,/^$/d' $here/layout.c | diff - "$out/layout"
     exit 1
 }
@@ -28,5 +30,6 @@ ${cc%gcc}g++ -std=c++11 $flags $here/plus.cc $library -o "$out/plus"
 $before "$out/lent"
 $before "$out/names" >"$out/texts"
 python3 $here/agree.py --texts "$out/texts"
-echo "header: the names of table ids, tags and refusals are the library's; $(wc -l <"$out/texts") texts, in the words of docs/REFUSALS.md"
+echo "header: the names of table ids, tags and refusals are the library's"
+echo "header: $(wc -l <"$out/texts") texts, in the words of docs/REFUSALS.md"
 $before "$out/plus"

@@ -1,4 +1,4 @@
--- What the readings of times, durations, offsets and dates say in numbers: 0 and the value, or the refusal's number and zeros.
+-- What the readings of times, durations, offsets and dates say in numbers: 0 and the value, or the refusal and zeros.
 use lib.IntN.{ℤ, pos}
 use Rattle.wire.specs.Reading.{Reading, value, refused}
 use Rattle.clock.specs.declared.Hms.{Hms}
@@ -16,7 +16,13 @@ use Rattle.cabinet.specs.declared.times.DateAnswer.{DateAnswer}
 -- a time's fields; "Forty ones mean "undefined"": 1 in that field, and zeros
 abbrev pub momentSays : clock.Moment → Moment
 momentSays Undefined = record { mjd = 0; hour = 0; minute = 0; second = 0; undefined = 1 }
-momentSays (At t) = record { mjd = t .mjd; hour = t .clock .hour; minute = t .clock .minute; second = t .clock .second; undefined = 0 }
+momentSays (At t) = record {
+  mjd = t .mjd;
+  hour = t .clock .hour;
+  minute = t .clock .minute;
+  second = t .clock .second;
+  undefined = 0;
+}
 
 -- zeros, where there is no time
 abbrev pub noMoment : Moment

@@ -69,7 +69,13 @@ cableSays f = record {
 
 -- zeros, where there is none
 abbrev pub noCable : Cable
-noCable = record { frequency = record { steps = 0 }; «symbol_rate» = 0; «fec_outer» = 0; modulation = 0; «fec_inner» = 0 }
+noCable = record {
+  frequency = record { steps = 0 };
+  «symbol_rate» = 0;
+  «fec_outer» = 0;
+  modulation = 0;
+  «fec_inner» = 0;
+}
 
 -- the cable delivery system, or the refusal
 abbrev pub cableAnswer : Reading cable.Cable → CableAnswer

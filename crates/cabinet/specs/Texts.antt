@@ -1,4 +1,4 @@
--- What the readings of the descriptors that hold texts say in numbers: 0 and the fields, or the refusal's number and zeros.
+-- What the readings of the descriptors that hold texts say in numbers: 0 and the fields, or the refusal and zeros.
 use Rattle.wire.specs.Reading.{Reading, value, refused}
 use Rattle.layout.specs.declared.Part as layout
 use Rattle.texts.specs.declared.service.Service as service

@@ -1,10 +1,11 @@
 #!/usr/bin/env python3
 """The header for C and the source say the same: agree.py [--layout | --texts FILE]
 
-    agree.py                every exported function and every struct of the source against include/lohitunga.h, field by field; the header's constants
-                            against docs/REFUSALS.md and CHANGELOG.md; the calls that take bytes against lent.c
-    agree.py --layout       prints the static assertions of layout.c: sizes and places of fields by the rules of #[repr(C)]
-    agree.py --texts FILE   FILE has a line `number text` for each text that lohitunga_text gives: they are the words of docs/REFUSALS.md
+    agree.py                every exported function and every struct of the source against include/lohitunga.h, field by
+                            field; the header's constants against docs/REFUSALS.md and CHANGELOG.md; the calls that take
+                            bytes against lent.c
+    agree.py --layout       prints the static assertions of layout.c: sizes and places of fields by #[repr(C)]'s rules
+    agree.py --texts FILE   FILE has a line `number text` for each text of lohitunga_text: the words of docs/REFUSALS.md
 """
 import re
 import sys
@@ -53,8 +54,10 @@ def source():
         for name, body in re.findall(r"#\[repr\(C\)\]\s*pub struct (\w+) \{(.*?\n)\}", text, re.S):
             structs[snake(name)] = re.findall(r"pub (\w+): (.*?),\n", body)
             assert len(structs[snake(name)]) == body.count(":"), f"a field of {name} is not understood"
-        for name, words, result in re.findall(r"#\[no_mangle\]\s*pub extern \"C\" fn (\w+)\((.*?)\) -> (\w+)\s", text, re.S):
-            functions[name] = ([kind for _, kind in re.findall(r"(\w+):\s*(&?(?:mut )?(?:\[.*?\]|\w+))", words)], result)
+        exported = r"#\[no_mangle\]\s*pub extern \"C\" fn (\w+)\((.*?)\) -> (\w+)\s"
+        for name, words, result in re.findall(exported, text, re.S):
+            kinds = re.findall(r"\w+:\s*(&?(?:mut )?(?:\[.*?\]|\w+))", words)
+            functions[name] = (kinds, result)
     return structs, functions
 
 

@@ -8,7 +8,8 @@
 #define SIZE(type, field) sizeof(((type *)0)->field)
 #endif
 #define IS(value, wanted) HOLDS((value) == (wanted), #value)
-#define FIELD(type, field, place, size) HOLDS(offsetof(type, field) == (place) && SIZE(type, field) == (size), #type "." #field)
+#define FIELD(type, field, place, size) \
+    HOLDS(offsetof(type, field) == (place) && SIZE(type, field) == (size), #type "." #field)
 
 IS(LOHITUNGA_INTERFACE, 1);
 IS(sizeof(lohitunga_cable), 12);

@@ -1,4 +1,5 @@
-/* What the header allows of what is lent: a null pointer with a length of 0, for every call that takes bytes, and inputs that overlap each other. */
+/* What the header allows of what is lent: a null pointer with a length of 0, for every call that takes bytes, and
+ * inputs that overlap each other. */
 #include <stdio.h>
 #include <stdlib.h>
 #include <string.h>
@@ -64,8 +65,10 @@ static void overlapping(const uint8_t *bytes, size_t size)
             memcpy(alone, bytes + from, n);
             is("CRC_32 in place", lohitunga_crc32(bytes + from, n), lohitunga_crc32(alone, n));
             is("judge in place", lohitunga_judge(bytes + from, n).number, lohitunga_judge(alone, n).number);
-            is("search in place", lohitunga_search(bytes + from, n, bytes[from]).number, lohitunga_search(alone, n, bytes[from]).number);
-            is("walk in place", (long long)lohitunga_walk(bytes + from, n, 0).next, (long long)lohitunga_walk(alone, n, 0).next);
+            is("search in place", lohitunga_search(bytes + from, n, bytes[from]).number,
+               lohitunga_search(alone, n, bytes[from]).number);
+            is("walk in place", (long long)lohitunga_walk(bytes + from, n, 0).next,
+               (long long)lohitunga_walk(alone, n, 0).next);
             is("sheet in place", lohitunga_to_sheet(bytes + from, n, room, sizeof room).number,
                lohitunga_to_sheet(alone, n, other_room, sizeof other_room).number);
             is("the input stays", memcmp(alone, bytes + from, n), 0);

@@ -1,4 +1,4 @@
-/* The header's constants are those of the library, and every text of lohitunga_text: a line `number text` for each that is not the text of any number. */
+/* The header's constants are those of the library. Prints `number text` for every number that has a text of its own. */
 #include <stdio.h>
 #include <string.h>
 
@@ -43,9 +43,9 @@ static void tags(void)
 
 static int is_table(unsigned id)
 {
-    static const uint8_t ids[] = {LOHITUNGA_TABLE_NIT_ACTUAL, LOHITUNGA_TABLE_NIT_OTHER, LOHITUNGA_TABLE_SDT_ACTUAL, LOHITUNGA_TABLE_SDT_OTHER,
-                                  LOHITUNGA_TABLE_BAT, LOHITUNGA_TABLE_EIT_ACTUAL, LOHITUNGA_TABLE_EIT_OTHER, LOHITUNGA_TABLE_TDT,
-                                  LOHITUNGA_TABLE_TOT};
+    static const uint8_t ids[] = {LOHITUNGA_TABLE_NIT_ACTUAL, LOHITUNGA_TABLE_NIT_OTHER, LOHITUNGA_TABLE_SDT_ACTUAL,
+                                  LOHITUNGA_TABLE_SDT_OTHER,  LOHITUNGA_TABLE_BAT,       LOHITUNGA_TABLE_EIT_ACTUAL,
+                                  LOHITUNGA_TABLE_EIT_OTHER,  LOHITUNGA_TABLE_TDT,       LOHITUNGA_TABLE_TOT};
     if (memchr(ids, (int)id, sizeof ids))
         return 1;
     return (id >= LOHITUNGA_TABLE_EIT_SCHEDULE_ACTUAL && id < LOHITUNGA_TABLE_EIT_SCHEDULE_ACTUAL + 16) ||

@@ -16,7 +16,9 @@ of-flag-requires-4 : tie.Need-of-flag-requires-4
 of-flag-requires-4 c κs = search needs
 
 returns : tie.Need-returns
-returns c = rw (c .before .before .before .of-flag .ensures, c .before .before .of-flag2 .ensures, c .before .of-flag3 .ensures, c .of-flag4 .ensures)
+returns c =
+    let second = c .before .before in
+    rw (second .before .of-flag .ensures, second .of-flag2 .ensures, c .before .of-flag3 .ensures, c .of-flag4 .ensures)
 
 pub terrestrial-of-spec : {M : Type 1} → statement M
 terrestrial-of-spec =

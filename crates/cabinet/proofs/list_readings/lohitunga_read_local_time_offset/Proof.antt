@@ -29,7 +29,8 @@ returns c =
 returns-2 : tie.Need-returns-2
 returns-2 c =
     let refused = c .before .before .before in
-    rw (← refused .before .before .read .ensures, refused .why .given .1, c .before .of-refusal .ensures, c .no-local-time-offset .ensures)
+    let number = c .before .of-refusal .ensures in
+    rw (← refused .before .before .read .ensures, refused .why .given .1, number, c .no-local-time-offset .ensures)
 
 pub lohitunga-read-local-time-offset-spec : {M : Type 1} → statement M
 lohitunga-read-local-time-offset-spec =

@@ -29,7 +29,8 @@ returns c =
 returns-2 : tie.Need-returns-2
 returns-2 c =
     let refused = c .before .before .before in
-    rw (← refused .before .before .date-of .ensures, refused .fault .given .1, c .before .of-fault .ensures, c .no-date .ensures)
+    let number = c .before .of-fault .ensures in
+    rw (← refused .before .before .date-of .ensures, refused .fault .given .1, number, c .no-date .ensures)
 
 pub lohitunga-read-date-spec : {M : Type 1} → statement M
 lohitunga-read-date-spec =

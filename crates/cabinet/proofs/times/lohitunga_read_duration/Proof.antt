@@ -29,7 +29,8 @@ returns c =
 returns-2 : tie.Need-returns-2
 returns-2 c =
     let refused = c .before .before .before in
-    rw (← refused .before .before .read .ensures, refused .fault .given .1, c .before .of-fault .ensures, c .no-duration .ensures)
+    let number = c .before .of-fault .ensures in
+    rw (← refused .before .before .read .ensures, refused .fault .given .1, number, c .no-duration .ensures)
 
 pub lohitunga-read-duration-spec : {M : Type 1} → statement M
 lohitunga-read-duration-spec =

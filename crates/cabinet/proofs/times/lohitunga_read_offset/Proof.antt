@@ -24,7 +24,9 @@ returns c =
     rw (← c .before .before .before .read .ensures, c .before .minutes .given .1, toZ-ofZ n)
 
 returns-2 : tie.Need-returns-2
-returns-2 c = rw (← c .before .before .before .before .read .ensures, c .before .before .fault .given .1, c .of-fault .ensures)
+returns-2 c =
+    let refused = c .before .before in
+    rw (← refused .before .before .read .ensures, refused .fault .given .1, c .of-fault .ensures)
 
 pub lohitunga-read-offset-spec : {M : Type 1} → statement M
 lohitunga-read-offset-spec =

@@ -29,7 +29,8 @@ returns c =
 returns-2 : tie.Need-returns-2
 returns-2 c =
     let refused = c .before .before .before in
-    rw (← refused .before .before .read .ensures, refused .fault .given .1, c .before .of-fault .ensures, c .no-moment .ensures)
+    let number = c .before .of-fault .ensures in
+    rw (← refused .before .before .read .ensures, refused .fault .given .1, number, c .no-moment .ensures)
 
 pub lohitunga-read-time-spec : {M : Type 1} → statement M
 lohitunga-read-time-spec =
