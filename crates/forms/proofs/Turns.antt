@@ -9,7 +9,8 @@ use Rattle.wire.specs.Parts.{Part}
 use Rattle.wire.proofs.PartLaws.{part-first, part-second}
 use Rattle.forms.specs.Form.{Form, mute, _then_, such, each, eachShow, EachOk}
 use Rattle.forms.specs.Lists.{all, All, none, one, times}
-use Rattle.forms.specs.Room.{put, Done, Turned}
+use Rattle.forms.specs.Room.{put}
+use Rattle.forms.specs.Inner.Turning.{Done, Turned}
 use Rattle.forms.proofs.Puts.{put-none, put-put, length-put}
 use Rattle.forms.specs.declared.Place.{Place}
 

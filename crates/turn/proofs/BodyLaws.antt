@@ -14,7 +14,8 @@ use Rattle.tables.specs.Tables.{cell, rowAt}
 use Rattle.forms.specs.Form.{Form, mute, _then_, eachShow, EachOk}
 use Rattle.forms.specs.Fields.{Field, Fit, sheetField, sheetFields}
 use Rattle.forms.specs.Lists.{all, All, none, one, counted, countedShow, loop, loopShow, filling}
-use Rattle.forms.specs.Room.{put, Done, Turned}
+use Rattle.forms.specs.Room.{put}
+use Rattle.forms.specs.Inner.Turning.{Done, Turned}
 use Rattle.forms.proofs.Puts.{put-none}
 use Rattle.forms.proofs.Turns.{done-both, done-length}
 use Rattle.sheet.specs.Content.{Entry, Entries, Loop, Body, bare, headOf}

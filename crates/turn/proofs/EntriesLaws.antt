@@ -14,7 +14,8 @@ use Rattle.tables.specs.Tables.{cell, rowAt}
 use Rattle.forms.specs.Form.{Form, mute, eachShow, EachOk}
 use Rattle.forms.specs.Fields.{Field, reserved, room, pack, Fit, sheetFields}
 use Rattle.forms.specs.Lists.{all, All, none, one, times, countedShow, loopShow}
-use Rattle.forms.specs.Room.{put, sum, Done, Turned}
+use Rattle.forms.specs.Room.{put, sum}
+use Rattle.forms.specs.Inner.Turning.{Done, Turned}
 use Rattle.forms.proofs.Puts.{sum-fits, put-none, put-put, length-put}
 use Rattle.forms.proofs.Turns.{turned-then, turned-as, turned-nothing, turned-zero, turned-suc}
 use Rattle.sheet.specs.Content.{Entry, Loop, bare, status, entryOf, sideOf}

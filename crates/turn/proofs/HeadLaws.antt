@@ -6,7 +6,7 @@ use mathlib.Core.Bool.{Bool, true, false, not}
 use native.Mathlib.Omega.{arith}
 use lib.ListN.{drop}
 use Rattle.forms.specs.Form.{Form, raw}
-use Rattle.forms.specs.Room.{Turned}
+use Rattle.forms.specs.Inner.Turning.{Turned}
 use Rattle.forms.proofs.Turns.{turned-none, turned-one, turned-such}
 use Rattle.sheet.specs.Content.{Item, plain, numbers, version, flags, filler, headOf, entryOf}
 use Rattle.sheet.specs.Sheet.{inOrder}

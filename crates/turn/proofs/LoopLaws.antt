@@ -11,7 +11,8 @@ use Rattle.wire.proofs.PartLaws.{part-first, part-second, part-taken}
 use Rattle.forms.specs.Form.{Form, eachShow, EachOk}
 use Rattle.forms.specs.Fields.{Field, room, pack, Fit, sheetFields}
 use Rattle.forms.specs.Lists.{all, All, countedShow, loopShow}
-use Rattle.forms.specs.Room.{put, sum, Done, Turned}
+use Rattle.forms.specs.Room.{put, sum}
+use Rattle.forms.specs.Inner.Turning.{Done, Turned}
 use Rattle.copy.specs.Copy.{copies, copied}
 use Rattle.copy.proofs.Copies.{copies-not}
 use Rattle.forms.proofs.Puts.{sum-fits, put-put, put-none, length-put, copied-put}

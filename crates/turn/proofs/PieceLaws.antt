@@ -11,7 +11,8 @@ use Rattle.wire.specs.Parts.{Part}
 use Rattle.wire.proofs.PartLaws.{part-taken}
 use Rattle.forms.specs.Form.{Form, raw, eachShow, EachOk}
 use Rattle.forms.specs.Fields.{Field, kept, reserved, room, pack, Fit, sheetFields}
-use Rattle.forms.specs.Room.{put, sum, Done, Turned}
+use Rattle.forms.specs.Room.{put, sum}
+use Rattle.forms.specs.Inner.Turning.{Done, Turned}
 use Rattle.forms.proofs.Puts.{sum-fits, put-put, put-none, copied-put}
 use Rattle.forms.proofs.Turns.{turned-never}
 use Rattle.copy.specs.Copy.{copies, copied}

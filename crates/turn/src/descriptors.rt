@@ -2,7 +2,8 @@
 ghost use mathlib.Core.Path.{_≡_};
 ghost use mathlib.Core.Bool.{true, false, not};
 ghost use Prim.Native.Nat.{_+_};
-ghost use Rattle.forms.specs.Room.{Turned, sum};
+ghost use Rattle.forms.specs.Room.{sum};
+ghost use Rattle.forms.specs.Inner.Turning.{Turned};
 ghost use Rattle.turn.specs.Inner.Ways.{sideIf, sideAt, sideSize, sideBack, putNumber, loopFrom, loopTo};
 use crate::counts::descriptors_in;
 use crate::counts::descriptors_size;

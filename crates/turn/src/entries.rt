@@ -3,7 +3,7 @@ ghost use mathlib.Core.Path.{_≡_};
 ghost use mathlib.Core.Bool.{not};
 ghost use Prim.Native.Nat.{_<_};
 ghost use Rattle.forms.specs.Lists.{times};
-ghost use Rattle.forms.specs.Room.{Turned};
+ghost use Rattle.forms.specs.Inner.Turning.{Turned};
 ghost use Rattle.sheet.specs.Content.{sideOf};
 ghost use Rattle.turn.specs.Inner.Ways.{sideIf, topIf, entryFrom, entryTo, EntriesForth, EntriesBack, EntrySizes};
 use crate::counts::entries_in;

@@ -1,7 +1,7 @@
 // The fields of a head, and those of an entry before its loop, by the number of the table's row: 0 NIT, 1 SDT, 2 BAT, 3 EIT, 4 TDT, 5 TOT.
 ghost use Prim.Native.Nat.{_<_};
 ghost use lib.ListN.{drop};
-ghost use Rattle.forms.specs.Room.{Turned};
+ghost use Rattle.forms.specs.Inner.Turning.{Turned};
 ghost use Rattle.sheet.specs.Content.{headOf, entryOf};
 ghost use Rattle.turn.specs.Inner.Ways.{itemsFrom, itemsTo};
 use crate::pieces::filler;

@@ -3,7 +3,7 @@ ghost use mathlib.Core.Path.{_≡_};
 ghost use mathlib.Core.Bool.{not};
 ghost use Prim.Native.Nat.{_+_, _-_, _*_, _/_, _%_};
 ghost use Rattle.forms.specs.Form.{raw};
-ghost use Rattle.forms.specs.Room.{Turned};
+ghost use Rattle.forms.specs.Inner.Turning.{Turned};
 ghost use Rattle.sheet.specs.Content.{filler};
 ghost use Rattle.sheet.specs.Sheet.{sheetItem};
 ghost use Rattle.sheet.specs.Section.{sectionItem};

@@ -9,7 +9,8 @@ use Rattle.wire.specs.Reading.{value}
 use Rattle.tables.specs.Tables.{rowOf}
 use Rattle.verdict.specs.Verdict as verdict
 use Rattle.section.specs.Reading.{judged}
-use Rattle.forms.specs.Room.{put, Done}
+use Rattle.forms.specs.Room.{put}
+use Rattle.forms.specs.Inner.Turning.{Done}
 use Rattle.sheet.specs.Content.{Body, Content, rowIn}
 use Rattle.sheet.specs.Sheet.{sheetBody, sheetOf}
 use Rattle.sheet.specs.Section.{sectionEntries, sectionBody, sectionLength, sectionOf, contentOf, readSheet}

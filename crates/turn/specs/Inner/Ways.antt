@@ -10,7 +10,8 @@ use Rattle.tables.specs.Tables.{rowAt}
 use Rattle.forms.specs.Form.{Form, mute, _then_, each}
 use Rattle.forms.specs.Fields.{Field, sheetFields, Fit}
 use Rattle.forms.specs.Lists.{all, All, countedShow, loopShow}
-use Rattle.forms.specs.Room.{put, sum, Done}
+use Rattle.forms.specs.Room.{put, sum}
+use Rattle.forms.specs.Inner.Turning.{Done}
 use Rattle.sheet.specs.Content.{Item, version, flags, bare, status, entryOf, sideOf, Fields, Descriptor, Loop, Entry}
 use Rattle.sheet.specs.Sheet.{descriptor, sheetItem, sheetLoop, sheetEntry}
 use Rattle.sheet.specs.Section.{sectionItem, sectionLoop, sectionEntry}
