@@ -1,17 +1,22 @@
 -- 0x44 cable delivery system: EN 300 468, clause 6.2.13.1.
 use mathlib.Core.List.{List, [], _∷_}
-use Prim.Native.Nat.{ℕ, _^_, _<_}
+use Prim.Native.Nat.{ℕ, _*_, _^_, _<_}
 use Rattle.wire.specs.Reading.{Reading, value, refused, _>>=_}
 use Rattle.wire.specs.Digits.{bcdShow}
 use Rattle.forms.specs.Fields.{Field, kept, reserved}
 use Rattle.layout.specs.Refusal.{numbered}
 use Rattle.layout.specs.Body.{fixed}
 use Rattle.layout.specs.Widths.{size, bitsOf, byteOf, digitsOf}
+use Rattle.delivery.specs.declared.cable.CableFrequency.{CableFrequency}
 use Rattle.delivery.specs.declared.cable.Cable.{Cable}
 use Rattle.delivery.specs.declared.cable.Answer.{Answer}
 use Rattle.delivery.specs.declared.cable.Answer.the-variants.{Is, Refused}
 
--- the body, in the order of the table. "Cable .. frequencies count steps of 100 Hz"
+-- "Cable .. frequencies count steps of 100 Hz"
+abbrev pub hertz : CableFrequency → ℕ
+hertz f = 100 * f .0
+
+-- the body, in the order of the table
 abbrev pub layout : List Field
 layout =
     kept 32 -- 0 frequency, 8 BCD digits

@@ -1,6 +1,6 @@
 -- 0x43 satellite delivery system: EN 300 468, clause 6.2.13.2.
 use mathlib.Core.List.{List, [], _∷_}
-use Prim.Native.Nat.{ℕ, _^_, _<_}
+use Prim.Native.Nat.{ℕ, _*_, _^_, _<_}
 use lib.Dec.{eqb}
 use Rattle.wire.specs.If.{if_then_else_}
 use Rattle.wire.specs.Reading.{Reading, value, refused, _>>=_}
@@ -11,11 +11,16 @@ use Rattle.layout.specs.Body.{fixed}
 use Rattle.layout.specs.Widths.{size, bitsOf, digitsOf, bit}
 use Rattle.delivery.specs.declared.satellite.System.{System}
 use Rattle.delivery.specs.declared.satellite.System.the-variants.{S, S2}
+use Rattle.delivery.specs.declared.satellite.SatelliteFrequency.{SatelliteFrequency}
 use Rattle.delivery.specs.declared.satellite.Satellite.{Satellite}
 use Rattle.delivery.specs.declared.satellite.Answer.{Answer}
 use Rattle.delivery.specs.declared.satellite.Answer.the-variants.{Is, Refused}
 
--- the body, in the order of the table; what its two bits in front of modulation_system are rests on that. "satellite .. frequencies count steps of .. 10 kHz"
+-- "satellite .. frequencies count steps of .. 10 kHz"
+abbrev pub hertz : SatelliteFrequency → ℕ
+hertz f = 10000 * f .0
+
+-- the body, in the order of the table; what its two bits in front of modulation_system are rests on that
 abbrev pub layoutBy : Field → List Field
 layoutBy two =
     kept 32 -- 0 frequency, 8 BCD digits

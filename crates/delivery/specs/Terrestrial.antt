@@ -1,17 +1,22 @@
 -- 0x5A terrestrial delivery system: EN 300 468, clause 6.2.13.4.
 use mathlib.Core.List.{List, [], _∷_}
-use Prim.Native.Nat.{ℕ}
+use Prim.Native.Nat.{ℕ, _*_}
 use lib.Dec.{eqb}
 use Rattle.wire.specs.Reading.{Reading, value, refused, _>>=_}
 use Rattle.forms.specs.Fields.{Field, kept, reserved}
 use Rattle.layout.specs.Refusal.{numbered}
 use Rattle.layout.specs.Body.{fixed}
 use Rattle.layout.specs.Widths.{size, bitsOf, numberOf, bit}
+use Rattle.delivery.specs.declared.terrestrial.TerrestrialFrequency.{TerrestrialFrequency}
 use Rattle.delivery.specs.declared.terrestrial.Terrestrial.{Terrestrial}
 use Rattle.delivery.specs.declared.terrestrial.Answer.{Answer}
 use Rattle.delivery.specs.declared.terrestrial.Answer.the-variants.{Is, Refused}
 
--- the body, in the order of the table. "terrestrial frequencies count steps of .. 10 Hz"
+-- "terrestrial frequencies count steps of .. 10 Hz"
+abbrev pub hertz : TerrestrialFrequency → ℕ
+hertz f = 10 * f .0
+
+-- the body, in the order of the table
 abbrev pub layout : List Field
 layout =
     kept 32 -- 0 centre_frequency, binary

@@ -1,7 +1,6 @@
 // 0x44 cable delivery system.
 ghost use mathlib.Core.Path.{_≡_};
-ghost use Prim.Native.Nat.{_*_};
-ghost use Rattle.delivery.specs.Cable.{fields, cable, told};
+ghost use Rattle.delivery.specs.Cable.{hertz, fields, cable, told};
 use layout::Refusal;
 use layout::body::Body;
 use layout::body::sized;
@@ -16,7 +15,7 @@ pub struct CableFrequency(pub u32);
 
 impl CableFrequency {
     pub fn hertz(self) -> u64
-        ensures { λ r. ⌜ r ≡ 100 * self .0 ⌝ }
+        ensures { λ r. ⌜ r ≡ hertz self ⌝ }
     {
         100 * self.0 as u64
     }

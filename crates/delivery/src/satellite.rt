@@ -1,7 +1,6 @@
 // 0x43 satellite delivery system.
 ghost use mathlib.Core.Path.{_≡_};
-ghost use Prim.Native.Nat.{_*_};
-ghost use Rattle.delivery.specs.Satellite.{system, made, fields, satellite, told};
+ghost use Rattle.delivery.specs.Satellite.{hertz, system, made, fields, satellite, told};
 use layout::Refusal;
 use layout::body::Body;
 use layout::body::sized;
@@ -15,7 +14,7 @@ pub struct SatelliteFrequency(pub u32);
 
 impl SatelliteFrequency {
     pub fn hertz(self) -> u64
-        ensures { λ r. ⌜ r ≡ 10000 * self .0 ⌝ }
+        ensures { λ r. ⌜ r ≡ hertz self ⌝ }
     {
         10_000 * self.0 as u64
     }

@@ -1,7 +1,6 @@
 // 0x5A terrestrial delivery system.
 ghost use mathlib.Core.Path.{_≡_};
-ghost use Prim.Native.Nat.{_*_};
-ghost use Rattle.delivery.specs.Terrestrial.{fields, terrestrial, told};
+ghost use Rattle.delivery.specs.Terrestrial.{hertz, fields, terrestrial, told};
 use layout::Refusal;
 use layout::body::Body;
 use layout::body::sized;
@@ -14,7 +13,7 @@ pub struct TerrestrialFrequency(pub u32);
 
 impl TerrestrialFrequency {
     pub fn hertz(self) -> u64
-        ensures { λ r. ⌜ r ≡ 10 * self .0 ⌝ }
+        ensures { λ r. ⌜ r ≡ hertz self ⌝ }
     {
         10 * self.0 as u64
     }

@@ -15,7 +15,7 @@ use Rattle.layout.specs.Field.{digitsAt}
 use Rattle.delivery.specs.Cable.{fields as cableFields, cable}
 use Rattle.delivery.specs.Satellite.{system, fields as satelliteFields, satellite}
 use Rattle.worked.specs.Worked.{All, none, _and_, starred}
-use Rattle.worked.proofs.Times.{told, no-day, no-clock}
+use Rattle.worked.proofs.Times.{told, every-clock, no-day, no-clock}
 use Rattle.worked.proofs.Frequencies.{cable-holds, satellite-holds}
 
 both : {A B : Type 0} → A → B → A × B
@@ -31,7 +31,7 @@ starred-hold =
     and refl
     and refl
     and no-day 0x3AE6 (omega arith)
-    and refl
+    and every-clock 0x3AE7 _ (omega arith) (omega arith) refl
     and told 0xFFFF 0x00 0x00 0x00 _ (omega arith) (omega arith) (omega arith) (omega arith) refl
     and no-clock 0x24 0x00 0x00 _ (omega arith) refl
     and no-clock 0x12 0x4A 0x00 _ (omega arith) refl

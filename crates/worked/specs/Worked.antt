@@ -8,6 +8,8 @@ use Rattle.wire.specs.Reading.{Reading, value, refused, _>>=_}
 use Rattle.wire.specs.Number.{numberAt}
 use Rattle.verdict.specs.Verdict.{Said, accepted, refused as refusedAt}
 use Rattle.section.specs.Reading.{judged}
+use Rattle.wire.specs.Digits.{bcdShow}
+use Rattle.clock.specs.Field.{InRange}
 use Rattle.clock.specs.Time.{timeOf}
 use Rattle.clock.specs.declared.Hms.{Hms}
 use Rattle.clock.specs.declared.time.Moment.the-variants.{At}
@@ -27,7 +29,7 @@ pub data Case : Type 0 where
   time : List ℕ → Date → Hms → Case
   -- an MJD that is refused, whatever the clock
   noDay : ℕ → ℕ → Case
-  -- an MJD and its date
+  -- an MJD and its date, at every legal clock
   day : ℕ → Date → Case
   -- an MJD with the digits of hour, minute and second, and the date and the clock
   dayAt : ℕ → ℕ → ℕ → ℕ → Date → Hms → Case
@@ -68,7 +70,8 @@ holds (judge s v) = judged s ≡ v
 holds (time s d t) = (judged s ≡ accepted) × Told (numberAt 2 s 3) (getD s 5 0) (getD s 6 0) (getD s 7 0) d t
 holds (noDay mjd k) =
     (dateOf mjd ≡ refused k) × ((h m s : ℕ) → h < 256 → m < 256 → s < 256 → timeOf mjd h m s ≡ refused k)
-holds (day mjd d) = dateOf mjd ≡ value d
+holds (day mjd d) =
+    (t : Hms) → InRange 24 t → Told mjd (bcdShow 2 (t .hour)) (bcdShow 2 (t .minute)) (bcdShow 2 (t .second)) d t
 holds (dayAt mjd h m s d t) = Told mjd h m s d t
 holds (noClock h m s k) = (mjd : ℕ) → 15079 ≤ mjd → timeOf mjd h m s ≡ refused k
 holds (cableSteps f n) = Counted 0x44 cable (λ c. c .frequency) f n
