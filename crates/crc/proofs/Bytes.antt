@@ -5,11 +5,12 @@ use Prim.Native.Nat.{ℕ, _+_, _*_, _^_, _<_, _≤_}
 use native.Mathlib.Nat.{add-assoc}
 use native.Mathlib.Numerals.{add-one}
 use native.Mathlib.Omega.{arith}
+use lib.Arith.{digits-lt}
 use lib.ListN.{length, drop, getD, drop-of-length-le}
 use lib.Seq.{drop-cons}
 use Rattle.wire.specs.Bytes.{Bytes}
 use Rattle.crc.specs.Crc.{feedBits, feedBytes}
-use Rattle.crc.specs.Steps.{wordAt, longAt}
+use Rattle.crc.specs.Inner.Windows.{wordAt, longAt}
 use Rattle.crc.proofs.Linear.{bits-lt, join}
 
 pub feed-append : (s t : List ℕ) (r : ℕ) → feedBytes (s ++ t) r ≡ feedBytes t (feedBytes s r)
@@ -62,7 +63,7 @@ word-front s hs i r h =
     four-front s i r h
     ∙ ap (feedBytes (drop (i + 4) s)) (four (getD s i 0) (getD s (i + 1) 0) (getD s (i + 2) 0) (getD s (i + 3) 0) r (hs (i + 1)) (hs (i + 2)) (hs (i + 3)))
 
-word-at-lt : (s : List ℕ) → Bytes s → (i : ℕ) → wordAt s i < 2 ^ 32
+pub word-at-lt : (s : List ℕ) → Bytes s → (i : ℕ) → wordAt s i < 2 ^ 32
 word-at-lt s hs i = word-lt (getD s i 0) (getD s (i + 1) 0) (getD s (i + 2) 0) (getD s (i + 3) 0) (hs i) (hs (i + 1)) (hs (i + 2)) (hs (i + 3))
 
 pub long-front : (s : List ℕ) → Bytes s → (i r : ℕ) → i + 8 ≤ length s → feedBytes (drop i s) r ≡ feedBytes (drop (i + 8) s) (feedBits 64 (longAt s i) r)
@@ -70,3 +71,6 @@ long-front s hs i r h =
     word-front s hs i r (omega arith)
     ∙ word-front s hs (i + 4) _ (omega arith)
     ∙ rw (add-assoc i 4 4) (ap (feedBytes (drop (i + 8) s)) (join 32 32 (wordAt s i) (wordAt s (i + 4)) r (word-at-lt s hs (i + 4))))
+
+pub long-at-lt : (s : List ℕ) → Bytes s → (i : ℕ) → longAt s i < 2 ^ 64
+long-at-lt s hs i = digits-lt (word-at-lt s hs i) (word-at-lt s hs (i + 4))

@@ -3,10 +3,12 @@ pub mod Xor
 pub mod Linear
 pub mod Basis
 pub mod Shifts
+pub mod Shared
 pub mod Steps
 pub mod Bytes
-pub mod Window
-pub mod Later
-pub mod Wake
-pub mod Buffer
+pub mod Feeding
+pub mod Ending
+pub mod Leaving
+pub mod Ahead
+pub mod Head
 pub mod Closes

@@ -7,9 +7,9 @@ use lib.Dec.{lit<}
 use lib.Pow.{pow-pos}
 use lib.Bits.{bitXor, xor-shr, xor-mod, xor-lt}
 use Rattle.crc.specs.Crc.{feedBits}
-use Rattle.crc.specs.Steps.{rights, lefts, timesPoly, quotientOf}
+use Rattle.crc.specs.Inner.Moves.{rights, lefts, timesPoly, quotientOf, times64, times96, times128, over, under, second, third, fourth, fifth}
 use Rattle.crc.proofs.Xor.{_⊕_, xor4, xor-shl}
-use Rattle.crc.proofs.Linear.{linear}
+use Rattle.crc.proofs.Linear.{linear, bits-lt, zeros-sum}
 use Rattle.crc.proofs.Basis.{Additive}
 
 rights-linear : (ks : List ℕ) (a b z y : ℕ) → rights ks (a ⊕ b) (z ⊕ y) ≡ rights ks a z ⊕ rights ks b y
@@ -45,6 +45,9 @@ module _ {m : ℕ} {f : ℕ → ℕ} (hf : Additive m f) where
   pub up-of : (n k : ℕ) → Additive m (λ v. f v * 2 ^ k % 2 ^ n)
   up-of n k = record { sums = λ a b ha hb. ap (λ (v : ℕ). v * 2 ^ k % 2 ^ n) (hf .sums a b ha hb) ∙ up-linear n k (f a) (f b) }
 
+  pub low-of : (n : ℕ) → Additive m (λ v. f v % 2 ^ n)
+  low-of n = record { sums = λ a b ha hb. ap (λ (v : ℕ). v % 2 ^ n) (hf .sums a b ha hb) ∙ xor-mod (f a) (f b) n }
+
   module _ {g : ℕ → ℕ} (hg : Additive m g) where
     pub sum-of : Additive m (λ v. f v ⊕ g v)
     sum-of = record { sums = λ a b ha hb. ap₂ bitXor (hf .sums a b ha hb) (hg .sums a b ha hb) ∙ xor4 (f a) (f b) (g a) (g b) }
@@ -55,14 +58,61 @@ module _ {m : ℕ} {f : ℕ → ℕ} (hf : Additive m f) where
     pub lefts-of : (n : ℕ) (ks : List ℕ) → Additive m (λ v. lefts n ks (f v) (g v))
     lefts-of n ks = record { sums = λ a b ha hb. ap₂ (lefts n ks) (hf .sums a b ha hb) (hg .sums a b ha hb) ∙ lefts-linear n ks (f a) (f b) (g a) (g b) }
 
-  pub times-of : Additive m (λ v. timesPoly (f v))
-  unfolding timesPoly
-  times-of = lefts-of hf 32 _
-
-  pub quotient-of : Additive m (λ v. quotientOf (f v))
-  unfolding quotientOf
-  quotient-of = rights-of hf _
-
   -- n bits from zero
   pub fed-of : (n : ℕ) → Additive m (λ v. feedBits n (f v) 0)
   fed-of n = record { sums = λ a b ha hb. ap (λ (v : ℕ). feedBits n v 0) (hf .sums a b ha hb) ∙ linear n (f a) (f b) 0 0 (lit< tt) (lit< tt) }
+
+  -- n bits from zero, and then k zeros
+  pub zeros-of : (n k : ℕ) → Additive m (λ v. feedBits k 0 (feedBits n (f v) 0))
+  zeros-of n k =
+      record {
+        sums = λ a b ha hb.
+            ap (feedBits k 0) (fed-of n .sums a b ha hb)
+            ∙ zeros-sum k (feedBits n (f a) 0) (feedBits n (f b) 0) (bits-lt n (f a) 0 (lit< tt)) (bits-lt n (f b) 0 (lit< tt));
+      }
+
+-- each sum of moves that has a name
+module _ {m : ℕ} {f : ℕ → ℕ} (hf : Additive m f) where
+  pub times-of : Additive m (λ v. timesPoly (f v))
+  unfolding timesPoly
+  times-of = lefts-of hf hf 32 _
+
+  pub quotient-of : Additive m (λ v. quotientOf (f v))
+  unfolding quotientOf
+  quotient-of = rights-of hf hf _
+
+  pub times64-of : Additive m (λ v. times64 (f v))
+  unfolding times64
+  times64-of = lefts-of hf hf 64 _
+
+  pub times96-of : Additive m (λ v. times96 (f v))
+  unfolding times96
+  times96-of = lefts-of (up-of hf 64 1) hf 64 _
+
+  pub times128-of : Additive m (λ v. times128 (f v))
+  unfolding times128
+  times128-of = lefts-of hf hf 64 _
+
+  pub over-of : Additive m (λ v. over (f v))
+  unfolding over
+  over-of = rights-of hf hf _
+
+  pub under-of : Additive m (λ v. under (f v))
+  unfolding under
+  under-of = lefts-of (up-of hf 64 8) hf 64 _
+
+  pub second-of : Additive m (λ v. second (f v))
+  unfolding second
+  second-of = sum-of (down-of hf 17) (down-of hf 55)
+
+  pub third-of : Additive m (λ v. third (f v))
+  unfolding third
+  third-of = sum-of (sum-of (up-of hf 64 47) (up-of hf 64 9)) (down-of hf 19)
+
+  pub fourth-of : Additive m (λ v. fourth (f v))
+  unfolding fourth
+  fourth-of = sum-of (up-of hf 64 45) (down-of hf 44)
+
+  pub fifth-of : Additive m (λ v. fifth (f v))
+  unfolding fifth
+  fifth-of = up-of hf 64 20

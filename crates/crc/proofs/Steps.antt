@@ -1,33 +1,15 @@
 -- A word and a byte go in by moves and sums alone: each claim is one of functions that take sums to sums, so that a test at the powers of two proves it.
 use mathlib.Core.Path.{_≡_, refl, sym, ap, ap₂, _∙_}
-use mathlib.Core.List.{[], _∷_}
 use Prim.Native.Nat.{ℕ, _*_, _/_, _%_, _^_, _<_}
 use native.Mathlib.Omega.{arith}
 use lib.Dec.{lit<}
 use lib.Bits.{bitXor, xor-lt, xor-zero-l, xor-zero-r}
 use Rattle.crc.specs.Crc.{feed, feedBits}
-use Rattle.crc.specs.Steps.{rights, lefts, timesPoly, quotientOf}
+use Rattle.crc.specs.Inner.Moves.{rights, lefts, timesPoly, quotientOf}
 use Rattle.crc.proofs.Xor.{_⊕_, xor-assoc, xor-twice}
 use Rattle.crc.proofs.Linear.{linear}
 use Rattle.crc.proofs.Basis.{Additive, agree}
-use Rattle.crc.proofs.Shifts.{itself, down-of, up-of, sum-of, rights-of, lefts-of, times-of, quotient-of, fed-of}
-
--- The code's two sums, with moves that serve several places.
-
-pub times-shared : (q : ℕ) → q < 2 ^ 32
-    → lefts 32 (2 ∷ 16 ∷ []) (lefts 32 (4 ∷ 7 ∷ 10 ∷ 22 ∷ []) (lefts 32 (1 ∷ []) q q) (lefts 32 (1 ∷ []) q q)) (lefts 32 (10 ∷ []) q q) ≡ timesPoly q
-unfolding timesPoly lefts
-times-shared =
-    let one = lefts-of itself itself 32 (1 ∷ []) in
-    let ten = lefts-of itself itself 32 (10 ∷ []) in
-    agree 32 (lefts-of (lefts-of one one 32 (4 ∷ 7 ∷ 10 ∷ 22 ∷ [])) ten 32 (2 ∷ 16 ∷ [])) (times-of itself) tt
-
-pub quotient-shared : (z : ℕ) → z < 2 ^ 32
-    → rights (6 ∷ 24 ∷ 29 ∷ 30 ∷ 31 ∷ []) (rights (9 ∷ 10 ∷ 12 ∷ []) (rights (16 ∷ []) z z) (rights (16 ∷ []) z z)) z ≡ quotientOf z
-unfolding quotientOf rights
-quotient-shared =
-    let half = rights-of itself itself (16 ∷ []) in
-    agree 32 (rights-of (rights-of half half (9 ∷ 10 ∷ 12 ∷ [])) itself (6 ∷ 24 ∷ 29 ∷ 30 ∷ 31 ∷ [])) (quotient-of itself) tt
+use Rattle.crc.proofs.Shifts.{itself, down-of, up-of, sum-of, times-of, quotient-of, fed-of}
 
 -- a register fed with its own bits is zero
 pub own : (v : ℕ) → v < 2 ^ 32 → feedBits 32 v v ≡ 0
@@ -42,7 +24,7 @@ absorb w r h =
     ∙ ap (λ (v : ℕ). feedBits 32 (w ⊕ r) 0 ⊕ v) (own r h)
     ∙ xor-zero-r (feedBits 32 (w ⊕ r) 0)
 
-divided : (z : ℕ) → z < 2 ^ 32 → timesPoly (quotientOf z) ≡ feedBits 32 z 0
+pub divided : (z : ℕ) → z < 2 ^ 32 → timesPoly (quotientOf z) ≡ feedBits 32 z 0
 unfolding timesPoly lefts quotientOf rights feedBits feed
 divided = agree 32 (times-of (quotient-of itself)) (fed-of itself 32) tt
 

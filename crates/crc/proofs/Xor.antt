@@ -43,6 +43,9 @@ xor4 a b c d =
     ∙ ap (λ (x : ℕ). a ⊕ x) (sym (xor-assoc b c d) ∙ ap (λ (x : ℕ). x ⊕ d) (xor-comm b c) ∙ xor-assoc c b d)
     ∙ sym (xor-assoc a c (b ⊕ d))
 
+pub xor-left-comm : (a b c : ℕ) → a ⊕ (b ⊕ c) ≡ b ⊕ (a ⊕ c)
+xor-left-comm a b c = sym (xor-assoc a b c) ∙ ap (λ (x : ℕ). x ⊕ c) (xor-comm a b) ∙ xor-assoc b a c
+
 -- what is added twice is gone
 pub xor-twice : (a b : ℕ) → a ⊕ b ⊕ b ≡ a
 xor-twice a b = xor-assoc a b b ∙ ap (λ (x : ℕ). a ⊕ x) (xor-self b) ∙ xor-zero-r a

@@ -1,3 +1,3 @@
--- What the crate's contracts say. A reader needs `Crc` alone: `Steps` is what the inner functions promise each other.
+-- What the crate's contracts say. A reader needs `Crc` alone.
 pub mod Crc
-pub mod Steps
+pub mod Inner

@@ -1,0 +1,12 @@
+-- The moves that serve several places make up the sum.
+use Rattle.crc.specs.Inner.Moves.{lefts}
+use Rattle.crc.proofs.Shared.{times64-shared}
+use Rattle.crc.proofs.two.times_64.Statement.{statement}
+use Rattle.crc.proofs.two.times_64.Tie as tie
+
+returns : tie.Need-returns
+unfolding lefts
+returns c = times64-shared (c .args .z) (c .fits .z .fits)
+
+pub times-64-spec : {M : Type 1} → statement M
+times-64-spec = tie.close (tie.spec returns)

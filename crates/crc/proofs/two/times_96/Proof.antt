@@ -1,0 +1,12 @@
+-- The moves that serve several places make up the sum.
+use Rattle.crc.specs.Inner.Moves.{lefts}
+use Rattle.crc.proofs.Shared.{times96-shared}
+use Rattle.crc.proofs.two.times_96.Statement.{statement}
+use Rattle.crc.proofs.two.times_96.Tie as tie
+
+returns : tie.Need-returns
+unfolding lefts
+returns c = times96-shared (c .args .z) (c .fits .z .fits)
+
+pub times-96-spec : {M : Type 1} → statement M
+times-96-spec = tie.close (tie.spec returns)
