@@ -1,4 +1,5 @@
--- Each wrong collector of document 01's last chapter is shut out by one of demand 3's statements, on the worked packet or its section.
+-- Each wrong collector of document 01's last chapter is shut out by one of demand 3's statements, on the worked packet
+-- or its section.
 use mathlib.Core.Path.{_≡_, refl, ap}
 use mathlib.Core.Logic.{inr}
 use mathlib.Core.List.{List, [], _∷_}

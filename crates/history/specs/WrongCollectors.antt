@@ -22,7 +22,8 @@ CallsRepeated r hold out packet o = o ≡ unaltered r hold out repeated
 abbrev pub DoesNothing : Collector
 DoesNothing r hold out packet o = o ≡ unaltered r hold out (taken 0 0)
 
--- "one that works on the first packet and then pretends": it says that it takes what comes next, and leaves all as it is
+-- "one that works on the first packet and then pretends": it says that it takes what comes next, and leaves all as it
+-- is
 abbrev pub pretended : Last → Record → List ℕ → List ℕ → List ℕ → Outcome
 pretended None r hold out packet = collected r hold out packet
 pretended (Counter c) r hold out packet = unaltered r hold out (taken 0 0)
@@ -32,18 +33,35 @@ Pretends r hold out packet o = o ≡ pretended (r .last) r hold out packet
 
 -- "one with invented counters": here one more byte of filler than there was
 abbrev pub invented : Record → Record
-invented r = record { pid = r .pid; last = r .last; in_hand = r .in_hand; pointer = r .pointer; delivered = r .delivered; broken = r .broken; filler = (r .filler + 1) % 2 ^ 32; skipped = r .skipped }
+invented r = record {
+  pid = r .pid;
+  last = r .last;
+  in_hand = r .in_hand;
+  pointer = r .pointer;
+  delivered = r .delivered;
+  broken = r .broken;
+  filler = (r .filler + 1) % 2 ^ 32;
+  skipped = r .skipped;
+}
 
 abbrev pub InventsCounters : Collector
-InventsCounters r hold out packet o = o ≡ record { rec = invented (collected r hold out packet .rec); hold = collected r hold out packet .hold; out = collected r hold out packet .out; said = collected r hold out packet .said }
+InventsCounters r hold out packet o = o ≡ record {
+  rec = invented (collected r hold out packet .rec);
+  hold = collected r hold out packet .hold;
+  out = collected r hold out packet .out;
+  said = collected r hold out packet .said;
+}
 
 -- document 01's worked packet, with a counter
 abbrev pub worked : ℕ → List ℕ
-worked counter = 0x47 ∷ 0x40 ∷ 0x14 ∷ (0x10 + counter) ∷ 0x00 ∷ 0x70 ∷ 0x70 ∷ 0x05 ∷ 0xC0 ∷ 0x79 ∷ 0x12 ∷ 0x45 ∷ 0x00 ∷ replicate 175 0xFF
+worked counter =
+    0x47 ∷ 0x40 ∷ 0x14 ∷ (0x10 + counter) ∷ 0x00 ∷ 0x70 ∷ 0x70 ∷ 0x05 ∷ 0xC0 ∷ 0x79 ∷ 0x12 ∷ 0x45 ∷ 0x00 ∷ replicate 175 0xFF
 
 -- its section once more, in a packet whose payload is ten bytes, with a counter
 abbrev pub short : ℕ → List ℕ
-short counter = 0x47 ∷ 0x40 ∷ 0x14 ∷ (0x30 + counter) ∷ 173 ∷ replicate 173 0 ++ (0x00 ∷ 0x70 ∷ 0x70 ∷ 0x05 ∷ 0xC0 ∷ 0x79 ∷ 0x12 ∷ 0x45 ∷ 0x00 ∷ 0xFF ∷ [])
+short counter =
+    0x47 ∷ 0x40 ∷ 0x14 ∷ (0x30 + counter) ∷ 173 ∷ replicate 173 0
+    ++ (0x00 ∷ 0x70 ∷ 0x70 ∷ 0x05 ∷ 0xC0 ∷ 0x79 ∷ 0x12 ∷ 0x45 ∷ 0x00 ∷ 0xFF ∷ [])
 
 -- rooms as small as they may be
 abbrev pub hold₀ : List ℕ
