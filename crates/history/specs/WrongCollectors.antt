@@ -1,8 +1,9 @@
--- The wrong collectors that document 01's last chapter names, and the packets on which each shows itself.
+-- The wrong collectors that document 01's last chapter names, two more, and the packets on which each shows itself.
 use mathlib.Core.Path.{_≡_}
 use mathlib.Core.List.{List, [], _∷_, _++_}
 use Prim.Native.Nat.{ℕ, _+_, _%_, _^_}
 use lib.ListN.{replicate}
+use Rattle.collector.specs.Packet.{counterOf}
 use Rattle.collector.specs.Answer.{Outcome, refused, repeated, taken}
 use Rattle.collector.specs.Collected.{unaltered, collected}
 use Rattle.collector.specs.declared.Record.{Record}
@@ -52,6 +53,31 @@ InventsCounters r hold out packet o = o ≡ record {
   said = collected r hold out packet .said;
 }
 
+-- one that says what it should and writes nothing into the out room
+abbrev pub HandsOutOther : Collector
+HandsOutOther r hold out packet o = o ≡ record {
+  rec = collected r hold out packet .rec;
+  hold = collected r hold out packet .hold;
+  out = out;
+  said = collected r hold out packet .said;
+}
+
+-- one that takes no notice of a break: each packet is taken as if it followed the one before
+abbrev pub followed : Record → List ℕ → Record
+followed r packet = record {
+  pid = r .pid;
+  last = Counter ((counterOf packet + 15) % 16);
+  in_hand = r .in_hand;
+  pointer = r .pointer;
+  delivered = r .delivered;
+  broken = r .broken;
+  filler = r .filler;
+  skipped = r .skipped;
+}
+
+abbrev pub JoinsOverBreaks : Collector
+JoinsOverBreaks r hold out packet o = o ≡ collected (followed r packet) hold out packet
+
 -- document 01's worked packet, with a counter
 abbrev pub worked : ℕ → List ℕ
 worked counter =
@@ -69,3 +95,10 @@ hold₀ = replicate 4096 0
 
 abbrev pub out₀ : List ℕ
 out₀ = replicate 4280 0
+
+-- two packets with a break between them, of which the second goes on where the first stops
+abbrev pub left-off : List ℕ
+left-off = 0x47 ∷ 0x40 ∷ 0x14 ∷ 0x30 ∷ 181 ∷ replicate 181 0 ++ (0x00 ∷ 0x70 ∷ [])
+
+abbrev pub gone-on : List ℕ
+gone-on = 0x47 ∷ 0x00 ∷ 0x14 ∷ 0x32 ∷ 181 ∷ replicate 181 0 ++ (0x60 ∷ 0x00 ∷ [])
