@@ -3,13 +3,13 @@
 use mathlib.Core.Path.{_≡_}
 use mathlib.Core.List.{List, map}
 use Prim.Native.Nat.{ℕ}
-use lib.ListN.{take}
+use lib.ListN.{drop}
 use Rattle.collector.specs.Refusals.{lastOf}
 use Rattle.collector.specs.Answer.{Outcome}
-use Rattle.collector.specs.Collected.{freshRecord, over}
+use Rattle.collector.specs.Collected.{freshRecord}
 use Rattle.collector.specs.declared.Record.{Record}
 use Rattle.history.specs.History.{historyOf}
-use Rattle.history.specs.Run.{Collector, Promised, Call, inputOf, Run, bytesBy}
+use Rattle.history.specs.Run.{Collector, Promised, Call, inputOf, Run, toldBy}
 use Rattle.history.specs.Demand3.{takenBy, OverRuns, RefusedExactlyIf, TakenExactlyIf, CountersAreFates, DeliveredInOrder}
 
 module _ (C : Collector) where
@@ -21,7 +21,8 @@ module _ (C : Collector) where
   -- "Out gets the finished sections .. Hold begins with the bytes in hand. Bytes of either beyond that stay."
   abbrev pub BeyondStays : Type 0
   BeyondStays = (r : Record) (hold out packet : List ℕ) (o : Outcome) → C r hold out packet o
-      → (o .out ≡ over (bytesBy (o .said) (o .out)) out) × (o .hold ≡ over (take (o .rec .in_hand) (o .hold)) hold)
+      → (drop (toldBy (o .said)) (o .out) ≡ drop (toldBy (o .said)) out)
+      × (drop (o .rec .in_hand) (o .hold) ≡ drop (o .rec .in_hand) hold)
 
   pub record Asked : Type 0 where
     pub refused-if : RefusedExactlyIf C
