@@ -1,5 +1,5 @@
--- Each wrong collector of document 01's last chapter is shut out by one of demand 3's statements, on the worked packet
--- or its section.
+-- Each wrong collector is shut out by one of demand 3's statements, on the worked packet, its section, or two packets
+-- with a break between them.
 use mathlib.Core.Path.{_≡_, refl, ap}
 use mathlib.Core.Logic.{inr}
 use mathlib.Core.List.{List, [], _∷_, map, flatten}
