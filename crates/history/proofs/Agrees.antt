@@ -1,4 +1,5 @@
--- Over any run from a fresh record: the record, the hold and what came out are those of the history of the packets taken.
+-- Over any run from a fresh record: the record, the hold and what came out are those of the history of the packets
+-- taken.
 use mathlib.Core.Path.{_≡_, refl, sym, ap, _∙_, subst}
 use mathlib.Core.Bool.{Bool, true, false, _||_}
 use mathlib.Core.List.{List, [], _∷_, _++_, append-assoc, append-nil, map, map-id, flatten}

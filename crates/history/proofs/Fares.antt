@@ -1,5 +1,6 @@
--- How a packet fares by document 01's table: taken exactly if no row applies and it is not repeated, refused exactly with the first row that
--- applies; and the packets that the answers call taken are those that are taken by the packets alone.
+-- How a packet fares by document 01's table: taken exactly if no row applies and it is not repeated, refused exactly
+-- with the first row that applies; and the packets that the answers call taken are those that are taken by the packets
+-- alone.
 use mathlib.Core.Path.{_≡_, refl, ap, _∙_}
 use mathlib.Core.Bool.{Bool, true, false}
 use mathlib.Core.List.{List, [], _∷_, _++_, map}

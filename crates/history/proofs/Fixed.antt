@@ -5,8 +5,8 @@ use mathlib.Core.Logic.{_↔_}
 use mathlib.Core.Option.{Option, none, some}
 use Prim.Native.Nat.{ℕ, zero, suc, _%_, _^_}
 use native.Mathlib.Omega.{arith}
-use lib.ListN.{length, take, drop}
-use lib.Seq.{take-append-seam, drop-append-seam}
+use lib.ListN.{length, take, drop, take-append-drop}
+use lib.Seq.{drop-append-seam}
 use lib.Dec.{ltb}
 use Rattle.collector.specs.Each.{Each}
 use Rattle.collector.specs.Rules.{pointer, delivered, broken, filler, skipped, in-hand, Story, countOf, handOf, holding, totalOf, plain, takenIn}
@@ -109,31 +109,23 @@ shown C a pid hold ks r hold′ x =
 
 -- ---- the promise keeps it all
 
-over-front : (n : ℕ) (l : List ℕ) → l ≡ over (take n l) l
-over-front zero l = refl
-over-front (suc n) [] = refl
-over-front (suc n) (b ∷ l) = ap (λ (x : List ℕ). b ∷ x) (over-front n l)
+behind-over : (bytes room : List ℕ) → drop (length bytes) (over bytes room) ≡ drop (length bytes) room
+behind-over bytes room = drop-append-seam bytes (drop (length bytes) room)
 
-over-taken : (bytes room : List ℕ) → over bytes room ≡ over (take (length bytes) (over bytes room)) room
-over-taken bytes room = ap (λ (l : List ℕ). over l room) (sym (take-append-seam bytes (drop (length bytes) room)))
-
-stays-by : (r : Record) (hold out : List ℕ) (z : Ruling)
-    → (outcomeOf r hold out z .out ≡ over (bytesBy (outcomeOf r hold out z .said) (outcomeOf r hold out z .out)) out)
-    × (outcomeOf r hold out z .hold
-    ≡ over (take (outcomeOf r hold out z .rec .in_hand) (outcomeOf r hold out z .hold)) hold)
-stays-by r hold out (Refusals.refused n) = (refl, over-front (r .in_hand) hold)
-stays-by r hold out Refusals.repeated = (refl, over-front (r .in_hand) hold)
-stays-by r hold out Refusals.bare = (refl, over-front (r .in_hand) hold)
+stays-by : (r : Record) (hold out : List ℕ) (z : Ruling) → let o : Outcome = outcomeOf r hold out z in
+    (drop (toldBy (o .said)) (o .out) ≡ drop (toldBy (o .said)) out)
+    × (drop (o .rec .in_hand) (o .hold) ≡ drop (o .rec .in_hand) hold)
+stays-by r hold out (Refusals.refused n) = (refl, refl)
+stays-by r hold out Refusals.repeated = (refl, refl)
+stays-by r hold out Refusals.bare = (refl, refl)
 stays-by r hold out (takes q) =
     let s : Story ℕ = takenIn plain (lastOf (r .last)) (holding (take (r .in_hand) hold)) q in
-    (over-taken (flatten (s .sections)) out, over-taken (handOf s) hold)
+    (behind-over (flatten (s .sections)) out, behind-over (handOf s) hold)
 
 pub beyond-stays : BeyondStays Promised
 beyond-stays r hold out packet o x =
-    subst
-    (λ (y : Outcome). (y .out ≡ over (bytesBy (y .said) (y .out)) out)
-    × (y .hold ≡ over (take (y .rec .in_hand) (y .hold)) hold))
-    (sym x)
+    subst (λ (y : Outcome). (drop (toldBy (y .said)) (y .out) ≡ drop (toldBy (y .said)) out)
+    × (drop (y .rec .in_hand) (y .hold) ≡ drop (y .rec .in_hand) hold)) (sym x)
     (stays-by r hold out (ruling (cannotStand r hold) (r .pid) (lastOf (r .last)) (length hold) (length out) packet))
 
 pub record-tells : RecordTells Promised
@@ -187,6 +179,15 @@ same-told (taken m n) repeated out out₂ f s t = let z : _≡_ {A = ℕ} 2 1 = 
 same-told (taken m n) (taken k l) out out₂ f s t = λ i. taken
     ((sym (cut-long m (take n out)) ∙ s ∙ cut-long k (take l out₂)) i) (t i)
 
+-- a room is fixed by what stands in front and by what stays behind it
+rebuilt : (n : ℕ) (room was : List ℕ) → drop n room ≡ drop n was → room ≡ take n room ++ drop n was
+rebuilt n room was e = sym (take-append-drop n room) ∙ ap (λ (l : List ℕ). take n room ++ l) e
+
+bytes-told : (t : Told) (out : List ℕ) → take (toldBy t) out ≡ bytesBy t out
+bytes-told (refused n) out = refl
+bytes-told repeated out = refl
+bytes-told (taken sections bytes) out = refl
+
 -- after the same calls, two collectors that keep what is asked make the same of a packet
 module _ (C D : Collector) (a : Asked C) (b : Asked D) (pid : ℕ) (hold : List ℕ) (ks : List Call) (r : Record)
     (hold₁ : List ℕ) where
@@ -227,9 +228,15 @@ module _ (C D : Collector) (a : Asked C) (b : Asked D) (pid : ℕ) (hold : List 
       let the-record : o .rec ≡ o₂ .rec = u .record-is ∙ sym (v .record-is) in
       let stays = a .beyond-stays r hold₁ out packet o c in
       let stays₂ = b .beyond-stays r hold₁ out packet o₂ d in
-      let the-out : o .out ≡ o₂ .out = stays .0 ∙ ap (λ (l : List ℕ). over l out) bytes ∙ sym (stays₂ .0) in
+      let front : take (toldBy (o .said)) (o .out) ≡ take (toldBy (o₂ .said)) (o₂ .out) =
+      bytes-told (o .said) (o .out) ∙ bytes ∙ sym (bytes-told (o₂ .said) (o₂ .out)) in
+      let the-out : o .out ≡ o₂ .out =
+      rebuilt (toldBy (o .said)) (o .out) out (stays .0) ∙ (λ i. front i ++ drop (told i) out)
+      ∙ sym (rebuilt (toldBy (o₂ .said)) (o₂ .out) out (stays₂ .0)) in
+      let held : take (o .rec .in_hand) (o .hold) ≡ take (o₂ .rec .in_hand) (o₂ .hold) = u .hand-is ∙ sym (v .hand-is) in
       let the-hold : o .hold ≡ o₂ .hold =
-      stays .1 ∙ ap (λ (l : List ℕ). over l hold₁) (u .hand-is ∙ sym (v .hand-is)) ∙ sym (stays₂ .1) in
+      rebuilt (o .rec .in_hand) (o .hold) hold₁ (stays .1) ∙ (λ i. held i ++ drop (the-record i .in_hand) hold₁)
+      ∙ sym (rebuilt (o₂ .rec .in_hand) (o₂ .hold) hold₁ (stays₂ .1)) in
       λ i. record { rec = the-record i; hold = the-hold i; out = the-out i; said = said i }
 
 -- ---- runs

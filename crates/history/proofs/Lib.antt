@@ -1,4 +1,5 @@
--- That the promise of `collector::collect` gives each statement, that the statements fix the collector, and that each wrong collector breaks one.
+-- That the promise of `collector::collect` gives each statement, that the statements fix the collector, and that each
+-- wrong collector breaks one.
 pub mod Stands
 pub mod Agrees
 pub mod NoSpan

@@ -1,5 +1,5 @@
--- The promise fixes the outcome: two answers that tell the same are equal, and so are any two outcomes of one call. And it can always be met, so
--- that a run from a fresh record exists for any packets and any out rooms.
+-- The promise fixes the outcome: two answers that tell the same are equal, and so are any two outcomes of one call. And
+-- it can always be met, so that a run from a fresh record exists for any packets and any out rooms.
 use mathlib.Core.Path.{_≡_, refl, sym, ap, _∙_}
 use mathlib.Core.List.{List, [], _∷_}
 use Prim.Native.Nat.{ℕ}

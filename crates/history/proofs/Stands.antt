@@ -1,5 +1,5 @@
--- What a run leaves in hand can stand: its first byte is not 0xFF, and its header, once it is known, declares more than is there and not too
--- much. So a record that a packet leaves can't be refused with 43.
+-- What a run leaves in hand can stand: its first byte is not 0xFF, and its header, once it is known, declares more than
+-- is there and not too much. So a record that a packet leaves can't be refused with 43.
 use mathlib.Core.Path.{_≡_, refl, sym, ap, _∙_, subst}
 use mathlib.Core.Bool.{Bool, true, false, _&&_, _||_}
 use mathlib.Core.List.{List, [], _∷_, _++_, map, map-id}

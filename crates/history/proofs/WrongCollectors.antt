@@ -1,19 +1,22 @@
--- Each wrong collector of document 01's last chapter is shut out by one of demand 3's statements, on the worked packet or its section.
+-- Each wrong collector is shut out by one of demand 3's statements, on the worked packet, its section, or two packets
+-- with a break between them.
 use mathlib.Core.Path.{_≡_, refl, ap}
 use mathlib.Core.Logic.{inr}
-use mathlib.Core.List.{List, [], _∷_}
+use mathlib.Core.List.{List, [], _∷_, map, flatten}
 use mathlib.Core.Option.{none}
 use Prim.Native.Nat.{ℕ}
 use native.Mathlib.Omega.{arith}
 use lib.ListN.{length}
-use Rattle.collector.specs.Rules.{sizeOf, follows}
+use Rattle.collector.specs.Each.{Each}
+use Rattle.collector.specs.Rules.{sizeOf, follows, Carried}
 use Rattle.collector.specs.Refusals.{cannotStand, judged, repeats}
 use Rattle.collector.specs.Answer.{Outcome, refused, repeated, taken}
 use Rattle.collector.specs.Collected.{freshRecord, collected}
-use Rattle.history.specs.Run.{Call, no-call, one-call, Fare, NotRefused, NotRepeated}
+use Rattle.history.specs.History.{Byte, valueOf, payloadsFrom, BreakAfter, Unbroken, Among, none-left, left-out, had}
+use Rattle.history.specs.Run.{Call, no-call, one-call, Fare, takenOf, NotRefused, NotRepeated, handed}
 use Rattle.history.specs.Run as R
-use Rattle.history.specs.Demand3.{TakenExactlyIf, CountersAreFates, DeliveredInOrder}
-use Rattle.history.specs.WrongCollectors.{RefusesEvery, CallsRepeated, DoesNothing, Pretends, InventsCounters, invented, worked, short, hold₀, out₀}
+use Rattle.history.specs.Demand3.{MadeUnbroken, TakenExactlyIf, OneFateEach, CountersAreFates, DeliveredInOrder, NoSectionSpans}
+use Rattle.history.specs.WrongCollectors.{RefusesEvery, CallsRepeated, DoesNothing, Pretends, InventsCounters, invented, HandsOutOther, followed, JoinsOverBreaks, worked, short, left-off, gone-on, hold₀, out₀}
 
 -- a call with a packet, as an outcome tells it
 abbrev callOf : List ℕ → Outcome → Call
@@ -74,3 +77,55 @@ invents-counters-shut-out h =
     let x = h 20 hold₀ (callOf (worked 0) o ∷ []) (invented (o .rec)) (o .hold) (one-call refl no-call) in
     let z : _≡_ {A = ℕ} 176 175 = x .filler-is in
     omega arith
+
+-- eight bytes were delivered, and what stands in the out room is cut as a section of three
+pub hands-out-other-shut-out : OneFateEach HandsOutOther → ⊥
+unfolding judged sizeOf follows repeats cannotStand flatten
+hands-out-other-shut-out h =
+    let o : Outcome = collected (freshRecord 20) hold₀ out₀ (worked 0) in
+    let k : Call = record { packet = worked 0; out = out₀; out′ = out₀; said = o .said } in
+    let x = h 20 hold₀ (k ∷ []) (o .rec) (o .hold) (one-call refl no-call) in
+    let z : _≡_ {A = ℕ} 3 8 = ap length (x .handed-are) in
+    omega arith
+
+-- ---- a section that spans a break
+
+among-each : {A : Type 0} (P : A → Type 0) {part whole : List A} → Among part whole → Each P whole → Each P part
+among-each P none-left x = tt
+among-each P (left-out a) x = among-each P a (x .1)
+among-each P (had a) x = (x .0, among-each P a (x .1))
+
+-- the first byte of the section is the only 0x70, in the first packet, and the second the only 0x60, in the second
+abbrev InPlace : Byte → Type 0
+InPlace b = (b .value ≡ 0x70 → b .packet ≡ 0) × (b .value ≡ 0x60 → b .packet ≡ 1)
+
+spans-it : (qs : List (Carried ℕ)) (m : List (List Byte)) → map (map valueOf) m ≡ (0x70 ∷ 0x60 ∷ 0x00 ∷ []) ∷ []
+    → Each InPlace (flatten m) → Each (Unbroken qs) m → BreakAfter qs 0 → ⊥
+unfolding flatten
+spans-it qs [] e p u b = let z : _≡_ {A = ℕ} 0 1 = cc in omega arith
+spans-it qs ([] ∷ m) e p u b = let z : _≡_ {A = ℕ} 0 1 = cc in omega arith
+spans-it qs ((x ∷ []) ∷ m) e p u b = let z : _≡_ {A = ℕ} 0 1 = cc in omega arith
+spans-it qs ((x ∷ y ∷ l) ∷ m) e p u b =
+    let first : x .value ≡ 0x70 = cc in
+    let second : y .value ≡ 0x60 = cc in
+    let before : x .packet ≡ 0 = p .0 .0 first in
+    let behind : y .packet ≡ 1 = p .1 .0 .1 second in
+    u .0 .0 .1 .0 (record { at = 0; before = omega arith; behind = omega arith; broken = b })
+
+pub joins-over-breaks-shut-out : NoSectionSpans JoinsOverBreaks → ⊥
+unfolding judged sizeOf follows repeats cannotStand flatten
+joins-over-breaks-shut-out h =
+    let o : Outcome = collected (followed (freshRecord 20) left-off) hold₀ out₀ left-off in
+    let o₂ : Outcome = collected (followed (o .rec) gone-on) (o .hold) out₀ gone-on in
+    let calls : List Call = callOf left-off o ∷ callOf gone-on o₂ ∷ [] in
+    let x : MadeUnbroken (takenOf calls) (handed calls) =
+    h 20 hold₀ calls (o₂ .rec) (o₂ .hold) (one-call refl (one-call refl no-call)) in
+    let places : Each InPlace (payloadsFrom 0 (takenOf calls)) = (
+      (λ e. refl, λ e. absurd (omega arith)),
+      (
+        (λ e. refl, λ e. absurd (omega arith)),
+        ((λ e. absurd (omega arith), λ e. refl), ((λ e. absurd (omega arith), λ e. refl), tt)),
+      ),
+    ) in
+    spans-it (takenOf calls) (x .made-of) (x .values-are) (among-each InPlace (x .once-in-order) places) (x .unbroken)
+    (record { two = omega arith; break = λ e. omega arith })

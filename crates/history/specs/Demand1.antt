@@ -1,5 +1,6 @@
--- Demand 1 of a packet, as statements about any collector, with any record, hold, out room and packet: "Input to which numbered refusals apply
--- gets the first of them in document 01's order, the record and all lent room unaltered; no other input is refused."
+-- Demand 1 of a packet, as statements about any collector, with any record, hold, out room and packet: "Input to which
+-- numbered refusals apply gets the first of them in document 01's order, the record and all lent room unaltered; no
+-- other input is refused."
 use mathlib.Core.Path.{_≡_}
 use mathlib.Core.Bool.{true, false}
 use mathlib.Core.Logic.{_⊎_, _↔_}
@@ -21,8 +22,10 @@ module _ (C : Collector) where
   -- "gets the first of them ..; no other input is refused"
   abbrev pub RefusesFirst : Type 0
   RefusesFirst = (r : Record) (hold out packet : List ℕ) (o : Outcome) → C r hold out packet o
-      → (n : ℕ) → (o .said ≡ refused n) ↔ First n (refusals (cannotStand r hold) (r .pid) (length hold) (length out) packet)
+      → (n : ℕ)
+      → (o .said ≡ refused n) ↔ First n (refusals (cannotStand r hold) (r .pid) (length hold) (length out) packet)
 
   -- "the record and all lent room unaltered"
   abbrev pub RefusedUnaltered : Type 0
-  RefusedUnaltered = (r : Record) (hold out packet : List ℕ) (o : Outcome) → C r hold out packet o → (n : ℕ) → o .said ≡ refused n → o ≡ unaltered r hold out (refused n)
+  RefusedUnaltered = (r : Record) (hold out packet : List ℕ) (o : Outcome) → C r hold out packet o
+      → (n : ℕ) → o .said ≡ refused n → o ≡ unaltered r hold out (refused n)

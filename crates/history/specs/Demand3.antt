@@ -16,7 +16,8 @@ use Rattle.history.specs.History.{Byte, valueOf, historyOf, payloadsFrom
 use Rattle.history.specs.Run.{Collector, Call, Run, taken, fareOf, takenOf, lentOf, rulingOn, lastAfter, faresFrom, takenFrom, NotRefused, NotRepeated, handedBy, handed, bytesBy, toldBy}
 use Rattle.history.specs.Demand1.{First}
 
--- "A packet is taken exactly if it is neither refused nor, by document 01's rule, repeated." Each call is held against the packets before it.
+-- "A packet is taken exactly if it is neither refused nor, by document 01's rule, repeated." Each call is held against
+-- the packets before it.
 abbrev pub TakenIf : ℕ → ℕ → Option ℕ → List Call → Type 0
 TakenIf pid size last [] = Unit {0}
 TakenIf pid size last (k ∷ ks) =
@@ -25,7 +26,8 @@ TakenIf pid size last (k ∷ ks) =
 
 -- demand 1 of the packets of a run, whose record can stand exactly if its PID is one
 abbrev pub RefusedIf : ℕ → ℕ → Call → Type 0
-RefusedIf pid size k = (n : ℕ) → (k .said ≡ refused n) ↔ First n (refusals (ltb 8191 pid) pid size (length (k .out)) (k .packet))
+RefusedIf pid size k = (n : ℕ)
+    → (k .said ≡ refused n) ↔ First n (refusals (ltb 8191 pid) pid size (length (k .out)) (k .packet))
 
 -- the packets taken that have payload, by the packets alone, and their bytes' fates
 abbrev pub takenBy : ℕ → List ℕ → List Call → List (Carried ℕ)
@@ -34,7 +36,8 @@ takenBy pid hold calls = takenFrom pid (length hold) none (map lentOf calls)
 abbrev pub storyBy : ℕ → List ℕ → List Call → Story Byte
 storyBy pid hold calls = historyOf (takenBy pid hold calls) .story
 
--- "Modulo 2^32 the five counters equal the bytes of each fate"; the bytes in hand are those whose fate this is, at the start of the hold
+-- "Modulo 2^32 the five counters equal the bytes of each fate"; the bytes in hand are those whose fate this is, at the
+-- start of the hold
 pub record Counted (r : Record) (hold : List ℕ) (s : Story Byte) : Type 0 where
   pub pointer-is : r .pointer ≡ countOf pointer (s .marks) % 2 ^ 32
   pub delivered-is : r .delivered ≡ countOf delivered (s .marks) % 2 ^ 32
@@ -44,23 +47,23 @@ pub record Counted (r : Record) (hold : List ℕ) (s : Story Byte) : Type 0 wher
   pub in-hand-is : r .in_hand ≡ countOf in-hand (s .marks)
   pub hold-is : take (r .in_hand) hold ≡ map valueOf (handOf s)
 
--- "every payload byte of the packets taken so far has one fate": there is one mark for each, the delivered ones are the bytes handed out, and
--- those in hand stand in the hold
+-- "every payload byte of the packets taken so far has one fate": there is one mark for each, the delivered ones are the
+-- bytes handed out, and those in hand stand in the hold
 pub record Fated (calls : List Call) (r : Record) (hold : List ℕ) (marks : List (Mark Byte)) : Type 0 where
   pub one-each : map (λ m. m .byte) marks ≡ payloadsFrom 0 (takenOf calls)
   pub handed-are : flatten (handed calls) ≡ map valueOf (bytesOf delivered marks)
   pub held-are : take (r .in_hand) hold ≡ map valueOf (bytesOf in-hand marks)
 
--- "Delivered bytes come out once, in order": what the calls hand out, cut at the sections' own headers, are the delivered sections, and the
--- bytes that each answer speaks of are those of its sections, as many as it says
+-- "Delivered bytes come out once, in order": what the calls hand out, cut at the sections' own headers, are the
+-- delivered sections, and the bytes that each answer speaks of are those of its sections, as many as it says
 pub record HandedOut (calls : List Call) (s : Story Byte) : Type 0 where
   pub sections-are : handed calls ≡ map (map valueOf) (s .sections)
   pub bytes-are : Each (λ k. flatten (handedBy (k .said) (k .out′)) ≡ bytesBy (k .said) (k .out′)) calls
   pub told-are : Each (λ k. length (flatten (handedBy (k .said) (k .out′))) ≡ toldBy (k .said)) calls
   pub delivered-are : bytesOf delivered (s .marks) ≡ flatten (s .sections)
 
--- "no delivered section spans a break": sections that are made of payload bytes of these packets, each byte once and in order, and no two bytes
--- of one section have a break between them
+-- "no delivered section spans a break": sections that are made of payload bytes of these packets, each byte once and in
+-- order, and no two bytes of one section have a break between them
 pub record MadeUnbroken (qs : List (Carried ℕ)) (sections : List (List ℕ)) : Type 0 where
   pub made-of : List (List Byte)
   pub values-are : map (map valueOf) made-of ≡ sections
@@ -68,10 +71,12 @@ pub record MadeUnbroken (qs : List (Carried ℕ)) (sections : List (List ℕ)) :
   pub unbroken : Each (Unbroken qs) made-of
 
 module _ (C : Collector) where
-  -- "Start a fresh collector, feed it any packets, hand record and hold on untouched. .. After each packet, ..": of each run from a fresh record,
-  -- which may stop after any packet, by its PID, its hold at the start, its calls, and its record and hold at the end
+  -- "Start a fresh collector, feed it any packets, hand record and hold on untouched. .. After each packet, ..": of
+  -- each run from a fresh record, which may stop after any packet, by its PID, its hold at the start, its calls, and
+  -- its record and hold at the end
   abbrev pub OverRuns : (ℕ → List ℕ → List Call → Record → List ℕ → Type 0) → Type 0
-  OverRuns P = (pid : ℕ) (hold : List ℕ) (calls : List Call) (r : Record) (hold′ : List ℕ) → Run C (freshRecord pid) hold calls r hold′ → P pid hold calls r hold′
+  OverRuns P = (pid : ℕ) (hold : List ℕ) (calls : List Call) (r : Record) (hold′ : List ℕ)
+      → Run C (freshRecord pid) hold calls r hold′ → P pid hold calls r hold′
 
   -- demand 1's "gets the first of them", of the packets of a run
   abbrev pub RefusedExactlyIf : Type 0
@@ -80,9 +85,11 @@ module _ (C : Collector) where
   abbrev pub TakenExactlyIf : Type 0
   TakenExactlyIf = OverRuns (λ pid hold calls r hold′. TakenIf pid (length hold) none calls)
 
-  -- which packets are taken, which are repeated, and which are refused with which number, depends on the packets and the rooms' sizes alone
+  -- which packets are taken, which are repeated, and which are refused with which number, depends on the packets and
+  -- the rooms' sizes alone
   abbrev pub ByPacketsAlone : Type 0
-  ByPacketsAlone = OverRuns (λ pid hold calls r hold′. map (λ k. fareOf (k .said)) calls ≡ faresFrom pid (length hold) none (map lentOf calls))
+  ByPacketsAlone = OverRuns (λ pid hold calls r hold′.
+      map (λ k. fareOf (k .said)) calls ≡ faresFrom pid (length hold) none (map lentOf calls))
 
   -- a run never leaves a record that can't stand
   abbrev pub NeverUnfit : Type 0
@@ -98,7 +105,8 @@ module _ (C : Collector) where
   -- "and with those in hand they make up the payload taken"
   abbrev pub CountersMakeUp : Type 0
   CountersMakeUp = OverRuns (λ pid hold calls r hold′.
-      (r .pointer + r .delivered + r .broken + r .filler + r .skipped + r .in_hand) % 2 ^ 32 ≡ length (payloadsFrom 0 (takenOf calls)) % 2 ^ 32)
+      (r .pointer + r .delivered + r .broken + r .filler + r .skipped + r .in_hand) % 2 ^ 32
+      ≡ length (payloadsFrom 0 (takenOf calls)) % 2 ^ 32)
 
   abbrev pub DeliveredInOrder : Type 0
   DeliveredInOrder = OverRuns (λ pid hold calls r hold′. HandedOut calls (storyBy pid hold calls))

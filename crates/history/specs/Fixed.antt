@@ -1,26 +1,28 @@
--- What is asked of a collector, in one list: demand 1, demand 3, and what document 01 adds of the record and of the rooms' other bytes. And that
--- this leaves one collector.
+-- What is asked of a collector, in one list: demand 1, demand 3, and what document 01 adds of the record and of the
+-- rooms' other bytes. And that this leaves one collector.
 use mathlib.Core.Path.{_≡_}
 use mathlib.Core.List.{List, map}
 use Prim.Native.Nat.{ℕ}
-use lib.ListN.{take}
+use lib.ListN.{drop}
 use Rattle.collector.specs.Refusals.{lastOf}
 use Rattle.collector.specs.Answer.{Outcome}
-use Rattle.collector.specs.Collected.{freshRecord, over}
+use Rattle.collector.specs.Collected.{freshRecord}
 use Rattle.collector.specs.declared.Record.{Record}
 use Rattle.history.specs.History.{historyOf}
-use Rattle.history.specs.Run.{Collector, Promised, Call, inputOf, Run, bytesBy}
+use Rattle.history.specs.Run.{Collector, Promised, Call, inputOf, Run, toldBy}
 use Rattle.history.specs.Demand3.{takenBy, OverRuns, RefusedExactlyIf, TakenExactlyIf, CountersAreFates, DeliveredInOrder}
 
 module _ (C : Collector) where
   -- "It has the PID, the last counter or none, the bytes in hand, five 32-bit counters": the first two
   abbrev pub RecordTells : Type 0
-  RecordTells = OverRuns C (λ pid hold calls r hold′. (r .pid ≡ pid) × (lastOf (r .last) ≡ historyOf (takenBy pid hold calls) .last))
+  RecordTells = OverRuns C (λ pid hold calls r hold′.
+      (r .pid ≡ pid) × (lastOf (r .last) ≡ historyOf (takenBy pid hold calls) .last))
 
   -- "Out gets the finished sections .. Hold begins with the bytes in hand. Bytes of either beyond that stay."
   abbrev pub BeyondStays : Type 0
   BeyondStays = (r : Record) (hold out packet : List ℕ) (o : Outcome) → C r hold out packet o
-      → (o .out ≡ over (bytesBy (o .said) (o .out)) out) × (o .hold ≡ over (take (o .rec .in_hand) (o .hold)) hold)
+      → (drop (toldBy (o .said)) (o .out) ≡ drop (toldBy (o .said)) out)
+      × (drop (o .rec .in_hand) (o .hold) ≡ drop (o .rec .in_hand) hold)
 
   pub record Asked : Type 0 where
     pub refused-if : RefusedExactlyIf C
@@ -30,12 +32,14 @@ module _ (C : Collector) where
     pub record-tells : RecordTells
     pub beyond-stays : BeyondStays
 
-  -- no run from a fresh record is other than one of the collector's promise: every answer, every byte of the rooms, and the record
+  -- no run from a fresh record is other than one of the collector's promise: every answer, every byte of the rooms, and
+  -- the record
   abbrev pub OnlyAsPromised : Type 0
   OnlyAsPromised = OverRuns C (λ pid hold calls r hold′. Run Promised (freshRecord pid) hold calls r hold′)
 
 -- two collectors that are given the same packets and out rooms give the same calls, and leave the same record and hold
 abbrev pub Agree : Collector → Collector → Type 0
 Agree C D = (pid : ℕ) (hold : List ℕ) (calls calls₂ : List Call) (r r₂ : Record) (hold′ hold₂ : List ℕ)
-    → Run C (freshRecord pid) hold calls r hold′ → Run D (freshRecord pid) hold calls₂ r₂ hold₂ → map inputOf calls ≡ map inputOf calls₂
+    → Run C (freshRecord pid) hold calls r hold′ → Run D (freshRecord pid) hold calls₂ r₂ hold₂
+    → map inputOf calls ≡ map inputOf calls₂
     → (calls ≡ calls₂) × (r ≡ r₂) × (hold′ ≡ hold₂)

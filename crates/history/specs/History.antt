@@ -1,5 +1,5 @@
--- The fates over whole histories: a definition over the packets taken alone. A byte of payload is known by the number of its packet, counted
--- from 0 among the packets taken that have payload.
+-- The fates over whole histories: a definition over the packets taken alone. A byte of payload is known by the number
+-- of its packet, counted from 0 among the packets taken that have payload.
 use mathlib.Core.Path.{_≡_}
 use mathlib.Core.List.{List, [], _∷_, _++_, map}
 use mathlib.Core.Option.{Option, none, some}
@@ -33,7 +33,11 @@ numberedIn k q = record { counter = q .counter; start = q .start; bytes = number
 
 -- "the counter then becomes the last. Fates then, as they stand after the packets so far"
 abbrev pub after : History → Carried ℕ → History
-after h q = record { last = some (q .counter); packets = h .packets + 1; story = takenIn valueOf (h .last) (h .story) (numberedIn (h .packets) q) }
+after h q = record {
+  last = some (q .counter);
+  packets = h .packets + 1;
+  story = takenIn valueOf (h .last) (h .story) (numberedIn (h .packets) q);
+}
 
 abbrev pub historyFrom : History → List (Carried ℕ) → History
 historyFrom h [] = h

@@ -1,4 +1,5 @@
--- The statements of demand 3: what whole runs of calls come to, and the wrong collectors that they shut out.
+-- The statements of demands 1 and 3 about a collector, that they leave one, the wrong ones that they shut out, and
+-- stories of packets.
 pub mod History
 pub mod Run
 pub mod Demand1

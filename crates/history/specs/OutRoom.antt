@@ -1,5 +1,6 @@
--- Why an out room of 4,280 bytes suffices: one call hands out 4,278 bytes at most. At most 4,095 are in hand, and of a payload of 184 bytes one is
--- the pointer; without the start flag at most one section ends, and no section has more than 4,096.
+-- Why an out room of 4,280 bytes suffices: one call hands out 4,278 bytes at most. At most 4,095 are in hand, and of a
+-- payload of 184 bytes one is the pointer; without the start flag at most one section ends, and no section has more
+-- than 4,096.
 use mathlib.Core.Path.{_≡_}
 use mathlib.Core.List.{List, _∷_}
 use Prim.Native.Nat.{ℕ, _≤_}
@@ -14,10 +15,19 @@ use Rattle.history.specs.Run.{Collector, toldBy}
 abbrev pub AtMost : ℕ → Collector → Type 0
 AtMost n C = (r : Record) (hold out packet : List ℕ) (o : Outcome) → C r hold out packet o → toldBy (o .said) ≤ n
 
--- a call that hands out so many: a section of 4,096 bytes, of which 4,095 are in hand, ends in front of the pointer's target, and one of 182 bytes
--- fills the rest
+-- a call that hands out so many: a section of 4,096 bytes, of which 4,095 are in hand, ends in front of the pointer's
+-- target, and one of 182 bytes fills the rest
 abbrev pub before : Record
-before = record { pid = 20; last = Counter 0; in_hand = 4095; pointer = 0; delivered = 0; broken = 0; filler = 0; skipped = 0 }
+before = record {
+  pid = 20;
+  last = Counter 0;
+  in_hand = 4095;
+  pointer = 0;
+  delivered = 0;
+  broken = 0;
+  filler = 0;
+  skipped = 0;
+}
 
 abbrev pub full : List ℕ
 full = 0x70 ∷ 0x7F ∷ 0xFD ∷ replicate 4093 0

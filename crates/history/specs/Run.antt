@@ -1,4 +1,5 @@
--- A sequence of calls of a collector, with any packet and any out room at each, and how the packets of one fare by the packets alone.
+-- A sequence of calls of a collector, with any packet and any out room at each, and how the packets of one fare by the
+-- packets alone.
 use mathlib.Core.Path.{_≡_}
 use mathlib.Core.Logic.{_⊎_}
 use mathlib.Core.Bool.{false}
@@ -47,7 +48,8 @@ inputOf k = record { packet = k .packet; out = k .out }
 pub data Run (C : Collector) : Record → List ℕ → List Call → Record → List ℕ → Type 0 where
   no-call : {r : Record} {hold : List ℕ} → Run C r hold [] r hold
   one-call : {r r₁ r′ : Record} {hold hold₁ hold′ : List ℕ} {k : Call} {ks : List Call}
-      → C r hold (k .out) (k .packet) (record { rec = r₁; hold = hold₁; out = k .out′; said = k .said }) → Run C r₁ hold₁ ks r′ hold′ → Run C r hold (k ∷ ks) r′ hold′
+      → C r hold (k .out) (k .packet) (record { rec = r₁; hold = hold₁; out = k .out′; said = k .said })
+      → Run C r₁ hold₁ ks r′ hold′ → Run C r hold (k ∷ ks) r′ hold′
 
 -- calls of the promise with these inputs, and where they lead
 pub record RunOn (r : Record) (hold : List ℕ) (xs : List Input) : Type 0 where
@@ -79,7 +81,9 @@ ruledFare (Refusals.takes q) = taken
 abbrev pub carriedIf : Fare → List ℕ → List (Carried ℕ)
 carriedIf (refused n) packet = []
 carriedIf repeated packet = []
-carriedIf taken packet = if eqb (control packet) 2 then [] else carriedIn packet (payloadFrom packet) (startFlag packet) (counterOf packet) ∷ []
+carriedIf taken packet =
+    if eqb (control packet) 2 then []
+    else carriedIn packet (payloadFrom packet) (startFlag packet) (counterOf packet) ∷ []
 
 abbrev pub takenOf : List Call → List (Carried ℕ)
 takenOf [] = []

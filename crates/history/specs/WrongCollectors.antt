@@ -1,8 +1,9 @@
--- The wrong collectors that document 01's last chapter names, and the packets on which each shows itself.
+-- The wrong collectors that document 01's last chapter names, two more, and the packets on which each shows itself.
 use mathlib.Core.Path.{_≡_}
 use mathlib.Core.List.{List, [], _∷_, _++_}
 use Prim.Native.Nat.{ℕ, _+_, _%_, _^_}
 use lib.ListN.{replicate}
+use Rattle.collector.specs.Packet.{counterOf}
 use Rattle.collector.specs.Answer.{Outcome, refused, repeated, taken}
 use Rattle.collector.specs.Collected.{unaltered, collected}
 use Rattle.collector.specs.declared.Record.{Record}
@@ -22,7 +23,8 @@ CallsRepeated r hold out packet o = o ≡ unaltered r hold out repeated
 abbrev pub DoesNothing : Collector
 DoesNothing r hold out packet o = o ≡ unaltered r hold out (taken 0 0)
 
--- "one that works on the first packet and then pretends": it says that it takes what comes next, and leaves all as it is
+-- "one that works on the first packet and then pretends": it says that it takes what comes next, and leaves all as it
+-- is
 abbrev pub pretended : Last → Record → List ℕ → List ℕ → List ℕ → Outcome
 pretended None r hold out packet = collected r hold out packet
 pretended (Counter c) r hold out packet = unaltered r hold out (taken 0 0)
@@ -32,18 +34,60 @@ Pretends r hold out packet o = o ≡ pretended (r .last) r hold out packet
 
 -- "one with invented counters": here one more byte of filler than there was
 abbrev pub invented : Record → Record
-invented r = record { pid = r .pid; last = r .last; in_hand = r .in_hand; pointer = r .pointer; delivered = r .delivered; broken = r .broken; filler = (r .filler + 1) % 2 ^ 32; skipped = r .skipped }
+invented r = record {
+  pid = r .pid;
+  last = r .last;
+  in_hand = r .in_hand;
+  pointer = r .pointer;
+  delivered = r .delivered;
+  broken = r .broken;
+  filler = (r .filler + 1) % 2 ^ 32;
+  skipped = r .skipped;
+}
 
 abbrev pub InventsCounters : Collector
-InventsCounters r hold out packet o = o ≡ record { rec = invented (collected r hold out packet .rec); hold = collected r hold out packet .hold; out = collected r hold out packet .out; said = collected r hold out packet .said }
+InventsCounters r hold out packet o = o ≡ record {
+  rec = invented (collected r hold out packet .rec);
+  hold = collected r hold out packet .hold;
+  out = collected r hold out packet .out;
+  said = collected r hold out packet .said;
+}
+
+-- one that says what it should and writes nothing into the out room
+abbrev pub HandsOutOther : Collector
+HandsOutOther r hold out packet o = o ≡ record {
+  rec = collected r hold out packet .rec;
+  hold = collected r hold out packet .hold;
+  out = out;
+  said = collected r hold out packet .said;
+}
+
+-- one that takes no notice of a break: each packet is taken as if it followed the one before
+abbrev pub followed : Record → List ℕ → Record
+followed r packet = record {
+  pid = r .pid;
+  last = Counter ((counterOf packet + 15) % 16);
+  in_hand = r .in_hand;
+  pointer = r .pointer;
+  delivered = r .delivered;
+  broken = r .broken;
+  filler = r .filler;
+  skipped = r .skipped;
+}
+
+abbrev pub JoinsOverBreaks : Collector
+JoinsOverBreaks r hold out packet o = o ≡ collected (followed r packet) hold out packet
 
 -- document 01's worked packet, with a counter
 abbrev pub worked : ℕ → List ℕ
-worked counter = 0x47 ∷ 0x40 ∷ 0x14 ∷ (0x10 + counter) ∷ 0x00 ∷ 0x70 ∷ 0x70 ∷ 0x05 ∷ 0xC0 ∷ 0x79 ∷ 0x12 ∷ 0x45 ∷ 0x00 ∷ replicate 175 0xFF
+worked counter =
+    0x47 ∷ 0x40 ∷ 0x14 ∷ (0x10 + counter) ∷ 0x00 ∷ 0x70 ∷ 0x70 ∷ 0x05 ∷ 0xC0 ∷ 0x79 ∷ 0x12 ∷ 0x45 ∷ 0x00 ∷ replicate 175 0xFF
 
 -- its section once more, in a packet whose payload is ten bytes, with a counter
 abbrev pub short : ℕ → List ℕ
-short counter = 0x47 ∷ 0x40 ∷ 0x14 ∷ (0x30 + counter) ∷ 173 ∷ replicate 173 0 ++ (0x00 ∷ 0x70 ∷ 0x70 ∷ 0x05 ∷ 0xC0 ∷ 0x79 ∷ 0x12 ∷ 0x45 ∷ 0x00 ∷ 0xFF ∷ [])
+short counter =
+    0x47 ∷ 0x40 ∷ 0x14 ∷ (0x30 + counter) ∷ 173 ∷ replicate 173 0
+    ++ (0x00 ∷ 0x70 ∷ 0x70 ∷ 0x05 ∷ 0xC0 ∷ 0x79 ∷ 0x12 ∷ 0x45 ∷ 0x00 ∷ 0xFF ∷ [])
 
 -- rooms as small as they may be
 abbrev pub hold₀ : List ℕ
@@ -51,3 +95,10 @@ hold₀ = replicate 4096 0
 
 abbrev pub out₀ : List ℕ
 out₀ = replicate 4280 0
+
+-- two packets with a break between them, of which the second goes on where the first stops
+abbrev pub left-off : List ℕ
+left-off = 0x47 ∷ 0x40 ∷ 0x14 ∷ 0x30 ∷ 181 ∷ replicate 181 0 ++ (0x00 ∷ 0x70 ∷ [])
+
+abbrev pub gone-on : List ℕ
+gone-on = 0x47 ∷ 0x00 ∷ 0x14 ∷ 0x32 ∷ 181 ∷ replicate 181 0 ++ (0x60 ∷ 0x00 ∷ [])
