@@ -21,11 +21,13 @@ ok c = sym (c .before .before .judge .ensures) ∙ is-accepted _ (sym (c .before
 -- and its loops are those of its row
 all-read : (c : tie.After-before-crc)
     → let row : Row = c .before .row-at .result in
-    read (c .before .before .before .before .before .before .before .before .args .section .now) ≡ inside row (row .before) (drop (row .before) (c .before-crc .result .now))
+    read (c .before .before .before .before .before .before .before .before .args .section .now)
+    ≡ inside row (row .before) (drop (row .before) (c .before-crc .result .now))
 all-read c =
     let row-of = c .before .before .row-of in
     let byte-at = c .before .before .before .byte-at in
-    read-inside _ _ _ (c .before .row-at .ensures ∙ ap rowAt (row-of .ensures ∙ ap rowOf (byte-at .ensures))) (c .before-crc .ensures)
+    read-inside _ _ _ (c .before .row-at .ensures ∙ ap rowAt (row-of .ensures ∙ ap rowOf (byte-at .ensures)))
+    (c .before-crc .ensures)
     (ok (c .before .before .before .before))
 
 judge-requires : tie.Need-judge-requires
@@ -48,19 +50,25 @@ before-crc-requires c κs = search needs
 
 find-inside-requires : tie.Need-find-inside-requires
 unfolding judged
-find-inside-requires c κs =
-    (subst (λ (r : Row). FixedTwo (r .fixed)) (sym (c .before .row-at .ensures)) (fixed-two _), sym (ap answer (all-read c)) ∙ ok (c .before .before .before .before))
+find-inside-requires c κs = (
+  subst (λ (r : Row). FixedTwo (r .fixed)) (sym (c .before .row-at .ensures)) (fixed-two _),
+  sym (ap answer (all-read c)) ∙ ok (c .before .before .before .before),
+)
 
 returns : tie.Need-returns
 unfolding sought
 returns c =
     let then = c .before .before .before .before .before in
     let tag = then .before .before .before .before .args .tag in
-    rw (ap isAccepted (ok then)) (c .find-inside .ensures ∙ sym (ap (λ (x : Reading). hitFrom tag 0 (x .items)) (all-read (c .before))))
+    rw (ap isAccepted (ok then))
+    (c .find-inside .ensures ∙ sym (ap (λ (x : Reading). hitFrom tag 0 (x .items)) (all-read (c .before))))
 
 returns-2 : tie.Need-returns-2
 unfolding sought
-returns-2 c = rw (ap isAccepted (sym (c .before .before .judge .ensures)) ∙ sym (c .before .is-accepted .ensures) ∙ c .if1 .left) (ap (λ (x : Said). refusing (numberOf x) (placeOf x)) (c .before .before .judge .ensures))
+returns-2 c =
+    let judge = c .before .before .judge in
+    rw (ap isAccepted (sym (judge .ensures)) ∙ sym (c .before .is-accepted .ensures) ∙ c .if1 .left)
+    (ap (λ (x : Said). refusing (numberOf x) (placeOf x)) (judge .ensures))
 
 pub search-spec : {M : Type 1} → statement M
 search-spec =

@@ -9,7 +9,9 @@ use Rattle.section.proofs.judge.before_crc.Statement.{statement}
 use Rattle.section.proofs.judge.before_crc.Tie as tie
 
 returns : tie.Need-returns
-returns c = sym (body-all (c .before .before .before .args .row) (c .before .before .before .args .section .now) (c .if1 .taken))
+returns c =
+    let args = c .before .before .before .args in
+    sym (body-all (args .row) (args .section .now) (c .if1 .taken))
 
 less-requires : tie.Need-less-requires
 less-requires c κs = search needs
@@ -18,7 +20,10 @@ slice-aggregate-result : tie.Need-slice-aggregate-result
 slice-aggregate-result c = sym (length-take-le _ _ (omega (arith, c .before .less .ensures)))
 
 returns-2 : tie.Need-returns-2
-returns-2 c = ap (λ n. take n (c .before .before .before .before .before .args .section .now)) (c .before .less .ensures) ∙ sym (body-crc (c .before .before .before .before .before .args .row) (c .before .before .before .before .before .args .section .now) (c .before .before .if1 .left))
+returns-2 c =
+    let args = c .before .before .before .before .before .args in
+    ap (λ n. take n (args .section .now)) (c .before .less .ensures)
+    ∙ sym (body-crc (args .row) (args .section .now) (c .before .before .if1 .left))
 
 pub before-crc-spec : {M : Type 1} → statement M
 before-crc-spec = tie.close (tie.spec returns less-requires slice-aggregate-result returns-2)

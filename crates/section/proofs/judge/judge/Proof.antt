@@ -10,7 +10,9 @@ use Rattle.section.proofs.judge.judge.Statement.{statement}
 use Rattle.section.proofs.judge.judge.Tie as tie
 
 returns : tie.Need-returns
-returns c = sym (judged-opening (c .before .before .args .section .now) 1 0 (opening-short (c .before .before .args .section .now) (c .if1 .taken)))
+returns c =
+    let args = c .before .before .args in
+    sym (judged-opening (args .section .now) 1 0 (opening-short (args .section .now) (c .if1 .taken)))
 
 shared-slice-read-row-of : tie.Need-shared-slice-read-row-of
 shared-slice-read-row-of c = search needs
@@ -36,23 +38,32 @@ before-crc-requires : tie.Need-before-crc-requires
 before-crc-requires c κs = search needs
 
 judge-inside-requires : tie.Need-judge-inside-requires
-judge-inside-requires c κs = subst (λ (r : Row). FixedTwo (r .fixed)) (sym (c .before .before .before .before .row-at .ensures)) (fixed-two _)
+judge-inside-requires c κs =
+    subst (λ (r : Row). FixedTwo (r .fixed)) (sym (c .before .before .before .before .row-at .ensures)) (fixed-two _)
 
 returns-3 : tie.Need-returns-3
 returns-3 c =
-    let s = c .before .before .before .before .before .before .before .before .before .before .before .args .section .now in
-    let row = c .before .before .before .before .before .row-at in
-    let row-of = c .before .before .before .before .before .before .before .row-of in
-    went-on _ _ _ _ (c .before .before .before .before .judge-header .ensures) (c .before .before .before .is-accepted .ensures) _ (c .before .before .if3 .taken) (c .judge-inside .ensures)
-    ∙ sym (judged-on s _ _ (row .ensures ∙ ap rowAt (row-of .ensures)) (c .before .before-crc .ensures) (opening-known s (c .before .before .before .before .before .before .before .before .before .if1 .left) (omega arith)))
+    let is-accepted = c .before .before .before .is-accepted in
+    let judge-header = c .before .before .before .before .judge-header in
+    let p = c .before .before .before .before .before in let row = p .row-at in
+    let row-of = p .before .before .row-of in
+    let if1 = p .before .before .before .before .if1 in
+    let args = p .before .before .before .before .before .before .args in
+    let s = args .section .now in
+    went-on _ _ _ _ (judge-header .ensures) (is-accepted .ensures) _ (c .before .before .if3 .taken)
+    (c .judge-inside .ensures)
+    ∙ sym (judged-on s _ _ (row .ensures ∙ ap rowAt (row-of .ensures)) (c .before .before-crc .ensures)
+    (opening-known s (if1 .left) (omega arith)))
 
 returns-4 : tie.Need-returns-4
 returns-4 c =
-    let s = c .before .before .before .before .before .before .before .before .before .args .section .now in
     let row = c .before .before .before .row-at in
-    let row-of = c .before .before .before .before .before .row-of in
+    let p = c .before .before .before .before .before in let row-of = p .row-of in
+    let if1 = p .before .before .if1 in
+    let args = p .before .before .before .before .args in
+    let s = args .section .now in
     stopped _ _ _ _ (c .before .before .judge-header .ensures) (c .before .is-accepted .ensures) (c .if3 .left)
-    ∙ sym (judged-on s _ _ (row .ensures ∙ ap rowAt (row-of .ensures)) refl (opening-known s (c .before .before .before .before .before .before .before .if1 .left) (omega arith)))
+    ∙ sym (judged-on s _ _ (row .ensures ∙ ap rowAt (row-of .ensures)) refl (opening-known s (if1 .left) (omega arith)))
 
 pub judge-spec : {M : Type 1} → statement M
 judge-spec =
