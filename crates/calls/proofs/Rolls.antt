@@ -17,11 +17,11 @@ use Rattle.sequence.specs.Promise as beneath
 use Rattle.sequence.specs.Step.{Taken}
 use Rattle.sequence.specs.Sequence as beneath-runs
 use Rattle.sequence.specs.Sequence.{taken, Next, AllBytes, none, more}
-use Rattle.sequence.proofs.Exactly.{refuses-exactly-if, first-refuses, takes-else}
+use Rattle.sequence.proofs.Exactly.{refuses-exactly-if, first-refuses, takes-else, answers-any}
 use Rattle.sequence.proofs.WholeSequence.{each-fares, answers-are}
 use Rattle.cabinet.specs.Numbers.{bit, isSet}
 use Rattle.cabinet.specs.Roll.{marksIn, marksSay, rollIn, rollSays, rollAnswer, keeps, Outcome, rolling}
-use Rattle.calls.specs.Rolls.{Stands, Tells, least, all, Promised, PromisedAsked, PromisedEmpty, settled, Run, start, step, CallsBeneath, RollsBeneath, RefusesExactlyIf, RefusalKeeps, TakesElse, EachFares, AnswersAre}
+use Rattle.calls.specs.Rolls.{Stands, Tells, least, all, Promised, PromisedAsked, PromisedEmpty, settled, Run, start, step, CallsBeneath, RollsBeneath, RefusesExactlyIf, RefusalKeeps, TakesElse, AnswersAny, EachFares, AnswersAre}
 use Rattle.cabinet.specs.declared.rolls.Roll.{Roll}
 use Rattle.cabinet.specs.declared.rolls.RollAnswer.{RollAnswer}
 
@@ -178,6 +178,11 @@ each-section-fares given r x s w o is =
       subst (λ (q : of.Roll). Next (taken given) (rollIn r) s (record { roll = q; says = b .under .says }))
           (sym (b .roll-in)) fares,
     )
+
+pub answers-any-asked : AnswersAny PromisedAsked
+answers-any-asked r a is =
+    let x = asked (rollIn r) in
+    (x, subst (Tells x) (sym is) (answer-tells x), answers-any (rollIn r) x refl)
 
 pub answers-asked : AnswersAre Promised PromisedAsked
 answers-asked given r x a is = (

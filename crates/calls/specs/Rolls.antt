@@ -13,7 +13,7 @@ use Rattle.roll.specs.Roll as roll
 use Rattle.roll.specs.Roll.{emptyRoll, asked}
 use Rattle.roll.specs.declared.Roll as of
 use Rattle.sequence.specs.Promise as beneath
-use Rattle.sequence.specs.Step.{FirstFor, Taken}
+use Rattle.sequence.specs.Step.{FirstFor, Taken, Asked}
 use Rattle.sequence.specs.Sequence as beneath-runs
 use Rattle.sequence.specs.Sequence.{taken, Answered, Next}
 use Rattle.cabinet.specs.Numbers.{bit, isSet}
@@ -75,6 +75,10 @@ settled r = record {
   last = r .last;
   came = map (λ n. bit (isSet n)) (r .came);
 }
+
+-- the answer of any roll in numbers, without a section
+abbrev pub AnswersAny : (Roll → RollAnswer → Type 0) → Type 0
+AnswersAny ask = (r : Roll) (a : RollAnswer) → ask r a → (x : Says) × Tells x a × Asked (rollIn r) x
 
 -- a roll in numbers that was empty when these were given to it by calls, the last one first
 pub data Run (take : Roller) : List (List ℕ) → Roll → Type 0 where

@@ -17,12 +17,12 @@ use Rattle.loops.specs.Descriptors.{Placed}
 use Rattle.section.specs.Reading.{judged}
 use Rattle.section.specs.Grammar.{Section}
 use Rattle.section.proofs.Exactly.{accepted-exactly-if, refused-exactly-if}
-use Rattle.roll.specs.Answer.{refusing}
+use Rattle.roll.specs.Answer.{missing, refusing}
 use Rattle.roll.specs.Marks.{has, unmarked, marked, Whole, smallest, smallestMissing}
 use Rattle.roll.specs.SubTable.{subTableOf, compared, sameIds}
 use Rattle.roll.specs.Roll.{versionIn, numberIn, lastIn, isCurrent, hasNoSubTable, another, startsAfresh, begunWith, continued, after, asked, Outcome, answering, refusal, takingAccepted, taking}
-use Rattle.sequence.specs.Promise.{Promised}
-use Rattle.sequence.specs.Step.{Versioned, OfSubTable, Applies, no-sub-table, another as another-one, not-current, FirstFor, of-the-judge, of-the-roll, ComeFor, just, earlier, Answers, Taken, RefusesExactlyIf, RefusalKeeps, TakesElse}
+use Rattle.sequence.specs.Promise.{Promised, PromisedAsked}
+use Rattle.sequence.specs.Step.{Versioned, OfSubTable, Applies, no-sub-table, another as another-one, not-current, FirstFor, of-the-judge, of-the-roll, ComeFor, just, earlier, Answers, Taken, Asked, empty, begun, AnswersAny, RefusesExactlyIf, RefusalKeeps, TakesElse}
 use Rattle.sequence.proofs.MarkLaws.{unmarked-has-none, unmarked-whole, marked-whole, marked-has, marked-only, marked-more}
 use Rattle.sequence.proofs.Ids.{compared-as-it-stands, same-same-ids}
 use Rattle.sequence.proofs.TableIds.{no-sub-table-ids}
@@ -279,3 +279,14 @@ unfolding after begunWith continued
 after-whole r s w =
     if-case (λ (q : Roll). Whole (q .marks)) (startsAfresh r s) (λ _. marked-whole unmarked (numberIn s) unmarked-whole)
     (λ _. marked-whole (r .marks) (numberIn s) w)
+
+-- ---- asked without a section
+
+pub answers-any : AnswersAny PromisedAsked
+unfolding asked smallestMissing
+answers-any r x is = subst (Asked r) (sym is) (go (r .begun) refl)
+  where
+    go : (b : Bool) → r .begun ≡ b → Asked r (if b then smallestMissing (r .marks) (r .last) else missing 0)
+    go true e =
+        begun e (smallest-answers (has (r .marks)) (λ n. has (r .marks) n ≡ true) (λ n h. h) (λ n h. h) (r .last))
+    go false e = empty e

@@ -43,7 +43,8 @@ answered = ap first (at-work .1)
 
 none-refuses : (k p : ℕ) → FirstFor emptyRoll higher k p → ⊥
 none-refuses k p f =
-    let e : missing 1 ≡ refusing k p = sym answered ∙ refuses-exactly-if emptyRoll higher (taking emptyRoll higher) refl k p .1 f in
+    let told = refuses-exactly-if emptyRoll higher (taking emptyRoll higher) refl k p .1 f in
+    let e : missing 1 ≡ refusing k p = sym answered ∙ told in
     let z : _≡_ {A = ℕ} 0 1 = cc in
     omega arith
 

@@ -2,7 +2,7 @@
 -- bytes.
 use Prim.Native.Nat.{ℕ, _+_, _*_, _<_, _≤_}
 use mathlib.Core.Path.{_≡_}
-use mathlib.Core.Bool.{true}
+use mathlib.Core.Bool.{true, false}
 use mathlib.Core.Logic.{_⊎_, _↔_}
 use mathlib.Core.List.{List}
 use lib.ListN.{getD}
@@ -78,11 +78,20 @@ pub record Taken (r : Roll) (s : List ℕ) (o : Outcome) : Type 0 where
   pub marks : (n : ℕ) → (has (o .roll .marks) n ≡ true) ↔ ComeFor r s n
   pub says : Answers (ComeFor r s) (getD s 7 0) (o .says)
 
--- ---- statements about whatever takes a roll and a section
+-- the answer of any roll without a section: of an empty one nothing has come
+pub data Asked (r : Roll) : Says → Type 0 where
+  empty : r .begun ≡ false → Asked r (missing 0)
+  begun : {x : Says} → r .begun ≡ true → Answers (λ n. has (r .marks) n ≡ true) (r .last) x → Asked r x
+
+-- ---- statements about whatever takes a roll and a section, or is asked
 
 -- what may become of a roll and a section: the roll after it, and what it says
 abbrev pub Roller : Type 1
 Roller = Roll → List ℕ → Outcome → Type 0
+
+-- "It answers the smallest number missing, or complete", asked of any roll
+abbrev pub AnswersAny : (Roll → Says → Type 0) → Type 0
+AnswersAny ask = (r : Roll) (x : Says) → ask r x → Asked r x
 
 module _ (take : Roller) where
   -- "Input to which numbered refusals apply gets the first of them in document 01's order ..; no other input is
