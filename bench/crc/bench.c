@@ -41,8 +41,8 @@ static const struct {
     const char *name;
     uint32_t (*crc)(const uint8_t *, size_t);
 } ways[] = {{"C, table of 256", by_table}, {"C, slicing by 8", by_slices}, {"crc::crc32", rattle_crc32}};
-static const size_t lengths[] = {16, 32, 64, 200, 600, 1024, 4096};
-enum { WAYS = 3, LENGTHS = 7, ROUNDS = 41 };
+static const size_t lengths[] = {16, 32, 64, 96, 128, 200, 600, 1024, 4096};
+enum { WAYS = 3, LENGTHS = 9, ROUNDS = 41 };
 
 static double now(void) {
     struct timespec t;

@@ -34,30 +34,30 @@ quotient-shared =
     let u = down-twice (down-twice itself 4) 6 in
     agree 32 (rights-of (rights-of itself itself (9 ∷ 26 ∷ [])) u (6 ∷ 24 ∷ 25 ∷ [])) (quotient-of itself) tt
 
-pub times64-shared : (z : ℕ) → z < 2 ^ 64
+pub times64-shared : (z : ℕ) → z < 2 ^ 32
     → lefts 64 (27 ∷ 30 ∷ []) (lefts 64 (2 ∷ 9 ∷ []) (lefts 64 (10 ∷ 16 ∷ []) (lefts 64 (3 ∷ []) z (up 64 5 z)) (lefts 64 (3 ∷ []) z (up 64 5 z))) (up 64 5 z)) z
     ≡ times64 z
 unfolding times64 lefts
 times64-shared =
     let t = up-twice itself 64 5 in
     let u = lefts-of itself t 64 (3 ∷ []) in
-    agree 64 (lefts-of (lefts-of (lefts-of u u 64 (10 ∷ 16 ∷ [])) t 64 (2 ∷ 9 ∷ [])) itself 64 (27 ∷ 30 ∷ [])) (times64-of itself) tt
+    agree 32 (lefts-of (lefts-of (lefts-of u u 64 (10 ∷ 16 ∷ [])) t 64 (2 ∷ 9 ∷ [])) itself 64 (27 ∷ 30 ∷ [])) (times64-of itself) tt
 
-pub times96-shared : (z : ℕ) → z < 2 ^ 64
+pub times96-shared : (z : ℕ) → z < 2 ^ 32
     → lefts 64 (25 ∷ []) (lefts 64 (28 ∷ 30 ∷ []) (lefts 64 (9 ∷ 10 ∷ []) (up 64 4 (up 64 1 z) * 2 ^ 1 % 2 ^ 64) (up 64 4 (up 64 1 z))) (up 64 1 z)) z ≡ times96 z
 unfolding times96 lefts
 times96-shared =
     let t = up-twice itself 64 1 in
     let u = up-twice t 64 4 in
-    agree 64 (lefts-of (lefts-of (lefts-of (up-of u 64 1) u 64 (9 ∷ 10 ∷ [])) t 64 (28 ∷ 30 ∷ [])) itself 64 (25 ∷ [])) (times96-of itself) tt
+    agree 32 (lefts-of (lefts-of (lefts-of (up-of u 64 1) u 64 (9 ∷ 10 ∷ [])) t 64 (28 ∷ 30 ∷ [])) itself 64 (25 ∷ [])) (times96-of itself) tt
 
-pub times128-shared : (z : ℕ) → z < 2 ^ 64
+pub times128-shared : (z : ℕ) → z < 2 ^ 32
     → lefts 64 (9 ∷ 30 ∷ 31 ∷ []) (lefts 64 (10 ∷ 21 ∷ []) (lefts 64 (14 ∷ []) (up 64 2 z) (up 64 2 z)) (up 64 6 (up 64 2 z))) z ≡ times128 z
 unfolding times128 lefts
 times128-shared =
     let t = up-twice itself 64 2 in
     let u = up-twice t 64 6 in
-    agree 64 (lefts-of (lefts-of (lefts-of t t 64 (14 ∷ [])) u 64 (10 ∷ 21 ∷ [])) itself 64 (9 ∷ 30 ∷ 31 ∷ [])) (times128-of itself) tt
+    agree 32 (lefts-of (lefts-of (lefts-of t t 64 (14 ∷ [])) u 64 (10 ∷ 21 ∷ [])) itself 64 (9 ∷ 30 ∷ 31 ∷ [])) (times128-of itself) tt
 
 pub over-shared : (a : ℕ) → a < 2 ^ 64 → rights (47 ∷ []) (rights (16 ∷ 23 ∷ 41 ∷ []) a a) (down 8 (down 1 a)) ≡ over a
 unfolding over rights

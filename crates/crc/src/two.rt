@@ -5,7 +5,7 @@ use crate::words::first_two;
 use crate::words::long;
 ghost use mathlib.Core.Path.{_≡_};
 ghost use mathlib.Core.List.{[], _∷_};
-ghost use Prim.Native.Nat.{_≤_};
+ghost use Prim.Native.Nat.{_^_, _≤_, _<_};
 ghost use lib.ListN.{length};
 ghost use Rattle.crc.specs.Crc.{crc};
 ghost use Rattle.crc.specs.Inner.Moves.{over, under, times64, times96, times128};
@@ -47,6 +47,7 @@ pub fn leave(a: u64, b: u64, c: u64) -> Pair
 
 // z times 0x490D678D, which is x ^ 64.
 fn times_64(z: u64) -> u64
+    requires { ⌜ z < 2 ^ 32 ⌝ }
     ensures { λ y. ⌜ y ≡ times64 z ⌝ }
 {
     let t = z ^ (z << 5);
@@ -56,6 +57,7 @@ fn times_64(z: u64) -> u64
 
 // z times 0xF200AA66, which is x ^ 96.
 fn times_96(z: u64) -> u64
+    requires { ⌜ z < 2 ^ 32 ⌝ }
     ensures { λ y. ⌜ y ≡ times96 z ⌝ }
 {
     let t = z ^ (z << 1);
@@ -65,6 +67,7 @@ fn times_96(z: u64) -> u64
 
 // z times 0xE8A45605, which is x ^ 128.
 fn times_128(z: u64) -> u64
+    requires { ⌜ z < 2 ^ 32 ⌝ }
     ensures { λ y. ⌜ y ≡ times128 z ⌝ }
 {
     let t = z ^ (z << 2);

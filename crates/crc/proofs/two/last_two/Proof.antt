@@ -9,13 +9,13 @@ use Rattle.crc.proofs.two.last_two.Statement.{statement}
 use Rattle.crc.proofs.two.last_two.Tie as tie
 
 times-128-requires : tie.Need-times-128-requires
-times-128-requires c κs = tt
+times-128-requires c κs = omega arith
 
 times-96-requires : tie.Need-times-96-requires
-times-96-requires c κs = tt
+times-96-requires c κs = omega arith
 
 times-64-requires : tie.Need-times-64-requires
-times-64-requires c κs = tt
+times-64-requires c κs = omega arith
 
 cast-quotient : tie.Need-cast-quotient
 cast-quotient c =

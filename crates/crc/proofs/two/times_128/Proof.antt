@@ -6,7 +6,7 @@ use Rattle.crc.proofs.two.times_128.Tie as tie
 
 returns : tie.Need-returns
 unfolding lefts
-returns c = times128-shared (c .args .z) (c .fits .z .fits)
+returns c = times128-shared (c .args .z) (c .pre)
 
 pub times-128-spec : {M : Type 1} → statement M
 times-128-spec = tie.close (tie.spec returns)
