@@ -1,5 +1,5 @@
-// A window of five words moves over the bytes. A word that leaves it at its front adds nothing to the next, and little to the
-// four after that, since x^320 is a sum of four powers, of which the highest is x^175.
+// A window of five words moves over the bytes. A word that leaves it at its front adds nothing to the next, and little
+// to the four after that, since x^320 is a sum of four powers, of which the highest is x^175.
 use crate::two::last_two;
 use crate::two::leave;
 use crate::words::first_two;

@@ -1,4 +1,5 @@
-// The register, a word or a byte at a time: what leaves it at its top is divided by the polynomial P, and the remainder is added.
+// The register, a word or a byte at a time: what leaves it at its top is divided by the polynomial P, and the remainder
+// is added.
 use crate::words::word;
 ghost use mathlib.Core.Path.{_≡_};
 ghost use Prim.Native.Nat.{_≤_};
@@ -6,7 +7,8 @@ ghost use lib.ListN.{length, drop};
 ghost use Rattle.crc.specs.Crc.{feedBits, feedBytes};
 ghost use Rattle.crc.specs.Inner.Moves.{timesPoly, quotientOf};
 
-// The low half of q times P. The exponents of P, x ^ 32 left out, are 0, 4, 6, 10 moved up by 0, 1 and 2; 22 and 26; 16; and 23.
+// The low half of q times P. The exponents of P, x ^ 32 left out, are 0, 4, 6, 10 moved up by 0, 1 and 2; 22 and 26;
+// 16; and 23.
 pub fn times_poly(q: u32) -> u32
     ensures { λ y. ⌜ y ≡ timesPoly q ⌝ }
 {

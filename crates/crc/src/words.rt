@@ -38,8 +38,8 @@ pub struct Two {
     pub at: usize,
 }
 
-// The first 1 to 8 bytes are a word of their own, so that whole words follow to the end. Ones of the preset that it has no room
-// for fall to the next word.
+// The first 1 to 8 bytes are a word of their own, so that whole words follow to the end. Ones of the preset that it has
+// no room for fall to the next word.
 pub fn first_two(s: &[u8]) -> Two
     requires { ⌜ 9 ≤ length (now s) ⌝ }
     ensures { λ v. ⌜ (Ahead (now (s .entry)) ((v .a) ∷ (v .b) ∷ []) (v .at)) × (v .at ≤ 16) ⌝ }
