@@ -19,12 +19,12 @@ hertz f = 100 * f .0
 -- the body, in the order of the table
 abbrev pub layout : List Field
 layout =
-    kept 32 -- 0 frequency, 8 BCD digits
+    kept 32  -- 0 frequency, 8 BCD digits
     ∷ reserved 12
-    ∷ kept 4 -- 2 FEC_outer
-    ∷ kept 8 -- 3 modulation
-    ∷ kept 28 -- 4 symbol_rate, 7 BCD digits
-    ∷ kept 4 -- 5 FEC_inner
+    ∷ kept 4  -- 2 FEC_outer
+    ∷ kept 8  -- 3 modulation
+    ∷ kept 28  -- 4 symbol_rate, 7 BCD digits
+    ∷ kept 4  -- 5 FEC_inner
     ∷ []
 
 -- each field by its index in the layout

@@ -23,15 +23,15 @@ hertz f = 10000 * f .0
 -- the body, in the order of the table; what its two bits in front of modulation_system are rests on that
 abbrev pub layoutBy : Field → List Field
 layoutBy two =
-    kept 32 -- 0 frequency, 8 BCD digits
-    ∷ kept 16 -- 1 orbital_position, 4 BCD digits
-    ∷ kept 1 -- 2 west_east_flag
-    ∷ kept 2 -- 3 polarization
-    ∷ two -- 4 roll_off under modulation_system 1, and reserved under 0
-    ∷ kept 1 -- 5 modulation_system
-    ∷ kept 2 -- 6 modulation_type
-    ∷ kept 28 -- 7 symbol_rate, 7 BCD digits
-    ∷ kept 4 -- 8 FEC_inner
+    kept 32  -- 0 frequency, 8 BCD digits
+    ∷ kept 16  -- 1 orbital_position, 4 BCD digits
+    ∷ kept 1  -- 2 west_east_flag
+    ∷ kept 2  -- 3 polarization
+    ∷ two  -- 4 roll_off under modulation_system 1, and reserved under 0
+    ∷ kept 1  -- 5 modulation_system
+    ∷ kept 2  -- 6 modulation_type
+    ∷ kept 28  -- 7 symbol_rate, 7 BCD digits
+    ∷ kept 4  -- 8 FEC_inner
     ∷ []
 
 -- as it is read

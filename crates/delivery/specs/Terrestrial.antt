@@ -19,19 +19,19 @@ hertz f = 10 * f .0
 -- the body, in the order of the table
 abbrev pub layout : List Field
 layout =
-    kept 32 -- 0 centre_frequency, binary
-    ∷ kept 3 -- 1 bandwidth
-    ∷ kept 1 -- 2 priority
-    ∷ kept 1 -- 3 Time_Slicing_indicator
-    ∷ kept 1 -- 4 MPE-FEC_indicator
+    kept 32  -- 0 centre_frequency, binary
+    ∷ kept 3  -- 1 bandwidth
+    ∷ kept 1  -- 2 priority
+    ∷ kept 1  -- 3 Time_Slicing_indicator
+    ∷ kept 1  -- 4 MPE-FEC_indicator
     ∷ reserved 2
-    ∷ kept 2 -- 6 constellation
-    ∷ kept 3 -- 7 hierarchy_information
-    ∷ kept 3 -- 8 code_rate-HP_stream
-    ∷ kept 3 -- 9 code_rate-LP_stream
-    ∷ kept 2 -- 10 guard_interval
-    ∷ kept 2 -- 11 transmission_mode
-    ∷ kept 1 -- 12 other_frequency_flag
+    ∷ kept 2  -- 6 constellation
+    ∷ kept 3  -- 7 hierarchy_information
+    ∷ kept 3  -- 8 code_rate-HP_stream
+    ∷ kept 3  -- 9 code_rate-LP_stream
+    ∷ kept 2  -- 10 guard_interval
+    ∷ kept 2  -- 11 transmission_mode
+    ∷ kept 1  -- 12 other_frequency_flag
     ∷ reserved 32
     ∷ []
 

@@ -13,9 +13,9 @@ use Rattle.lists.specs.declared.content.Answer.the-variants.{Is, Refused
 -- an item, in the order of the table
 abbrev pub layout : List Field
 layout =
-    kept 4 -- 0 content_nibble_level_1
-    ∷ kept 4 -- 1 content_nibble_level_2
-    ∷ kept 8 -- 2 user_byte
+    kept 4  -- 0 content_nibble_level_1
+    ∷ kept 4  -- 1 content_nibble_level_2
+    ∷ kept 8  -- 2 user_byte
     ∷ []
 
 -- each field by its index in the layout

@@ -22,13 +22,13 @@ use Rattle.lists.specs.declared.local_time_offset.Answer.the-variants.{I
 -- an item, in the order of the table
 abbrev pub layout : List Field
 layout =
-    kept 24 -- 0 country_code
-    ∷ kept 6 -- 1 country_region_id
+    kept 24  -- 0 country_code
+    ∷ kept 6  -- 1 country_region_id
     ∷ reserved 1
-    ∷ kept 1 -- 3 local_time_offset_polarity
-    ∷ kept 16 -- 4 local_time_offset, 4 BCD digits
-    ∷ kept 40 -- 5 time_of_change
-    ∷ kept 16 -- 6 next_time_offset, 4 BCD digits
+    ∷ kept 1  -- 3 local_time_offset_polarity
+    ∷ kept 16  -- 4 local_time_offset, 4 BCD digits
+    ∷ kept 40  -- 5 time_of_change
+    ∷ kept 16  -- 6 next_time_offset, 4 BCD digits
     ∷ []
 
 -- an offset of 16 bits at a place of the item: hour and minute in BCD, and the polarity that serves both offsets

@@ -13,8 +13,8 @@ use Rattle.lists.specs.declared.parental_rating.Answer.the-variants.{Is,
 -- an item, in the order of the table
 abbrev pub layout : List Field
 layout =
-    kept 24 -- 0 country_code
-    ∷ kept 8 -- 1 rating
+    kept 24  -- 0 country_code
+    ∷ kept 8  -- 1 rating
     ∷ []
 
 -- each field by its index in the layout

@@ -13,8 +13,8 @@ use Rattle.lists.specs.declared.service_list.Answer.the-variants.{Is, Re
 -- an item, in the order of the table
 abbrev pub layout : List Field
 layout =
-    kept 16 -- 0 service_id
-    ∷ kept 8 -- 1 service_type
+    kept 16  -- 0 service_id
+    ∷ kept 8  -- 1 service_type
     ∷ []
 
 -- each field by its index in the layout

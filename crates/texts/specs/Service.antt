@@ -14,7 +14,7 @@ use Rattle.texts.specs.declared.service.Answer.the-variants.{Is, Refused
 
 -- what stands in front of the texts
 abbrev pub layout : List Field
-layout = kept 8 -- 0 service_type
+layout = kept 8  -- 0 service_type
     ∷ []
 
 -- behind it the length of the provider's name, 8 bits, and that name; then the length of the name, 8 bits, and the name to the end

@@ -14,7 +14,7 @@ use Rattle.texts.specs.declared.short_event.Answer.the-variants.{Is, Ref
 
 -- what stands in front of the texts
 abbrev pub layout : List Field
-layout = kept 24 -- 0 language_code
+layout = kept 24  -- 0 language_code
     ∷ []
 
 -- behind it the length of the name, 8 bits, and the name; then the length of the text, 8 bits, and the text to the end

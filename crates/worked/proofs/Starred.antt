@@ -22,7 +22,9 @@ both : {A B : Type 0} → A → B → A × B
 both a b = (a, b)
 
 pub starred-hold : All starred
-unfolding judged read opening _andThen_ rowOf first holds cell header wrongSyntax lengthOutside sizeDiffers crcFails aboveLast inside plain dateOf gregorian daysOn early yearOf dayOf monthOf dayIn numberAt hms field bcdOf bcdAfter fixed framed digitsAt cable cableFields satellite satelliteFields system descriptors trail run stepAt
+unfolding judged read opening _andThen_ rowOf first holds cell header wrongSyntax lengthOutside sizeDiffers crcFails
+    aboveLast inside plain dateOf gregorian daysOn early yearOf dayOf monthOf dayIn numberAt hms field bcdOf bcdAfter
+    fixed framed digitsAt cable cableFields satellite satelliteFields system descriptors trail run stepAt
 starred-hold =
     refl
     and both refl (told 0xC079 0x12 0x45 0x00 _ (omega arith) (omega arith) (omega arith) (omega arith) refl)

@@ -25,7 +25,8 @@ not-ones : (mjd h m s : ℕ) → s < 255 → eqb (number (mjd ∷ h ∷ m ∷ s 
 not-ones mjd h m s l = ne-eqb (number (mjd ∷ h ∷ m ∷ s ∷ [])) 0xFF_FFFF_FFFF (λ e. omega arith)
 
 -- a day in March to December, its date by annex C: the calendar counts the days one after the other, some 50,000 of them
-pub told : (mjd h m s : ℕ) (t : Hms) → 15079 ≤ mjd → mjd < 65536 → monthOf mjd < 14 → s < 255 → hms 24 h m s ≡ value t → Told mjd h m s (early mjd) t
+pub told : (mjd h m s : ℕ) (t : Hms) → 15079 ≤ mjd → mjd < 65536 → monthOf mjd < 14 → s < 255 → hms 24 h m s ≡ value t
+    → Told mjd h m s (early mjd) t
 unfolding timeOf dateOf
 told mjd h m s t low high month l e =
     record {
@@ -40,7 +41,8 @@ every-clock mjd d low high e t right =
     record {
       moment =
           time-exactly mjd (shown (t .hour)) (shown (t .minute)) (shown (t .second)) high
-          (show-below 2 (t .hour)) (show-below 2 (t .minute)) (show-below 2 (t .second)) (At (record { mjd = mjd; clock = t })) .1
+          (show-below 2 (t .hour)) (show-below 2 (t .minute)) (show-below 2 (t .second))
+          (At (record { mjd = mjd; clock = t })) .1
           ((low, right), refl);
       date = e;
     }

@@ -1,0 +1,2 @@
+-- In which order a reading refuses.
+pub mod Order
