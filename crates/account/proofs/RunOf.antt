@@ -1,7 +1,7 @@
 -- Entering packets from a fresh account is a run of the collector, and what the account counts is what the calls of that
 -- run say.
 use mathlib.Core.Path.{_≡_, refl, sym, ap, _∙_, subst}
-use mathlib.Core.Bool.{Bool, _||_, not}
+use mathlib.Core.Bool.{Bool, false, _||_, not}
 use mathlib.Core.List.{List, [], _∷_, _++_, map, flatten}
 use mathlib.Core.Option.{Option}
 use Prim.Native.Nat.{ℕ, zero, suc, _+_, _%_, _^_, _≤_}
@@ -10,7 +10,7 @@ use lib.Dec.{ltb, eqb}
 use lib.ListN.{length, take, drop, length-append, length-drop}
 use borrow.Author.Tests.{le-ltb}
 use Rattle.collector.specs.Rules.{totalOf, holding, plain, Carried, takenIn}
-use Rattle.collector.specs.Refusals.{_when_, headerRefusals, firstOf, judgedBy, judged, ruledBy, Ruling, ruling, cannotStand, lastOf}
+use Rattle.collector.specs.Refusals.{_when_, refusals, firstOf, judgedBy, judged, ruledBy, Ruling, ruling, cannotStand, lastOf}
 use Rattle.collector.specs.Refusals as Refusals
 use Rattle.collector.specs.Answer.{Told, refused, repeated, taken, Outcome}
 use Rattle.collector.specs.Collected.{over, outcomeOf, collected}
@@ -168,7 +168,7 @@ room-enough pid size last p n k =
     ap (λ (t : Bool). ruledBy last p
     (judgedBy
     (firstOf (41 when not (eqb (length p) 188) ∷ 42 when (ltb size 4096 || t) ∷ 43 when ltb 8191 pid
-    ∷ headerRefusals pid p))
+    ∷ drop 3 (refusals false pid 0 0 p)))
     p))
     (le-ltb n 4280 k ∙ sym (le-ltb 4280 4280 (omega arith)))
 

@@ -14,7 +14,7 @@ use borrow.Author.Tests.{ltb-true, ltb-false, eqb-true, eqb-false, ne-eqb}
 use Rattle.wire.specs.If.{if_then_else_}
 use Rattle.wire.proofs.IfLaws.{if-case}
 use Rattle.collector.specs.Rules.{Story, Carried}
-use Rattle.collector.specs.Refusals.{_when_, headerRefusals, firstOf, judgedBy, judged, ruledBy}
+use Rattle.collector.specs.Refusals.{_when_, refusals, firstOf, judgedBy, judged, ruledBy}
 use Rattle.collector.specs.Collected.{freshRecord}
 use Rattle.collector.proofs.Marks.{flatten-append, flatten-one}
 use Rattle.history.specs.History.{Byte, valueOf, historyOf}
@@ -93,7 +93,7 @@ short-refused pid size last x k =
     ap (λ (t : Bool). ruledFare (ruledBy last p
     (judgedBy
     (firstOf (41 when not t ∷ 42 when (ltb size 4096 || ltb (x .room) 4280) ∷ 43 when ltb 8191 pid
-    ∷ headerRefusals pid p))
+    ∷ drop 3 (refusals false pid 0 0 p)))
     p)))
     (ne-eqb (length p) 188 k)
 
