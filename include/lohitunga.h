@@ -536,12 +536,11 @@ lohitunga_roll_answer lohitunga_roll_take(lohitunga_roll *roll, const uint8_t *s
 #endif
 
 /* The stack that a call needs at most, in bytes below the caller's stack pointer, its return address included and that of memcpy and memset left out:
- *   lohitunga_roll_take            2,184
- *   lohitunga_to_sheet             1,976
- *   lohitunga_search               1,832
- *   lohitunga_to_section           1,368
- *   lohitunga_judge                1,272
- *   lohitunga_crc32                  664
+ *   lohitunga_roll_take            1,624
+ *   lohitunga_to_sheet             1,416
+ *   lohitunga_search               1,272
+ *   lohitunga_to_section             920
+ *   lohitunga_judge                  712
  *   lohitunga_roll_ask               304
  *   lohitunga_collect                184
  *   lohitunga_read_satellite         184
@@ -550,6 +549,7 @@ lohitunga_roll_answer lohitunga_roll_take(lohitunga_roll *roll, const uint8_t *s
  *   lohitunga_read_parental_rating   136
  *   lohitunga_read_service_list      136
  *   lohitunga_read_local_time_offset  96
+ *   lohitunga_crc32                   88
  *   lohitunga_read_time               48
  *   lohitunga_read_cable              40
  *   every other                        8
