@@ -2,6 +2,8 @@
 ghost use mathlib.Core.Path.{_≡_};
 ghost use Rattle.roll.specs.SubTable.{idsThatCount, networkIn, subTableOf, compared, sameIds};
 use crate::SubTable;
+use tables::EIT;
+use tables::SDT;
 use tables::row_of;
 use wire::numbers::byte_at;
 use wire::numbers::number16_at;
@@ -11,7 +13,7 @@ fn ids_that_count(table_id: u8, extension: u16, transport: u16, network: u16) ->
     ensures { λ r. ⌜ r ≡ idsThatCount «table_id» extension transport network ⌝ }
 {
     let row = row_of(table_id);
-    if row == 1 {
+    if row == SDT {
         return SubTable {
             table_id,
             extension,
@@ -19,7 +21,7 @@ fn ids_that_count(table_id: u8, extension: u16, transport: u16, network: u16) ->
             original_network_id: network,
         };
     }
-    if row == 3 {
+    if row == EIT {
         return SubTable {
             table_id,
             extension,
