@@ -1,6 +1,6 @@
 // Which sub-table a section belongs to.
 ghost use mathlib.Core.Path.{_≡_};
-ghost use Rattle.roll.specs.SubTable.{idsThatCount, networkIn, subTableOf, compared, sameIds};
+ghost use Rattle.head.specs.SubTable.{idsThatCount, networkIn, subTableOf, compared, sameIds};
 use crate::SubTable;
 use tables::EIT;
 use tables::SDT;
@@ -41,7 +41,7 @@ fn ids_that_count(table_id: u8, extension: u16, transport: u16, network: u16) ->
 fn network_in(section: &[u8]) -> u16
     ensures { λ r. ⌜ r ≡ networkIn (now (section .entry)) ⌝ }
 {
-    if row_of(byte_at(section, 0)) == 1 {
+    if row_of(byte_at(section, 0)) == SDT {
         return number16_at(section, 8);
     }
     number16_at(section, 10)
@@ -50,7 +50,7 @@ fn network_in(section: &[u8]) -> u16
 pub fn sub_table_of(section: &[u8]) -> SubTable
     ensures { λ r. ⌜ r ≡ subTableOf (now (section .entry)) ⌝ }
 {
-    let extension = number16_at(section, 3);
+    let extension = crate::extension_of(section);
     let transport = number16_at(section, 8);
     let network = network_in(section);
     ids_that_count(byte_at(section, 0), extension, transport, network)
