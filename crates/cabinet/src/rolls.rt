@@ -4,9 +4,9 @@ ghost use Rattle.roll.specs.Answer.{refusing, toldAnswer};
 ghost use Rattle.roll.specs.Roll.{emptyRoll, asked};
 ghost use Rattle.cabinet.specs.Roll.{marksIn, marksSay, rollIn, rollSays, rollAnswer, keeps, holds, rolling};
 use crate::numbers::of_flag;
+use head::SubTable;
 use roll::Answer;
 use roll::Marks;
-use roll::SubTable;
 
 #[repr(C)]
 pub struct Roll {

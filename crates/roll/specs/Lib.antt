@@ -1,5 +1,4 @@
--- The roll: its answers, its marks, what a sub-table is, and a step.
+-- The roll: its answers, its marks, and a step.
 pub mod Answer
 pub mod Marks
-pub mod SubTable
 pub mod Roll

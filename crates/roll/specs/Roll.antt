@@ -1,38 +1,17 @@
 -- A roll and a section: document 01, "The roll".
-use Prim.Native.Nat.{ℕ, _/_, _%_}
+use Prim.Native.Nat.{ℕ}
 use mathlib.Core.List.{List}
 use mathlib.Core.Bool.{Bool, true, false, not, _||_}
-use lib.ListN.{getD}
-use lib.Dec.{eqb, leb}
+use lib.Dec.{eqb}
 use Rattle.wire.specs.If.{if_then_else_}
 use Rattle.verdict.specs.Verdict.{isAccepted, numberOf, placeOf}
-use Rattle.tables.specs.Tables.{rowOf}
 use Rattle.section.specs.Reading.{judged}
+use Rattle.head.specs.Head.{versionIn, isCurrent, numberIn, lastIn, hasNoSubTable}
+use Rattle.head.specs.SubTable.{subTableOf, compared, sameIds}
 use Rattle.roll.specs.Answer.{Says, missing, refusing, toldAnswer}
 use Rattle.roll.specs.Marks.{unmarked, marked, smallestMissing}
-use Rattle.roll.specs.SubTable.{subTableOf, compared, sameIds}
 use Rattle.roll.specs.declared.Roll.{Roll}
 use Rattle.roll.specs.declared.Step.{Step}
-
--- version_number: the five bits above the lowest of byte 5
-unfoldable pub versionIn : List ℕ → ℕ
-versionIn s = getD s 5 0 / 2 % 32
-
--- section_number
-abbrev pub numberIn : List ℕ → ℕ
-numberIn s = getD s 6 0
-
--- last_section_number
-abbrev pub lastIn : List ℕ → ℕ
-lastIn s = getD s 7 0
-
--- 81: "current_next_indicator 0", the lowest bit of byte 5
-unfoldable pub isCurrent : List ℕ → Bool
-isCurrent s = eqb (getD s 5 0 % 2) 1
-
--- 83: "TDT, TOT", the last two rows
-unfoldable pub hasNoSubTable : List ℕ → Bool
-hasNoSubTable s = leb 4 (rowOf (getD s 0 0))
 
 -- 82: "another sub-table"; "An empty roll takes any."
 unfoldable pub another : Roll → List ℕ → Bool

@@ -2,20 +2,11 @@
 ghost use mathlib.Core.Path.{_≡_};
 ghost use Rattle.roll.specs.Answer.{toldAnswer};
 ghost use Rattle.roll.specs.Roll.{emptyRoll, asked, taking, heard};
+use head::SubTable;
 use verdict::Verdict;
 
 mod marking;
 mod stepping;
-mod sub_tables;
-
-// "A sub-table is table_id and extension, for SDT also original_network_id, for EIT also both transport ids."
-pub struct SubTable {
-    pub table_id: u8,
-    pub extension: u16,
-    // EIT's alone: SDT's is its extension.
-    pub transport_stream_id: u16,
-    pub original_network_id: u16,
-}
 
 // Which section numbers have come. Only the functions of `marking` look inside.
 pub struct Marks {

@@ -1,36 +1,19 @@
 // A roll and a section that the judge accepts.
 ghost use mathlib.Core.Path.{_≡_};
-ghost use Rattle.roll.specs.Roll.{versionIn, isCurrent, hasNoSubTable, another, startsAfresh, begunWith, after, takingAccepted, heard};
+ghost use Rattle.roll.specs.Roll.{another, startsAfresh, begunWith, after, takingAccepted, heard};
 use crate::Answer;
 use crate::Roll;
 use crate::Step;
 use crate::marking::mark;
 use crate::marking::no_marks;
-use crate::sub_tables::as_compared;
-use crate::sub_tables::same_ids;
-use crate::sub_tables::sub_table_of;
-use tables::row_of;
-use wire::numbers::byte_at;
-
-// version_number stands in five bits, above current_next_indicator.
-fn version_in(section: &[u8]) -> u8
-    ensures { λ r. ⌜ r ≡ versionIn (now (section .entry)) ⌝ }
-{
-    byte_at(section, 5) / 2 % 32
-}
-
-fn is_current(section: &[u8]) -> bool
-    ensures { λ r. ⌜ r ≡ isCurrent (now (section .entry)) ⌝ }
-{
-    byte_at(section, 5) % 2 == 1
-}
-
-// TDT and TOT: the rows behind those of NIT, SDT, BAT and EIT.
-fn has_no_sub_table(section: &[u8]) -> bool
-    ensures { λ r. ⌜ r ≡ hasNoSubTable (now (section .entry)) ⌝ }
-{
-    4 <= row_of(byte_at(section, 0))
-}
+use head::has_no_sub_table;
+use head::is_current;
+use head::last_of;
+use head::number_of;
+use head::sub_tables::as_compared;
+use head::sub_tables::same_ids;
+use head::sub_tables::sub_table_of;
+use head::version_of;
 
 fn is_another(roll: Roll, section: &[u8]) -> bool
     ensures { λ r. ⌜ r ≡ another roll (now (section .entry)) ⌝ }
@@ -46,10 +29,10 @@ fn starts_afresh(roll: Roll, section: &[u8]) -> bool
     ensures { λ r. ⌜ r ≡ startsAfresh roll (now (section .entry)) ⌝ }
 {
     if roll.begun {
-        if roll.version != version_in(section) {
+        if roll.version != version_of(section) {
             return true;
         }
-        return roll.last != byte_at(section, 7);
+        return roll.last != last_of(section);
     }
     true
 }
@@ -59,9 +42,9 @@ fn begun_with(section: &[u8]) -> Roll
     ensures { λ r. ⌜ r ≡ begunWith (now (section .entry)) ⌝ }
 {
     let sub_table = sub_table_of(section);
-    let version = version_in(section);
-    let last = byte_at(section, 7);
-    let marks = mark(no_marks(), byte_at(section, 6));
+    let version = version_of(section);
+    let last = last_of(section);
+    let marks = mark(no_marks(), number_of(section));
     Roll {
         begun: true,
         sub_table,
@@ -79,7 +62,7 @@ fn with_section(roll: Roll, section: &[u8]) -> Roll
         return begun_with(section);
     }
     let kept = roll.marks;
-    let marks = mark(kept, byte_at(section, 6));
+    let marks = mark(kept, number_of(section));
     let sub_table = roll.sub_table;
     Roll {
         begun: roll.begun,

@@ -8,7 +8,7 @@ use Rattle.wire.specs.If.{if_then_else_}
 use Rattle.wire.specs.Bytes.{len12At}
 use Rattle.wire.specs.Trail.{Trail, ended, before}
 use Rattle.crc.specs.Crc.{crc}
-use Rattle.tables.specs.Tables.{rowOf, rowAt}
+use Rattle.tables.specs.Tables.{UNKNOWN, rowOf, rowAt}
 use Rattle.verdict.specs.Verdict.{Said, accepted, refused, isAccepted}
 use Rattle.loops.specs.Descriptors.{Placed, descriptors}
 use Rattle.section.specs.Entries.{entries}
@@ -82,7 +82,7 @@ body row s = if eqb (row .crc) 1 then take (length s - 4) s else s
 unfoldable pub opening : List ℕ → Said
 opening s =
     given 1 when ltb (length s) 3 otherwise
-    given 2 when leb 6 (rowOf (getD s 0 0)) otherwise
+    given 2 when leb UNKNOWN (rowOf (getD s 0 0)) otherwise
     accepted
 
 -- 3: "wrong syntax bit"

@@ -9,6 +9,7 @@ ghost use Rattle.section.specs.Reading.{wrongSyntax, lengthOutside, size
 use crate::entries::judge_entries;
 use loops::descriptors::judge_descriptors;
 use tables::Row;
+use tables::UNKNOWN;
 use tables::row_at;
 use tables::row_of;
 use verdict::Verdict;
@@ -175,7 +176,7 @@ pub fn judge(section: &[u8]) -> Verdict
         return Verdict::TooShort;
     }
     let i = row_of(section[0]);
-    if 6 <= i {
+    if UNKNOWN <= i {
         return Verdict::UnknownTable;
     }
     let row = row_at(i);

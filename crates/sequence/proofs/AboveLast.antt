@@ -12,7 +12,8 @@ use Rattle.wire.specs.If.{if_then_else_}
 use Rattle.wire.specs.Bytes.{Bytes}
 use Rattle.roll.specs.Answer.{Says, missing}
 use Rattle.roll.specs.Marks.{has, unmarked, marked, Whole, smallest, smallestMissing}
-use Rattle.roll.specs.Roll.{numberIn, another, startsAfresh, begunWith, continued, after, asked, answering, refusal, taking}
+use Rattle.head.specs.Head.{numberIn}
+use Rattle.roll.specs.Roll.{another, startsAfresh, begunWith, continued, after, asked, answering, refusal, taking}
 use Rattle.sequence.specs.Promise.{Promised}
 use Rattle.sequence.specs.Sequence.{AllBytes, none, more}
 use Rattle.sequence.specs.Alike.{Alike, empty, begun, answersTo, StaysAlike}

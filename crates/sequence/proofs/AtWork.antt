@@ -14,8 +14,9 @@ use Rattle.section.specs.Reading.{_andThen_, fills, leavesRoom, secondLoop, two
 use Rattle.section.specs.Reading.{wrongSyntax, lengthOutside, sizeDiffers, crcFails, aboveLast, header, read, judged, opening as opened}
 use Rattle.roll.specs.Answer.{missing, complete, refusing}
 use Rattle.roll.specs.Marks.{has, unmarked, marked, smallest, smallestMissing}
-use Rattle.roll.specs.SubTable.{idsThatCount, networkIn, subTableOf, compared, sameIds}
-use Rattle.roll.specs.Roll.{versionIn, isCurrent, hasNoSubTable, another, startsAfresh, begunWith, continued, after, asked, takingAccepted, taking, emptyRoll}
+use Rattle.head.specs.SubTable.{idsThatCount, networkIn, subTableOf, compared, sameIds}
+use Rattle.head.specs.Head.{versionIn, isCurrent, hasNoSubTable}
+use Rattle.roll.specs.Roll.{another, startsAfresh, begunWith, continued, after, asked, takingAccepted, taking, emptyRoll}
 use Rattle.sequence.specs.Alike.{answersTo}
 
 -- the time and date table of the worked values

@@ -19,14 +19,16 @@ use Rattle.section.specs.Grammar.{Section}
 use Rattle.section.proofs.Exactly.{accepted-exactly-if, refused-exactly-if}
 use Rattle.roll.specs.Answer.{missing, refusing}
 use Rattle.roll.specs.Marks.{has, unmarked, marked, Whole, smallest, smallestMissing}
-use Rattle.roll.specs.SubTable.{subTableOf, compared, sameIds}
-use Rattle.roll.specs.Roll.{versionIn, numberIn, lastIn, isCurrent, hasNoSubTable, another, startsAfresh, begunWith, continued, after, asked, Outcome, answering, refusal, takingAccepted, taking}
+use Rattle.head.specs.SubTable.{subTableOf, compared, sameIds}
+use Rattle.head.specs.Head.{versionIn, numberIn, lastIn, isCurrent, hasNoSubTable}
+use Rattle.roll.specs.Roll.{another, startsAfresh, begunWith, continued, after, asked, Outcome, answering, refusal, takingAccepted, taking}
 use Rattle.sequence.specs.Promise.{Promised, PromisedAsked}
-use Rattle.sequence.specs.Step.{Versioned, OfSubTable, Applies, no-sub-table, another as another-one, not-current, FirstFor, of-the-judge, of-the-roll, ComeFor, just, earlier, Answers, Taken, Asked, empty, begun, AnswersAny, RefusesExactlyIf, RefusalKeeps, TakesElse}
+use Rattle.head.specs.Stands.{Versioned, OfSubTable}
+use Rattle.sequence.specs.Step.{Applies, no-sub-table, another as another-one, not-current, FirstFor, of-the-judge, of-the-roll, ComeFor, just, earlier, Answers, Taken, Asked, empty, begun, AnswersAny, RefusesExactlyIf, RefusalKeeps, TakesElse}
 use Rattle.sequence.proofs.MarkLaws.{unmarked-has-none, unmarked-whole, marked-whole, marked-has, marked-only, marked-more}
-use Rattle.sequence.proofs.Ids.{compared-as-it-stands, same-same-ids}
+use Rattle.head.proofs.Ids.{compared-as-it-stands, same-same-ids}
 use Rattle.sequence.proofs.TableIds.{no-sub-table-ids}
-use Rattle.sequence.proofs.HeadLaws.{version-is, current-is, not-current-is, is-not-current, of-sub-table}
+use Rattle.head.proofs.HeadLaws.{version-is, current-is, not-current-is, is-not-current, of-sub-table}
 use Rattle.sequence.proofs.SmallestMissing.{smallest-answers}
 use Rattle.roll.specs.declared.Roll.{Roll}
 

@@ -8,7 +8,7 @@ use Rattle.roll.specs.Marks.{has, Whole}
 use Rattle.roll.specs.Roll.{Outcome, taking}
 use Rattle.sequence.specs.Step.{Taken, Roller}
 use Rattle.sequence.specs.Alike.{Alike, empty, begun, Fixed}
-use Rattle.sequence.proofs.HeadLaws.{version-is, ids-compared}
+use Rattle.head.proofs.HeadLaws.{version-is, ids-compared}
 use Rattle.sequence.proofs.Exactly.{Went, refused, took, went, first-refuses, took-none, taken-by, after-whole}
 use Rattle.sequence.proofs.WholeSequence.{answers-once}
 use Rattle.roll.specs.declared.Roll.{Roll}

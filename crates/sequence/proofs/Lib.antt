@@ -1,8 +1,6 @@
 -- That the promise of `roll::take` gives each statement.
 pub mod MarkLaws
-pub mod Ids
 pub mod TableIds
-pub mod HeadLaws
 pub mod SmallestMissing
 pub mod Exactly
 pub mod Steps

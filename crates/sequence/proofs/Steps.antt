@@ -7,7 +7,8 @@ use mathlib.Core.List.{List}
 use Rattle.verdict.specs.Verdict.{isAccepted, numberOf, placeOf}
 use Rattle.verdict.proofs.SaidLaws.{is-accepted, is-refused}
 use Rattle.section.specs.Reading.{judged}
-use Rattle.roll.specs.Roll.{isCurrent, hasNoSubTable, another, after, refusal, answering, takingAccepted, taking}
+use Rattle.head.specs.Head.{isCurrent, hasNoSubTable}
+use Rattle.roll.specs.Roll.{another, after, refusal, answering, takingAccepted, taking}
 use Rattle.sequence.specs.Sequence.{belongs, takes, FirstRefusal, by-the-judge, no-sub-table, another-sub-table, not-current}
 use Rattle.roll.specs.declared.Roll.{Roll}
 

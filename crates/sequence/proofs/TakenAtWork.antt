@@ -13,7 +13,7 @@ use Rattle.roll.specs.Marks.{Whole}
 use Rattle.roll.specs.Roll.{emptyRoll, taking}
 use Rattle.sequence.specs.Step.{FirstFor, Taken}
 use Rattle.sequence.proofs.MarkLaws.{unmarked-whole}
-use Rattle.sequence.proofs.Ids.{and-left, and-right}
+use Rattle.head.proofs.Ids.{and-left, and-right}
 use Rattle.sequence.proofs.Exactly.{refuses-exactly-if, takes-else}
 use Rattle.sequence.proofs.AtWork.{at-work, higher}
 

@@ -13,14 +13,15 @@ use Rattle.wire.specs.If.{if_then_else_}
 use Rattle.wire.specs.Bytes.{Bytes}
 use Rattle.roll.specs.Answer.{Says, missing, complete}
 use Rattle.roll.specs.Marks.{has, unmarked, marked, smallest, smallestMissing}
-use Rattle.roll.specs.SubTable.{subTableOf, compared, sameIds}
-use Rattle.roll.specs.Roll.{versionIn, numberIn, lastIn, another, startsAfresh, begunWith, continued, after, asked, Outcome, answering, taking}
+use Rattle.head.specs.SubTable.{subTableOf, compared, sameIds}
+use Rattle.head.specs.Head.{versionIn, numberIn, lastIn}
+use Rattle.roll.specs.Roll.{another, startsAfresh, begunWith, continued, after, asked, Outcome, answering, taking}
 use Rattle.sequence.specs.Sequence.{belongs, takes, taken, Come, just, earlier, Answered, nothing, some, Kept, Agrees, empty, begun, Next, took, refused, AllBytes, none, more, Run, start, step, MarksAre, EachFares, AnswersAre}
 use Rattle.sequence.specs.Promise.{Promised, PromisedAsked}
 use Rattle.sequence.specs.Step.{Answers, all, least}
 use Rattle.sequence.proofs.MarkLaws.{unmarked-has-none, unmarked-whole, marked-whole, marked-has, marked-only, marked-more}
 use Rattle.sequence.proofs.SmallestMissing.{smallest-answers}
-use Rattle.sequence.proofs.Ids.{compared-as-it-stands, same-ids-same}
+use Rattle.head.proofs.Ids.{compared-as-it-stands, same-ids-same}
 use Rattle.sequence.proofs.Steps.{Refuses, taken-or-refused}
 use Rattle.roll.specs.declared.Roll.{Roll}
 

@@ -7,7 +7,7 @@ use mathlib.Core.Bool.{true, false}
 use Rattle.wire.specs.Bytes.{Bytes}
 use Rattle.roll.specs.Answer.{Says}
 use Rattle.roll.specs.Marks.{has, Whole}
-use Rattle.roll.specs.SubTable.{compared}
+use Rattle.head.specs.SubTable.{compared}
 use Rattle.roll.specs.Roll.{Outcome, taking}
 use Rattle.sequence.specs.Step.{Roller, RefusesExactlyIf, RefusalKeeps, TakesElse}
 use Rattle.roll.specs.declared.Roll.{Roll}

@@ -10,8 +10,9 @@ use Rattle.verdict.specs.Verdict as verdict
 use Rattle.section.specs.Reading.{judged}
 use Rattle.roll.specs.Answer.{Says, missing}
 use Rattle.roll.specs.Marks.{has, Whole}
-use Rattle.roll.specs.SubTable.{subTableOf, sameIds}
-use Rattle.roll.specs.Roll.{versionIn, numberIn, lastIn, isCurrent, hasNoSubTable, Outcome, refusal}
+use Rattle.head.specs.SubTable.{subTableOf, sameIds}
+use Rattle.head.specs.Head.{versionIn, numberIn, lastIn, isCurrent, hasNoSubTable}
+use Rattle.roll.specs.Roll.{Outcome, refusal}
 use Rattle.sequence.specs.Step.{Answers, Roller}
 use Rattle.roll.specs.declared.Roll.{Roll}
 

@@ -7,7 +7,7 @@ use lib.ListN.{length, getD}
 use lib.Dec.{ltb, leb, eqb}
 use Rattle.wire.specs.If.{if_then_else_}
 use Rattle.wire.specs.Reading.{Reading, value, refused, _>>=_}
-use Rattle.tables.specs.Tables.{rowOf, rowAt}
+use Rattle.tables.specs.Tables.{UNKNOWN, rowOf, rowAt}
 use Rattle.forms.specs.Form.{Front, Form, mute, rawRead, raw, _then_, such, each}
 use Rattle.forms.specs.Fields.{Field, sheetFields}
 use Rattle.forms.specs.Lists.{counted}
@@ -64,7 +64,7 @@ behindId row = sheetFields frame then sheetBody row
 -- "23 table_id unknown"
 unfoldable pub sheetRead : List ℕ → Front Content
 sheetRead s =
-    such (raw 1) 23 (λ id. ltb (rowOf (getD id 0 0)) 6) .read s >>= λ id.
+    such (raw 1) 23 (λ id. ltb (rowOf (getD id 0 0)) UNKNOWN) .read s >>= λ id.
     behindId (rowOf (getD (id .0) 0 0)) .read (id .1) >>= λ c.
     value ((getD (id .0) 0 0, c .0), c .1)
 
@@ -74,7 +74,7 @@ sheetOf c = tableOf c ∷ behindId (rowIn c) .show (c .1)
 
 -- a content that a sheet can show
 unfoldable pub SheetOk : Content → Type 0
-SheetOk c = (rowIn c < 6) × behindId (rowIn c) .Ok (c .1)
+SheetOk c = (rowIn c < UNKNOWN) × behindId (rowIn c) .Ok (c .1)
 
 -- the form of sheets
 abbrev pub sheet : Form Content

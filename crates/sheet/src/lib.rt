@@ -66,7 +66,7 @@ pub fn judge(sheet: &[u8]) -> Judged
         return Judged::Early;
     }
     let row = tables::row_of(sheet[0]);
-    if 6 <= row {
+    if tables::UNKNOWN <= row {
         return Judged::Unknown;
     }
     judge_known(sheet, row)

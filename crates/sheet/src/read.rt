@@ -5,13 +5,16 @@ ghost use Prim.Native.Nat.{_<_};
 ghost use Rattle.forms.specs.Form.{raw, each};
 ghost use Rattle.forms.specs.Fields.{below, sheetFields};
 ghost use Rattle.forms.specs.Lists.{times, counted};
-ghost use Rattle.tables.specs.Tables.{rowAt};
+ghost use Rattle.tables.specs.Tables.{UNKNOWN, rowAt};
 ghost use Rattle.sheet.specs.Content.{headOf};
 ghost use Rattle.sheet.specs.Content.Item.{numbers};
 ghost use Rattle.sheet.specs.Sheet.{sheetItem, descriptor, sheetEntries, behindId};
 ghost use Rattle.sheet.specs.Inner.Places.{Follows, Common, entryBy, sideBy, entryWith, topBy};
 ghost use Rattle.sheet.specs.declared.End.the-variants.{At};
 use crate::End;
+use tables::EIT;
+use tables::SDT;
+use tables::is_numbered;
 
 // ---- at a place
 
@@ -236,17 +239,17 @@ fn common(s: &[u8], from: End) -> End
 // "SDT adds original_network_id 2. EIT adds transport_stream_id 2, original_network_id 2, segment_last_section_number 1, last_table_id 1.
 // TDT, TOT: time 5."
 fn head(s: &[u8], from: End, row: usize) -> End
-    requires { ⌜ row < 6 ⌝ }
+    requires { ⌜ row < UNKNOWN ⌝ }
     ensures { λ r. ⌜ Follows (each sheetItem (headOf row)) (now (s .entry)) from r ⌝ }
 {
-    if 4 <= row {
+    if !is_numbered(row) {
         return plain(s, from, 5);
     }
     let end = common(s, from);
-    if row == 1 {
+    if row == SDT {
         return plain(s, end, 2);
     }
-    if row == 3 {
+    if row == EIT {
         return plain(s, end, 6);
     }
     end
@@ -267,13 +270,13 @@ fn top_loop(s: &[u8], from: End, top: usize) -> End
 fn entries_of(s: &[u8], from: End, row: usize) -> End
     ensures { λ r. ⌜ Follows (sheetEntries row) (now (s .entry)) from r ⌝ }
 {
-    if 4 <= row {
+    if !is_numbered(row) {
         return from;
     }
-    if row == 1 {
+    if row == SDT {
         return entries(s, from, 2, true, true);
     }
-    if row == 3 {
+    if row == EIT {
         return entries(s, from, 10, false, true);
     }
     entries(s, from, 4, false, false)
@@ -281,7 +284,7 @@ fn entries_of(s: &[u8], from: End, row: usize) -> End
 
 // All behind the table_id; `top` is the row's column for a top loop.
 pub fn behind_id(s: &[u8], from: End, row: usize, top: usize) -> End
-    requires { ⌜ (row < 6) × (top ≡ rowAt row .top) ⌝ }
+    requires { ⌜ (row < UNKNOWN) × (top ≡ rowAt row .top) ⌝ }
     ensures { λ r. ⌜ Follows (behindId row) (now (s .entry)) from r ⌝ }
 {
     let fields = head(s, from, row);

@@ -1,20 +1,24 @@
 // How long the section of a sheet is, from the sheet's length and the number of its entries.
 ghost use mathlib.Core.Path.{_≡_};
 ghost use Rattle.sheet.specs.Inner.Lengths.{gain, spare, lengthBy};
+use tables::EIT;
+use tables::SDT;
+use tables::TOT;
+use tables::is_numbered;
 
 fn gained(row: usize) -> usize
     ensures { λ r. ⌜ r ≡ gain row ⌝ }
 {
-    if row == 1 {
+    if row == SDT {
         return 2;
     }
-    if row == 3 {
+    if row == EIT {
         return 1;
     }
-    if row == 5 {
+    if row == TOT {
         return 4;
     }
-    if 4 <= row {
+    if !is_numbered(row) {
         return 0;
     }
     3
@@ -24,11 +28,11 @@ fn gained(row: usize) -> usize
 fn spared(s: &[u8], row: usize) -> usize
     ensures { λ r. ⌜ r ≡ spare row (now (s .entry)) ⌝ }
 {
-    if row == 1 {
+    if row == SDT {
         let n = wire::numbers::number16_at(s, 9) as usize;
         return 3 * n + 1;
     }
-    if row == 3 {
+    if row == EIT {
         let n = wire::numbers::number16_at(s, 13) as usize;
         return 2 * n + 1;
     }

@@ -6,12 +6,21 @@ use mathlib.Core.Bool.{Bool, true, false, not, _&&_, _||_}
 use mathlib.Core.List.{[]}
 use native.Mathlib.Omega.{arith}
 use native.Mathlib.Decide.{ℕ-discrete}
-use borrow.Author.Tests.{leb-true, eqb-true, le-leb}
+use borrow.Author.Tests.{leb-true, eqb-true, le-leb, ltb-true, ltb-false}
 use lib.ListN.{getD}
 use lib.Dec.{leb, eqb}
 use Rattle.wire.specs.If.{if_then_else_}
 use Rattle.wire.proofs.IfLaws.{true-not-false}
-use Rattle.tables.specs.Tables.{rows, cell, rowAt, between, holds, first, rowOf, InRow, FixedTwo}
+use Rattle.tables.specs.Tables.{TDT, isNumbered, rows, cell, rowAt, between, holds, first, rowOf, InRow, FixedTwo}
+
+-- ---- the four tables
+
+-- what `is_numbered` tells
+pub numbered-below : (row : ℕ) {b : Bool} → b ≡ isNumbered row → b ≡ true → row < TDT
+numbered-below row e t = ltb-true row TDT (sym e ∙ t)
+
+pub unnumbered-from : (row : ℕ) {b : Bool} → b ≡ isNumbered row → b ≡ false → TDT ≤ row
+unnumbered-from row e f = ltb-false row TDT (sym e ∙ f)
 
 -- ---- sizes
 

@@ -5,9 +5,39 @@ use mathlib.Core.Logic.{_⊎_}
 use mathlib.Core.List.{List, [], _∷_}
 use mathlib.Core.Bool.{Bool, _&&_, _||_}
 use lib.ListN.{getD}
-use lib.Dec.{leb}
+use lib.Dec.{leb, ltb}
 use Rattle.wire.specs.If.{if_then_else_}
 use Rattle.tables.specs.declared.Row.{Row}
+
+-- ---- the rows by name
+
+abbrev pub NIT : ℕ
+NIT = 0
+
+abbrev pub SDT : ℕ
+SDT = 1
+
+abbrev pub BAT : ℕ
+BAT = 2
+
+abbrev pub EIT : ℕ
+EIT = 3
+
+abbrev pub TDT : ℕ
+TDT = 4
+
+abbrev pub TOT : ℕ
+TOT = 5
+
+-- in the place of a row, where none has the table_id
+abbrev pub UNKNOWN : ℕ
+UNKNOWN = 6
+
+-- "NIT, BAT, SDT, EIT: extension id 2, version 1, current 1, section number 1, last 1.": the rows before that of TDT
+abbrev pub isNumbered : ℕ → Bool
+isNumbered row = ltb row TDT
+
+-- ---- the rows
 
 -- NIT, SDT, BAT, EIT, TDT, TOT: table_id from and to, a second table_id from and to; syntax bit; least and greatest section_length; bytes before
 -- the first loop or entry; entry's fixed bytes, 0 for none; 1 where a top loop follows; 1 where the table ends in a CRC_32
@@ -55,9 +85,9 @@ unfoldable pub first : ℕ → ℕ → (ℕ → Bool) → ℕ
 first zero i p = i
 first (suc k) i p = if p i then i else first k (i + 1) p
 
--- the row of a table_id; 6 where none has it
+-- the row of a table_id; UNKNOWN where none has it
 unfoldable pub rowOf : ℕ → ℕ
-rowOf id = first 6 0 (λ i. holds (getD rows i []) id)
+rowOf id = first UNKNOWN 0 (λ i. holds (getD rows i []) id)
 
 -- a row's ids
 abbrev pub InRow : ℕ → ℕ → Type 0

@@ -1,6 +1,15 @@
 // Document 01, "Tables that are known": six rows, which judge and writer both consult.
 ghost use mathlib.Core.Path.{_≡_};
-ghost use Rattle.tables.specs.Tables.{between, holds, rowOf, rowAt};
+ghost use Rattle.tables.specs.Tables.{between, holds, isNumbered, rowOf, rowAt};
+
+// The rows by name, and the number in the place of a row where none has the table_id.
+pub const NIT: usize = 0;
+pub const SDT: usize = 1;
+pub const BAT: usize = 2;
+pub const EIT: usize = 3;
+pub const TDT: usize = 4;
+pub const TOT: usize = 5;
+pub const UNKNOWN: usize = 6;
 
 // table_id from and to, a second table_id from and to; syntax bit; least and greatest section_length; bytes before the first loop or entry;
 // entry's fixed bytes, 0 for none; 1 for a top loop; 1 for a CRC_32.
@@ -40,14 +49,14 @@ fn held_by(row: [usize; 11], id: usize) -> bool
     within(row[2], id, row[3])
 }
 
-// The number of the row that has a table_id; 6 where none has.
+// The row that has a table_id; UNKNOWN where none has.
 pub fn row_of(table_id: u8) -> usize
     ensures { λ r. ⌜ r ≡ rowOf «table_id» ⌝ }
 {
     let rows = ROWS;
     let id = table_id as usize;
     let mut i: usize = 0;
-    while i < 6 {
+    while i < UNKNOWN {
         if held_by(rows[i], id) {
             return i;
         }
@@ -56,11 +65,18 @@ pub fn row_of(table_id: u8) -> usize
     i
 }
 
+// NIT, SDT, BAT, EIT: tables with an extension, a version and section numbers.
+pub fn is_numbered(row: usize) -> bool
+    ensures { λ r. ⌜ r ≡ isNumbered row ⌝ }
+{
+    row < TDT
+}
+
 // The row of a number; one of zeros past the last.
 pub fn row_at(i: usize) -> Row
     ensures { λ r. ⌜ r ≡ rowAt i ⌝ }
 {
-    if 6 <= i {
+    if UNKNOWN <= i {
         return Row {
             syntax: 0,
             least: 0,

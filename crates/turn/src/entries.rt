@@ -12,6 +12,9 @@ use crate::descriptors::turn_loop;
 use crate::heads::entry_fields;
 use forms::Place;
 use forms::past;
+use tables::BAT;
+use tables::NIT;
+use tables::TOT;
 use wire::length12_at;
 use wire::less;
 use wire::numbers::number16_at;
@@ -21,13 +24,13 @@ use wire::parts::part;
 fn has_status(row: usize) -> bool
     ensures { λ r. ⌜ sideIf r ≡ sideOf row ⌝ }
 {
-    if row == 0 {
+    if row == NIT {
         return false;
     }
-    if row == 2 {
+    if row == BAT {
         return false;
     }
-    if row == 5 {
+    if row == TOT {
         return false;
     }
     true
@@ -98,12 +101,12 @@ pub fn entries_back(
     entries(false, row, number, s, Place { at: p.at, to }, room)
 }
 
-// The top loop is turned as one entry of row 5: TOT has no entries, so that row gives them no fields.
+// The top loop is turned as one entry of TOT: it has no entries, so that its row gives them no fields.
 pub fn top_loop(forth: bool, top: bool, s: &[u8], p: Place, room: &mut [u8]) -> Place
     ensures { λ r. ⌜ Turned (topIf forth top) (topIf (not forth) top) (now (s .entry)) p (now (room .entry)) r (now (room .exit)) ⌝ }
 {
     if top {
-        return entries(forth, 5, 1, s, p, room);
+        return entries(forth, TOT, 1, s, p, room);
     }
     p
 }

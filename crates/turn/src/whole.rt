@@ -15,6 +15,7 @@ use crate::descriptors::put_number;
 use forms::Place;
 use forms::past;
 use forms::put_byte;
+use tables::UNKNOWN;
 use tables::row_at;
 use tables::row_of;
 use wire::less;
@@ -54,7 +55,7 @@ fn seal(room: &mut [u8], end: usize)
 pub fn write_section(sheet: &[u8], n: usize, number: usize, room: &mut [u8])
     ensures { λ _. ⌜ SectionWritten (now (sheet .entry)) n number (now (room .entry)) (now (room .exit)) ⌝ }
 {
-    if 6 <= number {
+    if UNKNOWN <= number {
         return;
     }
     let row = row_at(number);
@@ -71,7 +72,7 @@ pub fn write_section(sheet: &[u8], n: usize, number: usize, room: &mut [u8])
 fn write_sheet(section: &[u8], number: usize, room: &mut [u8]) -> usize
     ensures { λ r. ⌜ SheetWritten (now (section .entry)) number (now (room .entry)) r (now (room .exit)) ⌝ }
 {
-    if 6 <= number {
+    if UNKNOWN <= number {
         return 0;
     }
     let row = row_at(number);

@@ -6,7 +6,7 @@ use mathlib.Core.Bool.{Bool, true, false, not}
 use lib.ListN.{length, getD}
 use Rattle.wire.specs.If.{if_then_else_}
 use Rattle.wire.specs.Parts.{Part}
-use Rattle.tables.specs.Tables.{rowAt}
+use Rattle.tables.specs.Tables.{TDT, rowAt}
 use Rattle.forms.specs.Form.{Form, mute, _then_, each}
 use Rattle.forms.specs.Fields.{Field, sheetFields, Fit}
 use Rattle.forms.specs.Lists.{all, All, countedShow, loopShow}
@@ -80,7 +80,7 @@ SizeAt s at n = (m : List Descriptor) → All descriptor m → length m < 65536 
 -- the fixed bytes of the entries of a row
 pub record EntrySizes (fixed row : ℕ) : Type 0 where
   pub has : fixed ≡ rowAt row .fixed
-  pub known : row < 4
+  pub known : row < TDT
 
 -- ---- the fields before a loop's length
 

@@ -7,17 +7,17 @@ use Rattle.roll.proofs.stepping.begun_with.Tie as tie
 sub-table-of-requires : tie.Need-sub-table-of-requires
 sub-table-of-requires c κs = search needs
 
-version-in-requires : tie.Need-version-in-requires
-version-in-requires c κs = search needs
+version-of-requires : tie.Need-version-of-requires
+version-of-requires c κs = search needs
 
-byte-at-requires : tie.Need-byte-at-requires
-byte-at-requires c κs = search needs
+last-of-requires : tie.Need-last-of-requires
+last-of-requires c κs = search needs
 
 no-marks-requires : tie.Need-no-marks-requires
 no-marks-requires c κs = search needs
 
-byte-at-requires-2 : tie.Need-byte-at-requires-2
-byte-at-requires-2 c κs = search needs
+number-of-requires : tie.Need-number-of-requires
+number-of-requires c κs = search needs
 
 mark-requires : tie.Need-mark-requires
 mark-requires c κs = search needs
@@ -31,9 +31,9 @@ begun-with-spec =
     tie.close
     (tie.spec
     sub-table-of-requires
-    version-in-requires
-    byte-at-requires
+    version-of-requires
+    last-of-requires
     no-marks-requires
-    byte-at-requires-2
+    number-of-requires
     mark-requires
     returns)

@@ -1,7 +1,7 @@
 -- `roll::stepping::is_another` meets its contract.
 use mathlib.Core.Path.{ap, ap₂, _∙_}
 use mathlib.Core.Bool.{not}
-use Rattle.roll.specs.SubTable.{sameIds}
+use Rattle.head.specs.SubTable.{sameIds}
 use Rattle.roll.specs.Roll.{another}
 use borrow.Author.Needs.{needs}
 use Rattle.roll.proofs.stepping.is_another.Statement.{statement}

@@ -1,7 +1,8 @@
 -- `roll::stepping::starts_afresh` meets its contract.
 use native.Mathlib.Omega.{arith}
 use mathlib.Core.Path.{_≡_, ap}
-use Rattle.roll.specs.Roll.{versionIn, startsAfresh}
+use Rattle.head.specs.Head.{versionIn}
+use Rattle.roll.specs.Roll.{startsAfresh}
 use Prim.Native.Nat.{ℕ}
 use mathlib.Core.Bool.{not}
 use lib.Dec.{eqb}
@@ -10,8 +11,8 @@ use borrow.Author.Needs.{needs}
 use Rattle.roll.proofs.stepping.starts_afresh.Statement.{statement}
 use Rattle.roll.proofs.stepping.starts_afresh.Tie as tie
 
-version-in-requires : tie.Need-version-in-requires
-version-in-requires c κs = search needs
+version-of-requires : tie.Need-version-of-requires
+version-of-requires c κs = search needs
 
 returns : tie.Need-returns
 unfolding startsAfresh
@@ -19,10 +20,10 @@ returns c =
     let version = c .before .before in
     let begun = version .before in
     let args = begun .before .before .args in
-    rw (begun .if1 .taken, ne-eqb (args .roll .version) (versionIn (args .section .now)) (λ e. omega (arith, version .version-in .ensures, c .if2 .taken)))
+    rw (begun .if1 .taken, ne-eqb (args .roll .version) (versionIn (args .section .now)) (λ e. omega (arith, version .version-of .ensures, c .if2 .taken)))
 
-byte-at-requires : tie.Need-byte-at-requires
-byte-at-requires c κs = search needs
+last-of-requires : tie.Need-last-of-requires
+last-of-requires c κs = search needs
 
 returns-2 : tie.Need-returns-2
 unfolding startsAfresh
@@ -31,8 +32,8 @@ returns-2 c =
     let version = test .before .before in
     let begun = version .before in
     let args = begun .before .before .args in
-    let same : args .roll .version ≡ versionIn (args .section .now) = omega (arith, version .version-in .ensures, test .if2 .left) in
-    rw (begun .if1 .taken, eq-eqb _ _ same) (ap (λ (n : ℕ). not (eqb (args .roll .last) n)) (c .before .byte-at .ensures))
+    let same : args .roll .version ≡ versionIn (args .section .now) = omega (arith, version .version-of .ensures, test .if2 .left) in
+    rw (begun .if1 .taken, eq-eqb _ _ same) (ap (λ (n : ℕ). not (eqb (args .roll .last) n)) (c .before .last-of .ensures))
 
 returns-3 : tie.Need-returns-3
 unfolding startsAfresh
@@ -40,4 +41,4 @@ returns-3 c = rw (c .if1 .left)
 
 pub starts-afresh-spec : {M : Type 1} → statement M
 starts-afresh-spec =
-    tie.close (tie.spec version-in-requires returns byte-at-requires returns-2 returns-3)
+    tie.close (tie.spec version-of-requires returns last-of-requires returns-2 returns-3)

@@ -15,8 +15,8 @@ returns : tie.Need-returns
 unfolding after continued
 returns c = rw (sym (c .before .before .starts-afresh .ensures) ∙ c .before .if1 .taken) (c .begun-with .ensures)
 
-byte-at-requires : tie.Need-byte-at-requires
-byte-at-requires c κs = search needs
+number-of-requires : tie.Need-number-of-requires
+number-of-requires c κs = search needs
 
 mark-requires : tie.Need-mark-requires
 mark-requires c κs = search needs
@@ -25,7 +25,7 @@ returns-2 : tie.Need-returns-2
 unfolding after continued
 returns-2 c =
     let test = c .before .before .before .before in
-    rw (sym (test .before .starts-afresh .ensures) ∙ test .if1 .left) (cc (c .before .mark .ensures, c .before .before .byte-at .ensures))
+    rw (sym (test .before .starts-afresh .ensures) ∙ test .if1 .left) (cc (c .before .mark .ensures, c .before .before .number-of .ensures))
 
 pub with-section-spec : {M : Type 1} → statement M
 with-section-spec =
@@ -34,6 +34,6 @@ with-section-spec =
     starts-afresh-requires
     begun-with-requires
     returns
-    byte-at-requires
+    number-of-requires
     mark-requires
     returns-2)

@@ -1,5 +1,6 @@
 -- `turn::heads::entry_fields` meets its contract.
 use mathlib.Core.List.{[], _∷_}
+use Rattle.tables.proofs.RowLaws.{numbered-below, unnumbered-from}
 use Rattle.sheet.specs.Content.{plain, flags}
 use Rattle.turn.proofs.HeadLaws.{sdt-entry, eit-entry, nit-entry, no-entry, no-items, an-item, last-item, plain-item, as-items}
 use borrow.Author.Needs.{needs}
@@ -27,6 +28,9 @@ same-length-2 c = search needs
 returns-2 : tie.Need-returns-2
 returns-2 c = as-items (c .before .before .before .before .before .before .before .before .args .forth) (eit-entry (c .before .before .before .before .before .before .before .before .args .row) (c .before .before .before .before .if2 .taken)) (last-item (c .before .before .before .before .before .before .before .before .args .forth) (plain 10) (plain-item (c .before .before .before .before .before .before .before .before .args .forth) 10 (c .before .before .plain2 .ensures)))
 
+is-numbered-requires : tie.Need-is-numbered-requires
+is-numbered-requires c κs = search needs
+
 plain-requires-3 : tie.Need-plain-requires-3
 plain-requires-3 c κs = search needs
 
@@ -34,10 +38,24 @@ same-length-3 : tie.Need-same-length-3
 same-length-3 c = search needs
 
 returns-3 : tie.Need-returns-3
-returns-3 c = as-items (c .before .before .before .before .before .before .before .before .before .args .forth) (nit-entry (c .before .before .before .before .before .before .before .before .before .args .row) (c .before .before .before .before .if3 .taken) (c .before .before .before .before .before .before .if1 .left) (c .before .before .before .before .before .if2 .left)) (last-item (c .before .before .before .before .before .before .before .before .before .args .forth) (plain 4) (plain-item (c .before .before .before .before .before .before .before .before .before .args .forth) 4 (c .before .before .plain3 .ensures)))
+returns-3 c =
+    let test = c .before .before .before .before in
+    let numbered = test .before in
+    let event = numbered .before in
+    let start = event .before .before .before .before in
+    let forth = start .args .forth in
+    let row = start .args .row in
+    let known = numbered-below row (numbered .is-numbered .ensures) (test .if3 .taken) in
+    as-items forth (nit-entry row known (event .before .if1 .left) (event .if2 .left))
+    (last-item forth (plain 4) (plain-item forth 4 (c .before .before .plain3 .ensures)))
 
 returns-4 : tie.Need-returns-4
-returns-4 c = as-items (c .before .before .before .before .before .args .forth) (no-entry (c .before .before .before .before .before .args .row) (c .if3 .left)) (no-items (c .before .before .before .before .before .args .forth))
+returns-4 c =
+    let numbered = c .before in
+    let start = numbered .before .before .before .before .before in
+    let forth = start .args .forth in
+    let row = start .args .row in
+    as-items forth (no-entry row (unnumbered-from row (numbered .is-numbered .ensures) (c .if3 .left))) (no-items forth)
 
 pub entry-fields-spec : {M : Type 1} → statement M
 entry-fields-spec =
@@ -50,6 +68,7 @@ entry-fields-spec =
     plain-requires-2
     same-length-2
     returns-2
+    is-numbered-requires
     plain-requires-3
     same-length-3
     returns-3

@@ -1,13 +1,18 @@
 -- `turn::heads::head` meets its contract.
 use Rattle.sheet.specs.Content.{plain}
-use native.Mathlib.Omega.{arith}
+use Rattle.tables.proofs.RowLaws.{numbered-below, unnumbered-from}
 use Rattle.turn.proofs.HeadLaws.{time-items, last-item, plain-item, as-items}
 use borrow.Author.Needs.{needs}
 use Rattle.turn.proofs.heads.head.Statement.{statement}
 use Rattle.turn.proofs.heads.head.Tie as tie
 
+is-numbered-requires : tie.Need-is-numbered-requires
+is-numbered-requires c κs = search needs
+
 common-requires : tie.Need-common-requires
-common-requires c κs = search needs
+common-requires c κs =
+    let numbered = c .before .before in
+    numbered-below (numbered .before .before .before .args .row) (numbered .is-numbered .ensures) (c .before .if1 .taken)
 
 same-length : tie.Need-same-length
 same-length c = search needs
@@ -22,8 +27,15 @@ same-length-2 : tie.Need-same-length-2
 same-length-2 c = search needs
 
 returns-2 : tie.Need-returns-2
-returns-2 c = as-items (c .before .before .before .before .before .before .before .args .forth) (time-items (c .before .before .before .before .before .before .before .args .row) (c .before .before .before .before .before .before .before .pre) (omega arith)) (last-item (c .before .before .before .before .before .before .before .args .forth) (plain 5) (plain-item (c .before .before .before .before .before .before .before .args .forth) 5 (c .before .before .plain .ensures)))
+returns-2 c =
+    let plain-behind = c .before .before in
+    let test = plain-behind .before .before in
+    let start = test .before .before .before .before in
+    let forth = start .args .forth in
+    let row = start .args .row in
+    as-items forth (time-items row (start .pre) (unnumbered-from row (test .before .is-numbered .ensures) (test .if1 .left)))
+    (last-item forth (plain 5) (plain-item forth 5 (plain-behind .plain .ensures)))
 
 pub head-spec : {M : Type 1} → statement M
 head-spec =
-    tie.close (tie.spec common-requires same-length returns plain-requires same-length-2 returns-2)
+    tie.close (tie.spec is-numbered-requires common-requires same-length returns plain-requires same-length-2 returns-2)

@@ -6,16 +6,17 @@ use lib.ListN.{getD}
 use lib.Dec.{eqb}
 use Rattle.wire.specs.If.{if_then_else_}
 use Rattle.wire.specs.Number.{numberAt}
-use Rattle.tables.specs.Tables.{rowOf}
-use Rattle.roll.specs.declared.SubTable.{SubTable}
+use Rattle.tables.specs.Tables.{SDT, EIT, rowOf}
+use Rattle.head.specs.Head.{extensionIn}
+use Rattle.head.specs.declared.SubTable.{SubTable}
 
 -- the row of SDT
 abbrev pub isSdt : ℕ → Bool
-isSdt id = eqb (rowOf id) 1
+isSdt id = eqb (rowOf id) SDT
 
 -- the row of EIT
 abbrev pub isEit : ℕ → Bool
-isEit id = eqb (rowOf id) 3
+isEit id = eqb (rowOf id) EIT
 
 -- table_id, extension and those transport ids that count for the table; 0 in the place of the others
 unfoldable pub idsThatCount : ℕ → ℕ → ℕ → ℕ → SubTable
@@ -28,9 +29,9 @@ idsThatCount id extension transport network =
 unfoldable pub networkIn : List ℕ → ℕ
 networkIn s = if isSdt (getD s 0 0) then numberAt 2 s 8 else numberAt 2 s 10
 
--- the sub-table of a section: its extension in bytes 3 and 4, EIT's transport_stream_id in 8 and 9
+-- the sub-table of a section: EIT's transport_stream_id stands in bytes 8 and 9
 unfoldable pub subTableOf : List ℕ → SubTable
-subTableOf s = idsThatCount (getD s 0 0) (numberAt 2 s 3) (numberAt 2 s 8) (networkIn s)
+subTableOf s = idsThatCount (getD s 0 0) (extensionIn s) (numberAt 2 s 8) (networkIn s)
 
 -- what a roll keeps, as it is compared: what stands in an id that does not count means nothing
 unfoldable pub compared : SubTable → SubTable

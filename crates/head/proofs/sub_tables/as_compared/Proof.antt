@@ -1,8 +1,8 @@
--- `roll::sub_tables::as_compared` meets its contract.
-use Rattle.roll.specs.SubTable.{compared}
+-- `head::sub_tables::as_compared` meets its contract.
+use Rattle.head.specs.SubTable.{compared}
 use borrow.Author.Needs.{needs}
-use Rattle.roll.proofs.sub_tables.as_compared.Statement.{statement}
-use Rattle.roll.proofs.sub_tables.as_compared.Tie as tie
+use Rattle.head.proofs.sub_tables.as_compared.Statement.{statement}
+use Rattle.head.proofs.sub_tables.as_compared.Tie as tie
 
 ids-that-count-requires : tie.Need-ids-that-count-requires
 ids-that-count-requires c κs = search needs

@@ -1,11 +1,11 @@
--- `roll::sub_tables::network_in` meets its contract.
+-- `head::sub_tables::network_in` meets its contract.
 use mathlib.Core.Path.{sym, ap, _∙_}
 use borrow.Author.Tests.{eq-eqb, ne-eqb}
 use Rattle.tables.specs.Tables.{rowOf}
-use Rattle.roll.specs.SubTable.{networkIn}
+use Rattle.head.specs.SubTable.{networkIn}
 use borrow.Author.Needs.{needs}
-use Rattle.roll.proofs.sub_tables.network_in.Statement.{statement}
-use Rattle.roll.proofs.sub_tables.network_in.Tie as tie
+use Rattle.head.proofs.sub_tables.network_in.Statement.{statement}
+use Rattle.head.proofs.sub_tables.network_in.Tie as tie
 
 byte-at-requires : tie.Need-byte-at-requires
 byte-at-requires c κs = search needs

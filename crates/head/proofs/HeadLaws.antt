@@ -1,4 +1,4 @@
--- What the roll reads in a section's head stands there: the version and current_next_indicator, and the ids of a
+-- What is read in a section's head stands there: the version and current_next_indicator, and the ids of a
 -- sub-table.
 use Prim.Native.Nat.{ℕ, _+_, _*_, _/_, _%_}
 use mathlib.Core.Path.{_≡_, refl, sym, ap, _∙_, subst}
@@ -9,13 +9,13 @@ use native.Mathlib.Omega.{arith}
 use lib.ListN.{getD}
 use borrow.Author.Tests.{eqb-true, eqb-false, ne-eqb}
 use Rattle.wire.specs.Number.{numberAt}
-use Rattle.tables.specs.Tables.{rowOf}
-use Rattle.roll.specs.Roll.{versionIn, isCurrent}
-use Rattle.roll.specs.SubTable.{isSdt, isEit, idsThatCount, networkIn, subTableOf, compared, sameIds}
-use Rattle.sequence.specs.Step.{pair, Versioned, OfSubTable}
-use Rattle.sequence.proofs.Ids.{same-ids-same, same-same-ids}
-use Rattle.sequence.proofs.TableIds.{sdt-ids, eit-ids}
-use Rattle.roll.specs.declared.SubTable.{SubTable}
+use Rattle.tables.specs.Tables.{SDT, EIT, rowOf}
+use Rattle.head.specs.Head.{versionIn, isCurrent}
+use Rattle.head.specs.SubTable.{isSdt, isEit, idsThatCount, networkIn, subTableOf, compared, sameIds}
+use Rattle.head.specs.Stands.{pair, Versioned, OfSubTable}
+use Rattle.head.proofs.Ids.{same-ids-same, same-same-ids}
+use Rattle.head.proofs.TableIds.{sdt-ids, eit-ids}
+use Rattle.head.specs.declared.SubTable.{SubTable}
 
 -- ---- version_number, current_next_indicator
 
@@ -57,7 +57,7 @@ unfolding numberAt
 pair-is s i = refl
 
 eit-not-sdt : (id : ℕ) → isEit id ≡ true → isSdt id ≡ false
-eit-not-sdt id h = let e = eqb-true (rowOf id) 3 h in ne-eqb (rowOf id) 1 (λ x. omega arith)
+eit-not-sdt id h = let e = eqb-true (rowOf id) EIT h in ne-eqb (rowOf id) SDT (λ x. omega arith)
 
 module _ (id e t n : ℕ) where
   counted-table : idsThatCount id e t n .«table_id» ≡ id
@@ -148,7 +148,7 @@ module _ (k : SubTable) (s : List ℕ) where
       (λ h. x .sdt (sdt-ids id .0 h) ∙ sym (network-sdt s h))
       (λ h. let y = x .eit (eit-ids id .0 h) in (y .0 ∙ sym (pair-is s 8), y .1 ∙ sym (network-eit s h)))
 
-  -- the roll's test: the same sub-table
+  -- the test: the same sub-table
   pub of-sub-table : sameIds (compared k) (subTableOf s) ≡ true ↔ OfSubTable k s
   of-sub-table = (
     λ h. ids-stand (same-ids-same (compared k) (subTableOf s) h),

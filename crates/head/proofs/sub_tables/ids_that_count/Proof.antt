@@ -1,12 +1,12 @@
--- `roll::sub_tables::ids_that_count` meets its contract.
+-- `head::sub_tables::ids_that_count` meets its contract.
 use mathlib.Core.Path.{_≡_, sym, _∙_}
 use native.Mathlib.Omega.{arith}
 use Rattle.tables.specs.Tables.{rowOf}
 use borrow.Author.Tests.{eq-eqb, ne-eqb}
-use Rattle.roll.specs.SubTable.{idsThatCount}
+use Rattle.head.specs.SubTable.{idsThatCount}
 use borrow.Author.Needs.{needs}
-use Rattle.roll.proofs.sub_tables.ids_that_count.Statement.{statement}
-use Rattle.roll.proofs.sub_tables.ids_that_count.Tie as tie
+use Rattle.head.proofs.sub_tables.ids_that_count.Statement.{statement}
+use Rattle.head.proofs.sub_tables.ids_that_count.Tie as tie
 
 row-of-requires : tie.Need-row-of-requires
 row-of-requires c κs = search needs

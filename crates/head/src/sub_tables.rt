@@ -1,7 +1,9 @@
 // Which sub-table a section belongs to.
 ghost use mathlib.Core.Path.{_≡_};
-ghost use Rattle.roll.specs.SubTable.{idsThatCount, networkIn, subTableOf, compared, sameIds};
+ghost use Rattle.head.specs.SubTable.{idsThatCount, networkIn, subTableOf, compared, sameIds};
 use crate::SubTable;
+use tables::EIT;
+use tables::SDT;
 use tables::row_of;
 use wire::numbers::byte_at;
 use wire::numbers::number16_at;
@@ -11,7 +13,7 @@ fn ids_that_count(table_id: u8, extension: u16, transport: u16, network: u16) ->
     ensures { λ r. ⌜ r ≡ idsThatCount «table_id» extension transport network ⌝ }
 {
     let row = row_of(table_id);
-    if row == 1 {
+    if row == SDT {
         return SubTable {
             table_id,
             extension,
@@ -19,7 +21,7 @@ fn ids_that_count(table_id: u8, extension: u16, transport: u16, network: u16) ->
             original_network_id: network,
         };
     }
-    if row == 3 {
+    if row == EIT {
         return SubTable {
             table_id,
             extension,
@@ -39,7 +41,7 @@ fn ids_that_count(table_id: u8, extension: u16, transport: u16, network: u16) ->
 fn network_in(section: &[u8]) -> u16
     ensures { λ r. ⌜ r ≡ networkIn (now (section .entry)) ⌝ }
 {
-    if row_of(byte_at(section, 0)) == 1 {
+    if row_of(byte_at(section, 0)) == SDT {
         return number16_at(section, 8);
     }
     number16_at(section, 10)
@@ -48,7 +50,7 @@ fn network_in(section: &[u8]) -> u16
 pub fn sub_table_of(section: &[u8]) -> SubTable
     ensures { λ r. ⌜ r ≡ subTableOf (now (section .entry)) ⌝ }
 {
-    let extension = number16_at(section, 3);
+    let extension = crate::extension_of(section);
     let transport = number16_at(section, 8);
     let network = network_in(section);
     ids_that_count(byte_at(section, 0), extension, transport, network)

@@ -1,14 +1,14 @@
--- `roll::sub_tables::sub_table_of` meets its contract.
-use Rattle.roll.specs.SubTable.{subTableOf}
+-- `head::sub_tables::sub_table_of` meets its contract.
+use Rattle.head.specs.SubTable.{subTableOf}
 use borrow.Author.Needs.{needs}
-use Rattle.roll.proofs.sub_tables.sub_table_of.Statement.{statement}
-use Rattle.roll.proofs.sub_tables.sub_table_of.Tie as tie
+use Rattle.head.proofs.sub_tables.sub_table_of.Statement.{statement}
+use Rattle.head.proofs.sub_tables.sub_table_of.Tie as tie
+
+extension-of-requires : tie.Need-extension-of-requires
+extension-of-requires c κs = search needs
 
 number16-at-requires : tie.Need-number16-at-requires
 number16-at-requires c κs = search needs
-
-number16-at-requires-2 : tie.Need-number16-at-requires-2
-number16-at-requires-2 c κs = search needs
 
 network-in-requires : tie.Need-network-in-requires
 network-in-requires c κs = search needs
@@ -27,8 +27,8 @@ pub sub-table-of-spec : {M : Type 1} → statement M
 sub-table-of-spec =
     tie.close
     (tie.spec
+    extension-of-requires
     number16-at-requires
-    number16-at-requires-2
     network-in-requires
     byte-at-requires
     ids-that-count-requires

@@ -1,8 +1,8 @@
--- `roll::sub_tables::same_ids` meets its contract.
+-- `head::sub_tables::same_ids` meets its contract.
 use borrow.Author.Tests.{eq-eqb, ne-eqb}
-use Rattle.roll.specs.SubTable.{sameIds}
-use Rattle.roll.proofs.sub_tables.same_ids.Statement.{statement}
-use Rattle.roll.proofs.sub_tables.same_ids.Tie as tie
+use Rattle.head.specs.SubTable.{sameIds}
+use Rattle.head.proofs.sub_tables.same_ids.Statement.{statement}
+use Rattle.head.proofs.sub_tables.same_ids.Tie as tie
 
 returns : tie.Need-returns
 unfolding sameIds

@@ -7,8 +7,8 @@ use lib.ListN.{getD}
 use lib.Dec.{eqb}
 use borrow.Author.Tests.{eqb-true, eq-eqb}
 use Rattle.wire.specs.Number.{numberAt}
-use Rattle.roll.specs.SubTable.{isSdt, isEit, idsThatCount, networkIn, subTableOf, compared, sameIds}
-use Rattle.roll.specs.declared.SubTable.{SubTable}
+use Rattle.head.specs.SubTable.{isSdt, isEit, idsThatCount, networkIn, subTableOf, compared, sameIds}
+use Rattle.head.specs.declared.SubTable.{SubTable}
 
 counted-twice : (id e t n : ℕ) → compared (idsThatCount id e t n) ≡ idsThatCount id e t n
 unfolding compared idsThatCount

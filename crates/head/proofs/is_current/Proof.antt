@@ -1,11 +1,11 @@
--- `roll::stepping::is_current` meets its contract.
+-- `head::is_current` meets its contract.
 use Prim.Native.Nat.{ℕ, _%_}
 use lib.Dec.{eqb}
 use mathlib.Core.Path.{ap}
-use Rattle.roll.specs.Roll.{isCurrent}
+use Rattle.head.specs.Head.{isCurrent}
 use borrow.Author.Needs.{needs}
-use Rattle.roll.proofs.stepping.is_current.Statement.{statement}
-use Rattle.roll.proofs.stepping.is_current.Tie as tie
+use Rattle.head.proofs.is_current.Statement.{statement}
+use Rattle.head.proofs.is_current.Tie as tie
 
 byte-at-requires : tie.Need-byte-at-requires
 byte-at-requires c κs = search needs
