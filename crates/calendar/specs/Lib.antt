@@ -1,2 +1,3 @@
 -- What the date of an MJD is.
 pub mod Calendar
+pub mod Dates

@@ -12,7 +12,7 @@ use lib.Dec.{ltb}
 use Rattle.wire.specs.If.{if_then_else_}
 use Rattle.wire.specs.Bytes.{Bytes}
 use Rattle.wire.specs.Number.{numberAt}
-use Rattle.wire.specs.Reading.{value, refused, _>>=_}
+use Rattle.wire.specs.Reading.{Reading, value, refused, _>>=_}
 use Rattle.tables.specs.Tables.{cell, rowOf, rowAt}
 use Rattle.forms.specs.Form.{rawRead, raw, suchRead}
 use Rattle.forms.specs.Room.{sum}
@@ -90,8 +90,8 @@ module _ (a : ℕ) (t : List ℕ) (known : rowOf a < 6) where
         ap (λ x. x >>= λ c. value (sectionLength c)) (read-whole h) ∙ go (ltb limit (sectionLength content))
       where
         go : (b : Bool)
-            → ((if b then refused 26 else value content) >>= λ c. value (sectionLength c))
-            ≡ (if b then refused 26 else value (sectionLength content))
+            → _≡_ {A = Reading ℕ} ((if b then refused 26 else value content) >>= λ c. value (sectionLength c))
+            (if b then refused 26 else value (sectionLength content))
         go true = refl
         go false = refl
 

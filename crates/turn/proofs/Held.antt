@@ -119,7 +119,7 @@ held s c w e = go (through (sheet .read s) _ c e)
     Tested d t = if ltb 0 (length t) then refused 25 else if ltb (rowAt (rowIn d) .most) (sectionLength d) then refused 26 else value d
 
     sized : (d : Content) → sheet .read s ≡ value (d, []) → (b : Bool) → ltb (rowAt (rowIn d) .most) (sectionLength d) ≡ b
-        → (if b then refused 26 else value d) ≡ value c → Held s c
+        → _≡_ {A = Reading Content} (if b then refused 26 else value d) (value c) → Held s c
     sized d r true q f = absurd (never (sym f))
     sized d r false q f =
         let x = sheet-lawful .sound s d [] w r in
@@ -127,7 +127,9 @@ held s c w e = go (through (sheet .read s) _ c e)
         subst (Held s) (value-is f) y
 
     ended : (d : Content) (t : List ℕ) → sheet .read s ≡ value (d, t) → (b : Bool) → ltb 0 (length t) ≡ b
-        → (if b then refused 25 else if ltb (rowAt (rowIn d) .most) (sectionLength d) then refused 26 else value d) ≡ value c → Held s c
+        → _≡_ {A = Reading Content}
+        (if b then refused 25 else if ltb (rowAt (rowIn d) .most) (sectionLength d) then refused 26 else value d) (value c)
+        → Held s c
     ended d t r true q f = absurd (never (sym f))
     ended d t r false q f = sized d (r ∙ ap (λ u. value (d, u)) (empty t q)) (ltb (rowAt (rowIn d) .most) (sectionLength d)) refl f
 

@@ -42,7 +42,7 @@ module _ {A : Type 0} (count : A → ℕ) where
   stays (value m) k h a e = h m a e
   stays (refused m) k h a e = absurd (never (sym e))
 
-  is-count : {n : ℕ} (c a : A) → count c ≡ n → value c ≡ value a → count a ≡ n
+  is-count : {n : ℕ} (c a : A) → count c ≡ n → _≡_ {A = Reading A} (value c) (value a) → count a ≡ n
   is-count c a h e = sym (ap count (value-is e)) ∙ h
 
   module _ (tag : ℕ) (fields : List ℕ → Reading A) (first : (b : List ℕ) (a : A) → fields b ≡ value a → digitsAt 8 b 0 ≡ value (count a)) where

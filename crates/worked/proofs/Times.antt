@@ -1,6 +1,6 @@
 -- Times, days and clocks, by what their fields are.
 use Prim.Native.Nat.{ℕ, _<_, _≤_}
-use mathlib.Core.Path.{_≡_, refl, sym, ap}
+use mathlib.Core.Path.{_≡_, refl, sym, ap, _∙_}
 use mathlib.Core.Bool.{false}
 use mathlib.Core.List.{[], _∷_}
 use native.Mathlib.Omega.{arith}
@@ -15,28 +15,36 @@ use Rattle.clock.specs.declared.time.Moment.the-variants.{At}
 use Rattle.clock.proofs.Exactly.{time-exactly}
 use Rattle.wire.specs.Digits.{bcdShow}
 use Rattle.wire.proofs.Shown.{show-below}
-use Rattle.calendar.specs.Calendar.{dateOf}
+use Rattle.calendar.specs.Calendar.{gregorian, dateOf}
+use Rattle.calendar.specs.Dates.{mjdOf, Valid}
 use Rattle.calendar.specs.declared.Date.{Date}
-use Rattle.calendar.proofs.AnnexC.{monthOf, early, early-right}
+use Rattle.calendar.proofs.Dates.{of-date}
 use Rattle.worked.specs.Worked.{holds, day, noDay, noClock, Told}
 
 -- no forty ones, where the second is none
 not-ones : (mjd h m s : ℕ) → s < 255 → eqb (number (mjd ∷ h ∷ m ∷ s ∷ [])) 0xFF_FFFF_FFFF ≡ false
 not-ones mjd h m s l = ne-eqb (number (mjd ∷ h ∷ m ∷ s ∷ [])) 0xFF_FFFF_FFFF (λ e. omega arith)
 
--- a day in March to December, its date by annex C: the calendar counts the days one after the other, some 50,000 of them
-pub told : (mjd h m s : ℕ) (t : Hms) → 15079 ≤ mjd → mjd < 65536 → monthOf mjd < 14 → s < 255 → hms 24 h m s ≡ value t
-    → Told mjd h m s (early mjd) t
-unfolding timeOf dateOf
-told mjd h m s t low high month l e =
+-- the date of a day is the date whose MJD, counted by years and months, is that day
+pub date-is : (mjd : ℕ) (d : Date) → 15079 ≤ mjd → Valid d → mjdOf d ≡ mjd → dateOf mjd ≡ value d
+unfolding dateOf
+date-is mjd d low valid e =
+    let is : gregorian mjd ≡ d = sym (ap gregorian e) ∙ of-date d valid (rw e low) in
+    rw (le-ltb mjd 15079 low) (ap value is)
+
+-- a day from 15,079 on, at one clock
+pub told : (mjd h m s : ℕ) (d : Date) (t : Hms) → 15079 ≤ mjd → Valid d → mjdOf d ≡ mjd → s < 255
+    → hms 24 h m s ≡ value t → Told mjd h m s d t
+unfolding timeOf
+told mjd h m s d t low valid number l e =
     record {
       moment = rw (not-ones mjd h m s l, le-ltb mjd 15079 low, e);
-      date = rw (le-ltb mjd 15079 low) (ap value (sym (early-right mjd low high month)));
+      date = date-is mjd d low valid number;
     }
 
 -- a day from 15,079 on, at every legal clock
-pub every-clock : (mjd : ℕ) (d : Date) → 15079 ≤ mjd → mjd < 65536 → dateOf mjd ≡ value d → holds (day mjd d)
-every-clock mjd d low high e t right =
+pub every-clock : (mjd : ℕ) (d : Date) → 15079 ≤ mjd → mjd < 65536 → Valid d → mjdOf d ≡ mjd → holds (day mjd d)
+every-clock mjd d low high valid number t right =
     let shown : ℕ → ℕ = bcdShow 2 in
     record {
       moment =
@@ -44,7 +52,7 @@ every-clock mjd d low high e t right =
           (show-below 2 (t .hour)) (show-below 2 (t .minute)) (show-below 2 (t .second))
           (At (record { mjd = mjd; clock = t })) .1
           ((low, right), refl);
-      date = e;
+      date = date-is mjd d low valid number;
     }
 
 pub no-day : (mjd : ℕ) → mjd < 15079 → holds (noDay mjd 65)
