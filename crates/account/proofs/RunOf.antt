@@ -3,19 +3,18 @@
 use mathlib.Core.Path.{_≡_, refl, sym, ap, _∙_, subst}
 use mathlib.Core.Bool.{Bool, false, _||_, not}
 use mathlib.Core.List.{List, [], _∷_, _++_, map, flatten}
-use mathlib.Core.Option.{Option}
 use Prim.Native.Nat.{ℕ, zero, suc, _+_, _%_, _^_, _≤_}
 use native.Mathlib.Omega.{arith}
 use lib.Dec.{ltb, eqb}
 use lib.ListN.{length, take, drop, length-append, length-drop}
 use borrow.Author.Tests.{le-ltb}
-use Rattle.collector.specs.Rules.{totalOf, holding, plain, Carried, takenIn}
-use Rattle.collector.specs.Refusals.{_when_, refusals, firstOf, judgedBy, judged, ruledBy, Ruling, ruling, cannotStand, lastOf}
+use Rattle.collector.specs.Rules.{totalOf, holding, Before, plain, Carried, takenIn}
+use Rattle.collector.specs.Refusals.{_when_, refusals, firstOf, judgedBy, judged, ruledBy, Ruling, ruling, cannotStand, beforeOf}
 use Rattle.collector.specs.Refusals as Refusals
 use Rattle.collector.specs.Answer.{Told, refused, repeated, taken, Outcome}
 use Rattle.collector.specs.Collected.{over, outcomeOf, collected}
 use Rattle.collector.specs.declared.Record.{Record}
-use Rattle.history.specs.Run.{Promised, Call, Run, no-call, one-call, Fare, fareOf, ruledFare, lentOf, lastAfter, carriedBy, rulingOn, faresFrom, takenFrom, cut, handedBy, handed}
+use Rattle.history.specs.Run.{Promised, Call, Run, no-call, one-call, Fare, fareOf, ruledFare, lentOf, beforeAfter, carriedBy, rulingOn, faresFrom, takenFrom, cut, handedBy, handed}
 use Rattle.account.specs.Entered.{Kept, tallied, entered, enteredAll}
 use Rattle.account.specs.Lines.{lent, oneTaken, oneRepeated, oneRefused, total}
 use Rattle.account.specs.declared.tally.Account.{Account}
@@ -66,7 +65,7 @@ pid-stays k (p ∷ ps) =
     pid-stays (entered k p) ps
     ∙ ap (λ (z : Record). z .pid) (tallied-rec (k .account) (outcome k p .rec) (outcome k p .said))
     ∙ outcome-pid r (k .hold) (k .out)
-    (ruling (cannotStand r (k .hold)) (r .pid) (lastOf (r .last)) (length (k .hold)) (length (k .out)) p)
+    (ruling (cannotStand r (k .hold)) (r .pid) (beforeOf r) (length (k .hold)) (length (k .out)) p)
 
 -- ---- what the account counts
 
@@ -161,11 +160,11 @@ tally-all k (p ∷ ps) t r f s x =
 
 -- ---- a room that is large enough: its size counts for nothing
 
-room-enough : (pid size : ℕ) (last : Option ℕ) (p : List ℕ) (n : ℕ) → 4280 ≤ n
-    → rulingOn pid size last (record { packet = p; room = n }) ≡ rulingOn pid size last (lent p)
+room-enough : (pid size : ℕ) (before : Before) (p : List ℕ) (n : ℕ) → 4280 ≤ n
+    → rulingOn pid size before (record { packet = p; room = n }) ≡ rulingOn pid size before (lent p)
 unfolding judged
-room-enough pid size last p n k =
-    ap (λ (t : Bool). ruledBy last p
+room-enough pid size before p n k =
+    ap (λ (t : Bool). ruledBy before p
     (judgedBy
     (firstOf (41 when not (eqb (length p) 188) ∷ 42 when (ltb size 4096 || t) ∷ 43 when ltb 8191 pid
     ∷ drop 3 (refusals false pid 0 0 p)))
@@ -178,7 +177,7 @@ outcome-room r hold out (Refusals.refused n) = omega arith
 outcome-room r hold out Refusals.repeated = omega arith
 outcome-room r hold out Refusals.bare = omega arith
 outcome-room r hold out (Refusals.takes q) =
-    over-room (flatten (takenIn plain (lastOf (r .last)) (holding (take (r .in_hand) hold)) q .sections)) out
+    over-room (flatten (takenIn plain (beforeOf r) (holding (take (r .in_hand) hold)) q .sections)) out
   where
     over-room : (bs room : List ℕ) → length room ≤ length (over bs room)
     over-room bs room = omega (arith, length-append bs (drop (length bs) room), length-drop (length bs) room)
@@ -187,24 +186,24 @@ room-after : (k : Kept) (p : List ℕ) → 4280 ≤ length (k .out) → 4280 ≤
 room-after k p w =
     let r : Record = k .account .rec in
     let o = outcome-room r (k .hold) (k .out)
-    (ruling (cannotStand r (k .hold)) (r .pid) (lastOf (r .last)) (length (k .hold)) (length (k .out)) p) in
+    (ruling (cannotStand r (k .hold)) (r .pid) (beforeOf r) (length (k .hold)) (length (k .out)) p) in
     omega arith
 
 module _ (pid size : ℕ) where
-  pub fares-are : (k : Kept) (ps : List (List ℕ)) → 4280 ≤ length (k .out) → (last : Option ℕ)
-      → faresFrom pid size last (map lentOf (callsFrom k ps)) ≡ faresFrom pid size last (map lent ps)
-  fares-are k [] w last = refl
-  fares-are k (p ∷ ps) w last =
-      let e = room-enough pid size last p (length (k .out)) w in
-      (λ i. ruledFare (e i) ∷ faresFrom pid size (lastAfter last (e i)) (map lentOf (callsFrom (entered k p) ps)))
-      ∙ ap (λ (l : List Fare). ruledFare (rulingOn pid size last (lent p)) ∷ l)
-      (fares-are (entered k p) ps (room-after k p w) (lastAfter last (rulingOn pid size last (lent p))))
+  pub fares-are : (k : Kept) (ps : List (List ℕ)) → 4280 ≤ length (k .out) → (before : Before)
+      → faresFrom pid size before (map lentOf (callsFrom k ps)) ≡ faresFrom pid size before (map lent ps)
+  fares-are k [] w before = refl
+  fares-are k (p ∷ ps) w before =
+      let e = room-enough pid size before p (length (k .out)) w in
+      (λ i. ruledFare (e i) ∷ faresFrom pid size (beforeAfter before (e i)) (map lentOf (callsFrom (entered k p) ps)))
+      ∙ ap (λ (l : List Fare). ruledFare (rulingOn pid size before (lent p)) ∷ l)
+      (fares-are (entered k p) ps (room-after k p w) (beforeAfter before (rulingOn pid size before (lent p))))
 
-  pub taken-are : (k : Kept) (ps : List (List ℕ)) → 4280 ≤ length (k .out) → (last : Option ℕ)
-      → takenFrom pid size last (map lentOf (callsFrom k ps)) ≡ takenFrom pid size last (map lent ps)
-  taken-are k [] w last = refl
-  taken-are k (p ∷ ps) w last =
-      let e = room-enough pid size last p (length (k .out)) w in
-      (λ i. carriedBy (e i) ++ takenFrom pid size (lastAfter last (e i)) (map lentOf (callsFrom (entered k p) ps)))
-      ∙ ap (λ (l : List (Carried ℕ)). carriedBy (rulingOn pid size last (lent p)) ++ l)
-      (taken-are (entered k p) ps (room-after k p w) (lastAfter last (rulingOn pid size last (lent p))))
+  pub taken-are : (k : Kept) (ps : List (List ℕ)) → 4280 ≤ length (k .out) → (before : Before)
+      → takenFrom pid size before (map lentOf (callsFrom k ps)) ≡ takenFrom pid size before (map lent ps)
+  taken-are k [] w before = refl
+  taken-are k (p ∷ ps) w before =
+      let e = room-enough pid size before p (length (k .out)) w in
+      (λ i. carriedBy (e i) ++ takenFrom pid size (beforeAfter before (e i)) (map lentOf (callsFrom (entered k p) ps)))
+      ∙ ap (λ (l : List (Carried ℕ)). carriedBy (rulingOn pid size before (lent p)) ++ l)
+      (taken-are (entered k p) ps (room-after k p w) (beforeAfter before (rulingOn pid size before (lent p))))

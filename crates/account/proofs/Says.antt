@@ -3,7 +3,6 @@
 use mathlib.Core.Path.{_≡_, refl, sym, ap, _∙_, subst}
 use mathlib.Core.Bool.{Bool, true, false, not, _||_}
 use mathlib.Core.List.{List, [], _∷_, _++_, map, map-append, flatten, append-assoc, append-nil}
-use mathlib.Core.Option.{Option, none}
 use Prim.Native.Nat.{ℕ, zero, suc, _+_, _-_, _*_, _/_, _%_, _^_, _<_, _≤_}
 use native.Mathlib.Nat.{zero-add}
 use native.Mathlib.Omega.{arith}
@@ -13,12 +12,12 @@ use lib.Seq.{length-take-le, drop-drop}
 use borrow.Author.Tests.{ltb-true, ltb-false, eqb-true, eqb-false, ne-eqb}
 use Rattle.wire.specs.If.{if_then_else_}
 use Rattle.wire.proofs.IfLaws.{if-case}
-use Rattle.collector.specs.Rules.{Story, Carried}
+use Rattle.collector.specs.Rules.{Story, Before, noneBefore, Carried}
 use Rattle.collector.specs.Refusals.{_when_, refusals, firstOf, judgedBy, judged, ruledBy}
 use Rattle.collector.specs.Collected.{freshRecord}
 use Rattle.collector.proofs.Marks.{flatten-append, flatten-one}
 use Rattle.history.specs.History.{Byte, valueOf, historyOf}
-use Rattle.history.specs.Run.{Promised, Call, Run, Fare, refused, ruledFare, Lent, lentOf, lastAfter, rulingOn, faresFrom, takenFrom, handed}
+use Rattle.history.specs.Run.{Promised, Call, Run, Fare, refused, ruledFare, Lent, lentOf, beforeAfter, rulingOn, faresFrom, takenFrom, handed}
 use Rattle.history.specs.Demand3.{Counted, storyBy}
 use Rattle.history.proofs.Demand3.{by-packets-alone, counters-are-fates, delivered-in-order}
 use Rattle.account.specs.Entered.{firstPid, freshAccount, Kept, keptAs, entered, enteredAll, pieces}
@@ -85,34 +84,34 @@ cut-at-188 input =
 
 -- ---- a last piece
 
-short-refused : (pid size : ℕ) (last : Option ℕ) (x : Lent) → (length (x .packet) ≡ 188 → ⊥)
-    → ruledFare (rulingOn pid size last x) ≡ refused 41
+short-refused : (pid size : ℕ) (before : Before) (x : Lent) → (length (x .packet) ≡ 188 → ⊥)
+    → ruledFare (rulingOn pid size before x) ≡ refused 41
 unfolding judged
-short-refused pid size last x k =
+short-refused pid size before x k =
     let p : List ℕ = x .packet in
-    ap (λ (t : Bool). ruledFare (ruledBy last p
+    ap (λ (t : Bool). ruledFare (ruledBy before p
     (judgedBy
     (firstOf (41 when not t ∷ 42 when (ltb size 4096 || ltb (x .room) 4280) ∷ 43 when ltb 8191 pid
     ∷ drop 3 (refusals false pid 0 0 p)))
     p)))
     (ne-eqb (length p) 188 k)
 
-fares-short : (pid size : ℕ) (last : Option ℕ) (xs : List Lent) (x : Lent) → (length (x .packet) ≡ 188 → ⊥)
-    → faresFrom pid size last (xs ++ x ∷ []) ≡ faresFrom pid size last xs ++ (refused 41 ∷ [])
-fares-short pid size last [] x k = ap (λ (f : Fare). f ∷ []) (short-refused pid size last x k)
-fares-short pid size last (y ∷ xs) x k =
-    ap (λ (l : List Fare). ruledFare (rulingOn pid size last y) ∷ l)
-    (fares-short pid size (lastAfter last (rulingOn pid size last y)) xs x k)
+fares-short : (pid size : ℕ) (before : Before) (xs : List Lent) (x : Lent) → (length (x .packet) ≡ 188 → ⊥)
+    → faresFrom pid size before (xs ++ x ∷ []) ≡ faresFrom pid size before xs ++ (refused 41 ∷ [])
+fares-short pid size before [] x k = ap (λ (f : Fare). f ∷ []) (short-refused pid size before x k)
+fares-short pid size before (y ∷ xs) x k =
+    ap (λ (l : List Fare). ruledFare (rulingOn pid size before y) ∷ l)
+    (fares-short pid size (beforeAfter before (rulingOn pid size before y)) xs x k)
 
 pub last-piece-refused : LastPieceRefused
 last-piece-refused input k =
     let whole : List (List ℕ) = pieces (length input / 188) input in
     let short : length (restOf input) ≡ 188 → ⊥ = λ e. let d =
     length-drop (length input - length input % 188) input in omega arith in
-    ap (λ (t : Bool). faresFrom (pidIn input) 4096 none (map lent (whole ++ (if t then [] else restOf input ∷ []))))
+    ap (λ (t : Bool). faresFrom (pidIn input) 4096 noneBefore (map lent (whole ++ (if t then [] else restOf input ∷ []))))
     (ne-eqb (length input % 188) 0 k)
-    ∙ ap (faresFrom (pidIn input) 4096 none) (map-append lent whole (restOf input ∷ []))
-    ∙ fares-short (pidIn input) 4096 none (map lent whole) (lent (restOf input)) short
+    ∙ ap (faresFrom (pidIn input) 4096 noneBefore) (map-append lent whole (restOf input ∷ []))
+    ∙ fares-short (pidIn input) 4096 noneBefore (map lent whole) (lent (restOf input)) short
 
 -- ---- the account
 
@@ -159,14 +158,14 @@ module _ (input hold₀ out₀ : List ℕ) (enough : 188 ≤ length input) (hold
   fares : faresBy calls ≡ faresIn input
   fares =
       by-packets-alone (pidIn input) hold₀ calls (after .account .rec) (after .hold) run
-      ∙ ap (λ (n : ℕ). faresFrom (pidIn input) n none (map lentOf calls)) hold-is
-      ∙ fares-are (pidIn input) 4096 from (packetsOf input) (omega arith) none
+      ∙ ap (λ (n : ℕ). faresFrom (pidIn input) n noneBefore (map lentOf calls)) hold-is
+      ∙ fares-are (pidIn input) 4096 from (packetsOf input) (omega arith) noneBefore
 
   story : storyBy (pidIn input) hold₀ calls ≡ storyIn input
   story =
       ap (λ (qs : List (Carried ℕ)). historyOf qs .story)
-      (ap (λ (n : ℕ). takenFrom (pidIn input) n none (map lentOf calls)) hold-is
-      ∙ taken-are (pidIn input) 4096 from (packetsOf input) (omega arith) none)
+      (ap (λ (n : ℕ). takenFrom (pidIn input) n noneBefore (map lentOf calls)) hold-is
+      ∙ taken-are (pidIn input) 4096 from (packetsOf input) (omega arith) noneBefore)
 
   tally : Tally (after .account) (0 + total oneTaken (faresBy calls)) (0 + total oneRepeated (faresBy calls))
       (0 + total oneRefused (faresBy calls)) (0 + length (handed calls))

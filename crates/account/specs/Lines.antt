@@ -2,13 +2,12 @@
 -- payload byte.
 use mathlib.Core.Path.{_≡_}
 use mathlib.Core.List.{List, [], _∷_, _++_, map, flatten}
-use mathlib.Core.Option.{none}
 use Prim.Native.Nat.{ℕ, _+_, _/_, _%_, _^_, _<_, _≤_}
 use lib.Dec.{eqb}
 use lib.ListN.{length, take}
 use Rattle.wire.specs.If.{if_then_else_}
 use Rattle.collector.specs.Packet.{pidOf}
-use Rattle.collector.specs.Rules.{pointer, delivered, broken, filler, skipped, in-hand, Story, countOf}
+use Rattle.collector.specs.Rules.{pointer, delivered, broken, filler, skipped, in-hand, Story, countOf, noneBefore}
 use Rattle.collector.specs.Collected.{freshRecord}
 use Rattle.history.specs.History.{Byte, historyOf}
 use Rattle.history.specs.Run.{Promised, Call, Run, Fare, refused, repeated, taken, Lent, faresFrom, takenFrom}
@@ -45,17 +44,17 @@ lentIn input = map lent (packetsOf input)
 
 -- how each packet fares, by the packets alone
 abbrev pub faresIn : List ℕ → List Fare
-faresIn input = faresFrom (pidIn input) 4096 none (lentIn input)
+faresIn input = faresFrom (pidIn input) 4096 noneBefore (lentIn input)
 
 -- "A last piece under 188 bytes counts as refused (41)"
 abbrev pub LastPieceRefused : Type 0
 LastPieceRefused = (input : List ℕ) → (length input % 188 ≡ 0 → ⊥)
     → faresIn input
-    ≡ faresFrom (pidIn input) 4096 none (map lent (pieces (length input / 188) input)) ++ (refused 41 ∷ [])
+    ≡ faresFrom (pidIn input) 4096 noneBefore (map lent (pieces (length input / 188) input)) ++ (refused 41 ∷ [])
 
 -- the fate of every payload byte of the packets taken, and the sections delivered
 abbrev pub storyIn : List ℕ → Story Byte
-storyIn input = historyOf (takenFrom (pidIn input) 4096 none (lentIn input)) .story
+storyIn input = historyOf (takenFrom (pidIn input) 4096 noneBefore (lentIn input)) .story
 
 -- ---- counting
 

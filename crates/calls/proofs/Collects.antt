@@ -11,7 +11,8 @@ use lib.Dec.{eqb}
 use borrow.Author.Tests.{ne-eqb, eqb-true, eqb-false}
 use Rattle.wire.proofs.IfLaws.{if-case}
 use Rattle.collector.specs.Packet.{control}
-use Rattle.collector.specs.Refusals.{lastOf, cannotStand, Judged, refuse, carries, judgedBy, judged, repeats, firstOf, refusals, Ruling, refused, repeated, takes, ruledBy, ruling}
+use Rattle.collector.specs.Rules.{Before}
+use Rattle.collector.specs.Refusals.{beforeOf, cannotStand, Judged, refuse, carries, judgedBy, judged, repeats, firstOf, refusals, Ruling, refused, repeated, takes, ruledBy, ruling}
 use Rattle.collector.specs.Refusals as Refusals
 use Rattle.collector.specs.Answer as collector
 use Rattle.collector.specs.Collected.{freshRecord, outcomeOf, collected}
@@ -39,16 +40,16 @@ small-by : (o : Option ℕ) (packet : List ℕ) → SmallJudged (judgedBy o pack
 small-by (some n) packet = tt
 small-by none packet = if-case SmallJudged (eqb (control packet) 2) (λ _. tt) (λ _. omega arith)
 
-small-ruled : (last : Option ℕ) (packet : List ℕ) (j : Judged) → SmallJudged j → Small (ruledBy last packet j)
-small-ruled last packet (refuse n) x = tt
-small-ruled last packet Refusals.bare x = tt
-small-ruled last packet (carries at start counter) x = if-case Small (repeats last counter) (λ _. tt) (λ _. x)
+small-ruled : (before : Before) (packet : List ℕ) (j : Judged) → SmallJudged j → Small (ruledBy before packet j)
+small-ruled before packet (refuse n) x = tt
+small-ruled before packet Refusals.bare x = tt
+small-ruled before packet (carries at start counter) x = if-case Small (repeats before counter) (λ _. tt) (λ _. x)
 
-small : (unfit : Bool) (pid : ℕ) (last : Option ℕ) (hold out : ℕ) (packet : List ℕ)
-    → Small (ruling unfit pid last hold out packet)
+small : (unfit : Bool) (pid : ℕ) (before : Before) (hold out : ℕ) (packet : List ℕ)
+    → Small (ruling unfit pid before hold out packet)
 unfolding judged
-small unfit pid last hold out packet =
-    small-ruled last packet (judged unfit pid hold out packet)
+small unfit pid before hold out packet =
+    small-ruled before packet (judged unfit pid hold out packet)
     (small-by (firstOf (refusals unfit pid hold out packet)) packet)
 
 -- ---- a record that its numbers tell
@@ -68,8 +69,8 @@ told-after x hold out (takes q) s t = told-counter (q .counter) s
 
 told-on : (x : of.Record) (hold out packet : List ℕ) → Told x → Told (collected x hold out packet .rec)
 told-on x hold out packet t =
-    told-after x hold out (ruling (cannotStand x hold) (x .pid) (lastOf (x .last)) (length hold) (length out) packet)
-    (small (cannotStand x hold) (x .pid) (lastOf (x .last)) (length hold) (length out) packet) t
+    told-after x hold out (ruling (cannotStand x hold) (x .pid) (beforeOf x) (length hold) (length out) packet)
+    (small (cannotStand x hold) (x .pid) (beforeOf x) (length hold) (length out) packet) t
 
 told-back : (x : of.Record) → Told x → recordIn (recordSays x) ≡ x
 told-back x t =

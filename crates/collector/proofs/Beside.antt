@@ -3,13 +3,12 @@
 use mathlib.Core.Path.{_≡_, refl, sym, ap, _∙_, subst}
 use mathlib.Core.Bool.{Bool, true, false}
 use mathlib.Core.List.{List, [], _∷_, _++_, append-assoc, map, map-append, map-id}
-use mathlib.Core.Option.{Option}
 use Prim.Native.Nat.{ℕ, zero, suc, _+_}
 use native.Mathlib.Omega.{arith}
 use lib.ListN.{length, take, drop, length-append}
 use lib.Dec.{eqb}
 use Rattle.wire.specs.If.{if_then_else_}
-use Rattle.collector.specs.Rules.{Fate, pointer, delivered, broken, filler, skipped, in-hand, Story, sameFate, bytesOf, countOf, handOf, given, settled, brokenOff, finished, Mode, begin, inside, filling, skipping, breaking, Next, Size, going, whole, over, sizeOf, follows, plain, Carried, begun, grown, resumed, joined, byteIn, stretch, goesOn, sectionsIn, payload, takenIn}
+use Rattle.collector.specs.Rules.{Fate, pointer, delivered, broken, filler, skipped, in-hand, Story, sameFate, bytesOf, countOf, handOf, given, settled, brokenOff, finished, Mode, begin, inside, filling, skipping, breaking, Next, Size, going, whole, over, sizeOf, Before, follows, plain, Carried, begun, grown, resumed, joined, byteIn, stretch, goesOn, sectionsIn, payload, takenIn}
 use Rattle.collector.proofs.Marks.{bytesOf-more, settled-hand, settled-count}
 
 -- ---- lists
@@ -147,5 +146,5 @@ module _ {A : Type 0} (value : A → ℕ) where
     abbrev pub bareOf : Carried A → Carried ℕ
     bareOf q = record { counter = q .counter; start = q .start; bytes = map value (q .bytes) }
 
-    pub beside-taken : (last : Option ℕ) (s : Story ℕ) (S : Story A) (q : Carried A) → Beside base secs s S → Beside base secs (takenIn plain last s (bareOf q)) (takenIn value last S q)
-    beside-taken last s S q x = beside-payload (q .start) (joined (follows last (q .counter)) s) (joined (follows last (q .counter)) S) (q .bytes) (beside-joined (follows last (q .counter)) s S x)
+    pub beside-taken : (before : Before) (s : Story ℕ) (S : Story A) (q : Carried A) → Beside base secs s S → Beside base secs (takenIn plain before s (bareOf q)) (takenIn value before S q)
+    beside-taken before s S q x = beside-payload (q .start) (joined (follows before (q .counter)) s) (joined (follows before (q .counter)) S) (q .bytes) (beside-joined (follows before (q .counter)) s S x)

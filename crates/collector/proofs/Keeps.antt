@@ -2,12 +2,11 @@
 use mathlib.Core.Path.{_≡_, refl, sym, ap, _∙_, subst}
 use mathlib.Core.Bool.{Bool, true, false}
 use mathlib.Core.List.{List, [], _∷_, _++_, append-assoc, append-nil, map}
-use mathlib.Core.Option.{Option}
 use Prim.Native.Nat.{ℕ, zero, suc}
 use lib.ListN.{take, drop, take-append-drop}
 use lib.Dec.{eqb}
 use Rattle.collector.specs.Each.{Each}
-use Rattle.collector.specs.Rules.{Fate, pointer, delivered, broken, filler, skipped, in-hand, Story, sameFate, handOf, given, brokenOff, finished, Mode, begin, inside, filling, skipping, breaking, Next, Size, going, whole, over, sizeOf, follows, Carried, begun, grown, resumed, joined, byteIn, stretch, goesOn, sectionsIn, payload, takenIn}
+use Rattle.collector.specs.Rules.{Fate, pointer, delivered, broken, filler, skipped, in-hand, Story, sameFate, handOf, given, brokenOff, finished, Mode, begin, inside, filling, skipping, breaking, Next, Size, going, whole, over, sizeOf, Before, follows, Carried, begun, grown, resumed, joined, byteIn, stretch, goesOn, sectionsIn, payload, takenIn}
 
 module _ {A : Type 0} (P : A → Type 0) where
   pub each-append : (a c : List A) → Each P a → Each P c → Each P (a ++ c)
@@ -85,5 +84,5 @@ module _ {A : Type 0} (value : A → ℕ) where
       keep-joined true l s x = x
       keep-joined false l s x = k .breaks l s x
 
-      pub keep-taken : (last : Option ℕ) (l : List A) (s : Story A) (q : Carried A) → Each R (q .bytes) → P l s → P (l ++ q .bytes) (takenIn value last s q)
-      keep-taken last l s q r x = keep-payload (q .start) l (joined (follows last (q .counter)) s) (q .bytes) r (keep-joined (follows last (q .counter)) l s x)
+      pub keep-taken : (before : Before) (l : List A) (s : Story A) (q : Carried A) → Each R (q .bytes) → P l s → P (l ++ q .bytes) (takenIn value before s q)
+      keep-taken before l s q r x = keep-payload (q .start) l (joined (follows before (q .counter)) s) (q .bytes) r (keep-joined (follows before (q .counter)) l s x)

@@ -3,7 +3,7 @@ use mathlib.Core.List.{List, _++_, flatten}
 use Prim.Native.Nat.{ℕ, _+_, _%_, _^_}
 use lib.ListN.{length, take, drop}
 use Rattle.collector.specs.Rules.{pointer, delivered, broken, filler, skipped, Story, countOf, handOf, holding, plain, takenIn}
-use Rattle.collector.specs.Refusals.{lastOf, cannotStand, Ruling, refused, repeated, bare, takes, ruling}
+use Rattle.collector.specs.Refusals.{beforeOf, cannotStand, Ruling, refused, repeated, bare, takes, ruling}
 use Rattle.collector.specs.Answer as Answer
 use Rattle.collector.specs.Answer.{Told, Outcome}
 use Rattle.collector.specs.declared.Record.{Record}
@@ -47,7 +47,7 @@ abbrev pub outcomeOf : Record → List ℕ → List ℕ → Ruling → Outcome
 outcomeOf r hold out (refused n) = unaltered r hold out (Answer.refused n)
 outcomeOf r hold out repeated = unaltered r hold out Answer.repeated
 outcomeOf r hold out bare = unaltered r hold out (Answer.taken 0 0)
-outcomeOf r hold out (takes q) = takenTo r hold out (q .counter) (takenIn plain (lastOf (r .last)) (holding (take (r .in_hand) hold)) q)
+outcomeOf r hold out (takes q) = takenTo r hold out (q .counter) (takenIn plain (beforeOf r) (holding (take (r .in_hand) hold)) q)
 
 abbrev pub collected : Record → List ℕ → List ℕ → List ℕ → Outcome
-collected r hold out packet = outcomeOf r hold out (ruling (cannotStand r hold) (r .pid) (lastOf (r .last)) (length hold) (length out) packet)
+collected r hold out packet = outcomeOf r hold out (ruling (cannotStand r hold) (r .pid) (beforeOf r) (length hold) (length out) packet)

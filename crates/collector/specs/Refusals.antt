@@ -7,7 +7,7 @@ use lib.ListN.{length, drop, getD}
 use lib.Dec.{ltb, leb, eqb}
 use Rattle.wire.specs.If.{if_then_else_}
 use Rattle.collector.specs.Packet.{transportError, startFlag, pidOf, scrambling, control, counterOf, adaptation, payloadFrom, payloadOf, pointerOf}
-use Rattle.collector.specs.Rules.{totalOf, Carried}
+use Rattle.collector.specs.Rules.{totalOf, Before, Carried}
 use Rattle.collector.specs.declared.Last.{Last}
 use Rattle.collector.specs.declared.Last.the-variants.{None, Counter}
 use Rattle.collector.specs.declared.Record.{Record}
@@ -17,6 +17,13 @@ use Rattle.collector.specs.declared.Record.{Record}
 abbrev pub lastOf : Last → Option ℕ
 lastOf None = none
 lastOf (Counter c) = some c
+
+-- what a record with this last counter, or none, tells of the packets before
+abbrev pub lastBefore : Last → Before
+lastBefore last = record { last = lastOf last }
+
+abbrev pub beforeOf : Record → Before
+beforeOf r = lastBefore (r .last)
 
 abbrev pub isNone : Last → Bool
 isNone None = true
@@ -89,10 +96,13 @@ judgedBy none packet = if eqb (control packet) 2 then bare else carries (payload
 unfoldable pub judged : Bool → ℕ → ℕ → ℕ → List ℕ → Judged
 judged unfit pid hold out packet = judgedBy (firstOf (refusals unfit pid hold out packet)) packet
 
+abbrev pub equalTo : Option ℕ → ℕ → Bool
+equalTo none counter = false
+equalTo (some last) counter = eqb counter last
+
 -- "Else a counter equal to the last"
-unfoldable pub repeats : Option ℕ → ℕ → Bool
-repeats none counter = false
-repeats (some last) counter = eqb counter last
+unfoldable pub repeats : Before → ℕ → Bool
+repeats before counter = equalTo (before .last) counter
 
 -- what comes of a packet: "Control 10: taken, no payload, nothing changes. Else a counter equal to the last: "repeated", nothing changes. Else taken."
 pub data Ruling : Type 0 where
@@ -104,13 +114,13 @@ pub data Ruling : Type 0 where
 abbrev pub carriedIn : List ℕ → ℕ → Bool → ℕ → Carried ℕ
 carriedIn packet from start counter = record { counter = counter; start = start; bytes = drop from packet }
 
-abbrev pub ruledOn : Option ℕ → Carried ℕ → Ruling
-ruledOn last q = if repeats last (q .counter) then repeated else takes q
+abbrev pub ruledOn : Before → Carried ℕ → Ruling
+ruledOn before q = if repeats before (q .counter) then repeated else takes q
 
-abbrev pub ruledBy : Option ℕ → List ℕ → Judged → Ruling
-ruledBy last packet (refuse n) = refused n
-ruledBy last packet bare = bare
-ruledBy last packet (carries from start counter) = ruledOn last (carriedIn packet from start counter)
+abbrev pub ruledBy : Before → List ℕ → Judged → Ruling
+ruledBy before packet (refuse n) = refused n
+ruledBy before packet bare = bare
+ruledBy before packet (carries from start counter) = ruledOn before (carriedIn packet from start counter)
 
-abbrev pub ruling : Bool → ℕ → Option ℕ → ℕ → ℕ → List ℕ → Ruling
-ruling unfit pid last hold out packet = ruledBy last packet (judged unfit pid hold out packet)
+abbrev pub ruling : Bool → ℕ → Before → ℕ → ℕ → List ℕ → Ruling
+ruling unfit pid before hold out packet = ruledBy before packet (judged unfit pid hold out packet)

@@ -117,10 +117,21 @@ pub data Size : Type 0 where
 unfoldable pub sizeOf : List ℕ → Size
 sizeOf s = if ltb (length s) 3 then going else (if ltb 4096 (totalOf s) then over else (if eqb (length s) (totalOf s) then whole else going))
 
+-- what of the packets before counts for the next one: "the last counter or none"
+pub record Before : Type 0 where
+  pub last : Option ℕ
+
+-- no packet before
+abbrev pub noneBefore : Before
+noneBefore = record { last = none }
+
+abbrev pub nextTo : Option ℕ → ℕ → Bool
+nextTo none counter = true
+nextTo (some last) counter = eqb counter ((last + 1) % 16)
+
 -- "If the counter isn't the last plus 1 modulo 16, what is in hand is broken off". Without a last counter nothing is in hand.
-unfoldable pub follows : Option ℕ → ℕ → Bool
-follows none counter = true
-follows (some last) counter = eqb counter ((last + 1) % 16)
+unfoldable pub follows : Before → ℕ → Bool
+follows before counter = nextTo (before .last) counter
 
 -- the value of a bare byte is the byte
 abbrev pub plain : ℕ → ℕ
@@ -133,6 +144,10 @@ pub record Carried (A : Type 0) : Type 0 where
   pub bytes : List A
 
 module _ {A : Type 0} where
+  -- what counts for the packet behind it: "the counter then becomes the last"
+  abbrev pub handsOn : Carried A → Before
+  handsOn q = record { last = some (q .counter) }
+
   -- "until 0xFF stands where one would begin (the rest is filler)"
   abbrev pub begun : Bool → A → Story A → Next A
   begun true b s = record { mode = filling; story = given filler b s }
@@ -186,6 +201,6 @@ module _ {A : Type 0} (value : A → ℕ) where
   payload true s bs = started s bs
   payload false s bs = goesOn s bs
 
-  -- a packet that is taken, after the last counter and the story so far
-  abbrev pub takenIn : Option ℕ → Story A → Carried A → Story A
-  takenIn last s q = payload (q .start) (joined (follows last (q .counter)) s) (q .bytes)
+  -- a packet that is taken, after what counts of the packets before and the story so far
+  abbrev pub takenIn : Before → Story A → Carried A → Story A
+  takenIn before s q = payload (q .start) (joined (follows before (q .counter)) s) (q .bytes)

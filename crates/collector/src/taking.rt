@@ -9,7 +9,7 @@ ghost use mathlib.Core.Path.{_≡_};
 ghost use Prim.Native.Nat.{_<_};
 ghost use lib.ListN.{take, drop};
 ghost use Rattle.collector.specs.Rules.{follows, holding, joined, plain, payload};
-ghost use Rattle.collector.specs.Refusals.{lastOf, repeats, carriedIn, ruledOn};
+ghost use Rattle.collector.specs.Refusals.{lastBefore, beforeOf, repeats, carriedIn, ruledOn};
 ghost use Rattle.collector.specs.Answer.{came};
 ghost use Rattle.collector.specs.Collected.{takenTo, outcomeOf};
 ghost use Rattle.collector.specs.Inner.Payload.{Fit, Small};
@@ -17,7 +17,7 @@ ghost use Rattle.collector.specs.Inner.Taking.{keptOf, pointCount, count
 
 // "a counter equal to the last"
 fn is_repeat(last: Last, counter: u8) -> bool
-    ensures { λ r. ⌜ r ≡ repeats (lastOf last) counter ⌝ }
+    ensures { λ r. ⌜ r ≡ repeats (lastBefore last) counter ⌝ }
 {
     match last {
         Last::None => false,
@@ -27,7 +27,7 @@ fn is_repeat(last: Last, counter: u8) -> bool
 
 // "the last plus 1 modulo 16"
 fn is_next(last: Last, counter: u8) -> bool
-    ensures { λ r. ⌜ r ≡ follows (lastOf last) counter ⌝ }
+    ensures { λ r. ⌜ r ≡ follows (lastBefore last) counter ⌝ }
 {
     match last {
         Last::None => true,
@@ -108,7 +108,7 @@ pub fn carried(
     counter: u8,
 ) -> Stepped
     requires { ⌜ Fit (rec .in_hand) (now hold) (now out) (now packet) from start ⌝ }
-    ensures { λ r. ⌜ came (r .record) (now (hold .exit)) (now (out .exit)) (r .answer) ≡ outcomeOf rec (now (hold .entry)) (now (out .entry)) (ruledOn (lastOf (rec .last)) (carriedIn (now (packet .entry)) from start counter)) ⌝ }
+    ensures { λ r. ⌜ came (r .record) (now (hold .exit)) (now (out .exit)) (r .answer) ≡ outcomeOf rec (now (hold .entry)) (now (out .entry)) (ruledOn (beforeOf rec) (carriedIn (now (packet .entry)) from start counter)) ⌝ }
 {
     let last = rec.last;
     if is_repeat(last, counter) {

@@ -3,7 +3,6 @@
 use mathlib.Core.Path.{_≡_, refl, sym, ap, _∙_, subst}
 use mathlib.Core.Bool.{Bool, true, false, _||_}
 use mathlib.Core.List.{List, [], _∷_, _++_, append-assoc, append-nil, map, map-id, flatten}
-use mathlib.Core.Option.{Option}
 use Prim.Native.Nat.{ℕ, suc, _+_, _%_, _^_, _≤_}
 use native.Mathlib.Nat.{add-zero, mod-add-mod}
 use native.Mathlib.Omega.{arith}
@@ -13,8 +12,8 @@ use lib.Dec.{ltb}
 use borrow.Author.Tests.{ltb-false}
 use Rattle.wire.specs.If.{if_then_else_}
 use Rattle.collector.specs.Each.{Each}
-use Rattle.collector.specs.Rules.{Fate, pointer, delivered, broken, filler, skipped, in-hand, Story, sameFate, countOf, handOf, marked, holding, totalOf, plain, Carried, takenIn}
-use Rattle.collector.specs.Refusals.{lastOf, cannotStand, Judged, refuse, carries, judged, repeats, Ruling, repeated, takes, carriedIn, ruledBy, ruling}
+use Rattle.collector.specs.Rules.{Fate, pointer, delivered, broken, filler, skipped, in-hand, Story, sameFate, countOf, handOf, marked, holding, totalOf, Before, plain, Carried, takenIn}
+use Rattle.collector.specs.Refusals.{beforeOf, cannotStand, Judged, refuse, carries, judged, repeats, Ruling, repeated, takes, carriedIn, ruledBy, ruling}
 use Rattle.collector.specs.Refusals as Refusals
 use Rattle.collector.specs.Answer.{Outcome}
 use Rattle.collector.specs.Collected.{freshRecord, recordAfter, over, takenTo, outcomeOf}
@@ -27,7 +26,7 @@ use Rattle.collector.proofs.Kept.{Any, WholeSection, AllWhole, keeps-whole}
 use Rattle.collector.proofs.Payloads.{any}
 use Rattle.collector.proofs.Table.{or-false, carries-of}
 use Rattle.history.specs.History.{Byte, valueOf, numbered, History, unbegun, numberedIn, after, historyFrom}
-use Rattle.history.specs.Run.{Promised, Call, Run, no-call, one-call, fareOf, ruledFare, lentOf, rulingOn, lastAfter, carriedBy, faresFrom, takenFrom, cut, handedBy, handed, bytesBy, toldBy}
+use Rattle.history.specs.Run.{Promised, Call, Run, no-call, one-call, fareOf, ruledFare, lentOf, rulingOn, beforeAfter, carriedBy, faresFrom, takenFrom, cut, handedBy, handed, bytesBy, toldBy}
 use Rattle.history.specs.Demand3.{Counted}
 use Rattle.history.proofs.Stands.{Standing, standing-none, stands-taken, few-standing, stands-after}
 
@@ -50,11 +49,11 @@ plain-whole [] x = tt
 plain-whole (s ∷ secs) x = (subst WholeSection (map-id s) (x .0), plain-whole secs (x .1))
 
 -- the sections that a packet finishes are whole
-pub whole-taken : (last : Option ℕ) (h : List ℕ) (q : Carried ℕ)
-    → Each WholeSection (takenIn plain last (holding h) q .sections)
-whole-taken last h q =
-    plain-whole (takenIn plain last (holding h) q .sections)
-    (keep-taken plain Any (AllWhole plain) (keeps-whole plain) (λ b l s r x. x) last h (holding h) q (any (q .bytes))
+pub whole-taken : (before : Before) (h : List ℕ) (q : Carried ℕ)
+    → Each WholeSection (takenIn plain before (holding h) q .sections)
+whole-taken before h q =
+    plain-whole (takenIn plain before (holding h) q .sections)
+    (keep-taken plain Any (AllWhole plain) (keeps-whole plain) (λ b l s r x. x) before h (holding h) q (any (q .bytes))
     tt)
 
 -- ---- what a ruling tells of a packet that is taken with payload
@@ -74,26 +73,26 @@ taking-if : (size : ℕ) (q : Carried ℕ) (t : Bool) → (q .counter ≤ 15) ×
 taking-if size q true x = tt
 taking-if size q false x = x
 
-taking-at : (unfit : Bool) (pid size out : ℕ) (last : Option ℕ) (p : List ℕ) (j : Judged)
-    → judged unfit pid size out p ≡ j → Taking size (ruledBy last p j)
-taking-at unfit pid size out last p (refuse n) e = tt
-taking-at unfit pid size out last p Refusals.bare e = tt
-taking-at unfit pid size out last p (carries from start c) e =
+taking-at : (unfit : Bool) (pid size out : ℕ) (before : Before) (p : List ℕ) (j : Judged)
+    → judged unfit pid size out p ≡ j → Taking size (ruledBy before p j)
+taking-at unfit pid size out before p (refuse n) e = tt
+taking-at unfit pid size out before p Refusals.bare e = tt
+taking-at unfit pid size out before p (carries from start c) e =
     let x = carries-of unfit pid size out p from start c e in
     let few : c ≤ 15 = omega (arith, x .count) in
-    taking-if size (carriedIn p from start c) (repeats last c)
+    taking-if size (carriedIn p from start c) (repeats before c)
     (few, ltb-false _ _ (or-false (ltb size 4096) _ (x .passed .1 .0) .0))
 
-taking-of : (unfit : Bool) (pid size out : ℕ) (last : Option ℕ) (p : List ℕ)
-    → Taking size (ruling unfit pid last size out p)
-taking-of unfit pid size out last p = taking-at unfit pid size out last p (judged unfit pid size out p) refl
+taking-of : (unfit : Bool) (pid size out : ℕ) (before : Before) (p : List ℕ)
+    → Taking size (ruling unfit pid before size out p)
+taking-of unfit pid size out before p = taking-at unfit pid size out before p (judged unfit pid size out p) refl
 
 -- ---- the record agrees with a history
 
 pub record Agrees (pid size : ℕ) (r : Record) (hold : List ℕ) (h : History) : Type 0 where
   pub pid-is : r .pid ≡ pid
   pub size-is : length hold ≡ size
-  pub last-is : lastOf (r .last) ≡ h .last
+  pub before-is : beforeOf r ≡ h .before
   pub stand-is : cannotStand r hold ≡ ltb 8191 pid
   pub counted : Counted r hold (h .story)
   pub standing : Standing (map valueOf (handOf (h .story)))
@@ -103,7 +102,7 @@ unfolding cannotStand
 agrees-fresh pid hold = record {
   pid-is = refl;
   size-is = refl;
-  last-is = refl;
+  before-is = refl;
   stand-is = or-none (ltb 8191 pid);
   counted = record {
     pointer-is = refl;
@@ -154,20 +153,20 @@ module _ {pid size : ℕ} {r : Record} {hold : List ℕ} {h : History} (g : Agre
   -- a packet that is taken with payload
   module _ (q : Carried ℕ) where
     abbrev s : Story ℕ
-    s = takenIn plain (h .last) (holding hand) q
+    s = takenIn plain (h .before) (holding hand) q
 
     -- the packet's own story stands beside the history that goes on
     beside-after : Beside valueOf base secs s (after h q .story)
     beside-after =
         subst
         (λ (bs : List ℕ). Beside valueOf base secs
-        (takenIn plain (h .last) (holding hand) (record { counter = q .counter; start = q .start; bytes = bs }))
+        (takenIn plain (h .before) (holding hand) (record { counter = q .counter; start = q .start; bytes = bs }))
         (after h q .story))
         (values-of (h .packets) (q .bytes))
-        (beside-taken valueOf base secs (h .last) (holding hand) (h .story) (numberedIn (h .packets) q) beside)
+        (beside-taken valueOf base secs (h .before) (holding hand) (h .story) (numberedIn (h .packets) q) beside)
 
     standing-after : Standing (handOf s)
-    standing-after = stands-taken (h .last) hand q (subst Standing (sym (g .counted .hold-is)) (g .standing))
+    standing-after = stands-taken (h .before) hand q (subst Standing (sym (g .counted .hold-is)) (g .standing))
 
     agrees-taken : (q .counter ≤ 15) × (4096 ≤ size)
         → Agrees pid size (recordAfter r (q .counter) s) (over (handOf s) hold) (after h q)
@@ -184,7 +183,7 @@ module _ {pid size : ℕ} {r : Record} {hold : List ℕ} {h : History} (g : Agre
                 g .size-is,
                 x .1,
               );
-          last-is = refl;
+          before-is = refl;
           stand-is =
               stands-after (recordAfter r (q .counter) s) (q .counter) refl (x .0) (handOf s) standing-after refl
               (drop (length (handOf s)) hold)
@@ -220,7 +219,7 @@ module _ {pid size : ℕ} {r : Record} {hold : List ℕ} {h : History} (g : Agre
 record Went (pid size : ℕ) (h : History) (z : Ruling) (o : Outcome) : Type 0 where
   fare : fareOf (o .said) ≡ ruledFare z
   agrees : Agrees pid size (o .rec) (o .hold) (historyFrom h (carriedBy z))
-  last : historyFrom h (carriedBy z) .last ≡ lastAfter (h .last) z
+  before : historyFrom h (carriedBy z) .before ≡ beforeAfter (h .before) z
   sections : map (map valueOf) (historyFrom h (carriedBy z) .story .sections)
       ≡ map (map valueOf) (h .story .sections) ++ handedBy (o .said) (o .out)
   bytes : flatten (handedBy (o .said) (o .out)) ≡ bytesBy (o .said) (o .out)
@@ -234,11 +233,11 @@ module _ {pid size : ℕ} {r : Record} {hold : List ℕ} {h : History} (g : Agre
       let front : take (length (flatten secs)) (over (flatten secs) out) ≡ flatten secs =
       take-append-seam (flatten secs) (drop (length (flatten secs)) out) in
       let given : cut (length secs) (take (length (flatten secs)) (over (flatten secs) out)) ≡ secs =
-      ap (cut (length secs)) front ∙ cut-whole secs (whole-taken (h .last) (hand g) q) in
+      ap (cut (length secs)) front ∙ cut-whole secs (whole-taken (h .before) (hand g) q) in
       record {
         fare = refl;
         agrees = agrees-taken g q x;
-        last = refl;
+        before = refl;
         sections =
             sections-taken g q ∙ ap (λ (l : List (List ℕ)). map (map valueOf) (h .story .sections) ++ l) (sym given);
         bytes = ap flatten given ∙ sym front;
@@ -250,7 +249,7 @@ module _ {pid size : ℕ} {r : Record} {hold : List ℕ} {h : History} (g : Agre
   went-by (Refusals.refused n) x = record {
     fare = refl;
     agrees = g;
-    last = refl;
+    before = refl;
     sections = sym (append-nil _);
     bytes = refl;
     told = refl;
@@ -258,7 +257,7 @@ module _ {pid size : ℕ} {r : Record} {hold : List ℕ} {h : History} (g : Agre
   went-by repeated x = record {
     fare = refl;
     agrees = g;
-    last = refl;
+    before = refl;
     sections = sym (append-nil _);
     bytes = refl;
     told = refl;
@@ -266,27 +265,27 @@ module _ {pid size : ℕ} {r : Record} {hold : List ℕ} {h : History} (g : Agre
   went-by Refusals.bare x = record {
     fare = refl;
     agrees = g;
-    last = refl;
+    before = refl;
     sections = sym (append-nil _);
     bytes = refl;
     told = refl;
   }
   went-by (takes q) x =
       subst
-      (λ (l : Option ℕ). Went pid size h (takes q)
+      (λ (l : Before). Went pid size h (takes q)
       (takenTo r hold out (q .counter) (takenIn plain l (holding (hand g)) q)))
-      (sym (g .last-is)) (went-taken q x)
+      (sym (g .before-is)) (went-taken q x)
 
   -- the ruling on the packet is the one that the packets alone give
   went : (packet : List ℕ) (o : Outcome) → Promised r hold out packet o
-      → Went pid size h (rulingOn pid size (h .last) (record { packet = packet; room = length out })) o
+      → Went pid size h (rulingOn pid size (h .before) (record { packet = packet; room = length out })) o
   went packet o e =
-      let z : Ruling = ruling (cannotStand r hold) (r .pid) (lastOf (r .last)) (length hold) (length out) packet in
-      let same : z ≡ rulingOn pid size (h .last) (record { packet = packet; room = length out }) =
-      λ i. ruling (g .stand-is i) (g .pid-is i) (g .last-is i) (g .size-is i) (length out) packet in
+      let z : Ruling = ruling (cannotStand r hold) (r .pid) (beforeOf r) (length hold) (length out) packet in
+      let same : z ≡ rulingOn pid size (h .before) (record { packet = packet; room = length out }) =
+      λ i. ruling (g .stand-is i) (g .pid-is i) (g .before-is i) (g .size-is i) (length out) packet in
       let taking : Taking size z =
       subst (λ (n : ℕ). Taking n z) (g .size-is)
-      (taking-of (cannotStand r hold) (r .pid) (length hold) (length out) (lastOf (r .last)) packet) in
+      (taking-of (cannotStand r hold) (r .pid) (length hold) (length out) (beforeOf r) packet) in
       subst (λ (y : Ruling). Went pid size h y o) same (subst (Went pid size h z) (sym e) (went-by z taking))
 
 -- ---- a run of calls
@@ -296,9 +295,9 @@ history-append h [] c = refl
 history-append h (q ∷ a) c = history-append (after h q) a c
 
 pub record Ran (pid size : ℕ) (h : History) (ks : List Call) (r′ : Record) (hold′ : List ℕ) : Type 0 where
-  pub fares : map (λ k. fareOf (k .said)) ks ≡ faresFrom pid size (h .last) (map lentOf ks)
-  pub agrees : Agrees pid size r′ hold′ (historyFrom h (takenFrom pid size (h .last) (map lentOf ks)))
-  pub sections : map (map valueOf) (historyFrom h (takenFrom pid size (h .last) (map lentOf ks)) .story .sections)
+  pub fares : map (λ k. fareOf (k .said)) ks ≡ faresFrom pid size (h .before) (map lentOf ks)
+  pub agrees : Agrees pid size r′ hold′ (historyFrom h (takenFrom pid size (h .before) (map lentOf ks)))
+  pub sections : map (map valueOf) (historyFrom h (takenFrom pid size (h .before) (map lentOf ks)) .story .sections)
       ≡ map (map valueOf) (h .story .sections) ++ handed ks
   pub bytes : Each (λ k. flatten (handedBy (k .said) (k .out′)) ≡ bytesBy (k .said) (k .out′)) ks
   pub told : Each (λ k. length (flatten (handedBy (k .said) (k .out′))) ≡ toldBy (k .said)) ks
@@ -308,16 +307,16 @@ pub ran : {pid size : ℕ} {r r′ : Record} {hold hold′ : List ℕ} {ks : Lis
 ran no-call h g = record { fares = refl; agrees = g; sections = sym (append-nil _); bytes = tt; told = tt }
 ran {pid} {size} {r′ = r′} {hold′ = hold′} (one-call {k = k} {ks = ks} c rest) h g =
     let w = went g (k .out) (k .packet) _ c in
-    let z : Ruling = rulingOn pid size (h .last) (lentOf k) in
+    let z : Ruling = rulingOn pid size (h .before) (lentOf k) in
     let h₁ : History = historyFrom h (carriedBy z) in
     let x = ran rest h₁ (w .agrees) in
-    let from : historyFrom h₁ (takenFrom pid size (h₁ .last) (map lentOf ks))
-    ≡ historyFrom h (carriedBy z ++ takenFrom pid size (lastAfter (h .last) z) (map lentOf ks)) =
-    ap (λ (l : Option ℕ). historyFrom h₁ (takenFrom pid size l (map lentOf ks))) (w .last)
-    ∙ sym (history-append h (carriedBy z) (takenFrom pid size (lastAfter (h .last) z) (map lentOf ks))) in
+    let from : historyFrom h₁ (takenFrom pid size (h₁ .before) (map lentOf ks))
+    ≡ historyFrom h (carriedBy z ++ takenFrom pid size (beforeAfter (h .before) z) (map lentOf ks)) =
+    ap (λ (l : Before). historyFrom h₁ (takenFrom pid size l (map lentOf ks))) (w .before)
+    ∙ sym (history-append h (carriedBy z) (takenFrom pid size (beforeAfter (h .before) z) (map lentOf ks))) in
     record {
       fares = (λ i. w .fare i ∷ x .fares i)
-          ∙ ap (λ (l : Option ℕ). ruledFare z ∷ faresFrom pid size l (map lentOf ks)) (w .last);
+          ∙ ap (λ (l : Before). ruledFare z ∷ faresFrom pid size l (map lentOf ks)) (w .before);
       agrees = subst (Agrees pid size r′ hold′) from (x .agrees);
       sections =
           ap (λ (y : History). map (map valueOf) (y .story .sections)) (sym from)

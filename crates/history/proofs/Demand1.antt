@@ -5,7 +5,7 @@ use mathlib.Core.Logic.{_↔_}
 use Prim.Native.Nat.{ℕ}
 use native.Mathlib.Omega.{arith}
 use lib.ListN.{length}
-use Rattle.collector.specs.Refusals.{lastOf, cannotStand, Ruling, takes, ruling}
+use Rattle.collector.specs.Refusals.{beforeOf, cannotStand, Ruling, takes, ruling}
 use Rattle.collector.specs.Refusals as Refusals
 use Rattle.collector.specs.Answer.{Told, Outcome, refused, repeated, taken}
 use Rattle.collector.specs.Collected.{unaltered, outcomeOf}
@@ -32,10 +32,10 @@ said-refused n (taken sections bytes) = (
 
 pub refuses-first : RefusesFirst Promised
 refuses-first r hold out packet o x n =
-    let z : Ruling = ruling (cannotStand r hold) (r .pid) (lastOf (r .last)) (length hold) (length out) packet in
+    let z : Ruling = ruling (cannotStand r hold) (r .pid) (beforeOf r) (length hold) (length out) packet in
     let fare : fareOf (o .said) ≡ ruledFare z = ap (λ (y : Outcome). fareOf (y .said)) x ∙ fare-is r hold out z in
     let says = said-refused n (o .said) in
-    let row = refused-exactly-if (cannotStand r hold) (r .pid) (lastOf (r .last)) (length hold) (length out) packet n in
+    let row = refused-exactly-if (cannotStand r hold) (r .pid) (beforeOf r) (length hold) (length out) packet n in
     (λ e. row .0 (sym fare ∙ says .0 e), λ f. says .1 (fare ∙ row .1 f))
 
 unaltered-by : (r : Record) (hold out : List ℕ) (z : Ruling) (n : ℕ)
@@ -48,5 +48,5 @@ unaltered-by r hold out (takes q) n e = let z : _≡_ {A = ℕ} 2 0 = ap fareNum
 
 pub refused-unaltered : RefusedUnaltered Promised
 refused-unaltered r hold out packet o x n e =
-    let z : Ruling = ruling (cannotStand r hold) (r .pid) (lastOf (r .last)) (length hold) (length out) packet in
+    let z : Ruling = ruling (cannotStand r hold) (r .pid) (beforeOf r) (length hold) (length out) packet in
     x ∙ unaltered-by r hold out z n (ap (λ (y : Outcome). fareOf (y .said)) (sym x) ∙ ap fareOf e)

@@ -3,7 +3,6 @@ use mathlib.Core.Path.{_≡_, refl, sym, ap, _∙_, subst}
 use mathlib.Core.Bool.{Bool, true, false}
 use mathlib.Core.List.{List, [], _∷_, _++_, append-assoc, append-nil, map, map-append, flatten}
 use mathlib.Core.Logic.{_↔_}
-use mathlib.Core.Option.{Option, none}
 use Prim.Native.Nat.{ℕ, _+_, _%_, _^_, _≤_}
 use native.Mathlib.Omega.{arith}
 use lib.ListN.{length, drop}
@@ -12,7 +11,7 @@ use borrow.Author.Tests.{le-ltb}
 use Rattle.wire.specs.If.{if_then_else_}
 use Rattle.wire.proofs.IfLaws.{true-not-false}
 use Rattle.collector.specs.Each.{Each}
-use Rattle.collector.specs.Rules.{Fate, pointer, delivered, broken, filler, skipped, Mark, Story, sameFate, bytesOf, countOf, Carried}
+use Rattle.collector.specs.Rules.{Fate, pointer, delivered, broken, filler, skipped, Mark, Story, sameFate, bytesOf, countOf, Before, noneBefore, Carried}
 use Rattle.collector.specs.Refusals.{_when_, refusals}
 use Rattle.collector.specs.Answer.{refused}
 use Rattle.collector.specs.Collected.{freshRecord}
@@ -20,7 +19,7 @@ use Rattle.collector.specs.declared.Record.{Record}
 use Rattle.collector.proofs.Keeps.{each-of, keep-taken}
 use Rattle.collector.proofs.Kept.{Any, Kept, keeps-kept, points-kept, kept-holding, counts-in, sumOf}
 use Rattle.history.specs.History.{Byte, valueOf, numbered, History, unbegun, numberedIn, after, historyFrom, historyOf, payloadsFrom, Among, none-left, left-out, had}
-use Rattle.history.specs.Run.{Promised, Call, Run, Fare, taken, fareOf, takenOf, lentOf, rulingOn, lastAfter, faresFrom, NotRefused, NotRepeated, handed}
+use Rattle.history.specs.Run.{Promised, Call, Run, Fare, taken, fareOf, takenOf, lentOf, rulingOn, beforeAfter, faresFrom, NotRefused, NotRepeated, handed}
 use Rattle.history.specs.Demand1.{First}
 use Rattle.history.specs.Demand3.{TakenIf, RefusedIf, takenBy, storyBy, Counted, MadeUnbroken, RefusedExactlyIf, TakenExactlyIf, ByPacketsAlone, NeverUnfit, OneFateEach, CountersAreFates, CountersMakeUp, DeliveredInOrder, NoSectionSpans}
 use Rattle.history.proofs.Agrees.{Ran, ran, agrees-fresh}
@@ -38,7 +37,7 @@ kept-from h l (q ∷ qs) x =
     subst (λ (z : List Byte). Kept valueOf z (historyFrom (after h q) qs .story))
     (append-assoc l (numbered (h .packets) (q .bytes)) (payloadsFrom (h .packets + 1) qs))
     (kept-from (after h q) (l ++ numbered (h .packets) (q .bytes)) qs
-    (keep-taken valueOf Any (Kept valueOf) (keeps-kept valueOf) (points-kept valueOf) (h .last) l (h .story)
+    (keep-taken valueOf Any (Kept valueOf) (keeps-kept valueOf) (points-kept valueOf) (h .before) l (h .story)
     (numberedIn (h .packets) q) (each-of Any (λ b. tt) (numbered (h .packets) (q .bytes))) x))
 
 kept-history : (qs : List (Carried ℕ)) → Kept valueOf (payloadsFrom 0 qs) (historyOf qs .story)
@@ -63,7 +62,7 @@ by-packets-alone pid hold calls r hold′ x = whole-run pid hold calls r hold′
 -- the packets that the answers call taken are those that are taken by the packets alone
 pub taken-by : (pid : ℕ) (hold : List ℕ) (calls : List Call) (r : Record) (hold′ : List ℕ)
     → Run Promised (freshRecord pid) hold calls r hold′ → takenOf calls ≡ takenBy pid hold calls
-taken-by pid hold calls r hold′ x = taken-alike pid (length hold) none calls (by-packets-alone pid hold calls r hold′ x)
+taken-by pid hold calls r hold′ x = taken-alike pid (length hold) noneBefore calls (by-packets-alone pid hold calls r hold′ x)
 
 pub counters-are-fates : CountersAreFates Promised
 counters-are-fates pid hold calls r hold′ x = counted pid hold calls r hold′ x
@@ -150,36 +149,36 @@ no-section-spans pid hold calls r hold′ x =
 -- ---- taken exactly if neither refused nor repeated, and refused exactly with the first row that applies
 
 -- each call of a list that fares by the packets alone
-taken-each : (pid size : ℕ) (last : Option ℕ) (ks : List Call)
-    → map (λ k. fareOf (k .said)) ks ≡ faresFrom pid size last (map lentOf ks) → TakenIf pid size last ks
-taken-each pid size last [] e = tt
-taken-each pid size last (k ∷ ks) e =
-    let w = fares-cut pid size last k ks e in (
-      subst (λ (f : Fare). (f ≡ taken) ↔ (NotRefused pid size (lentOf k) × NotRepeated last (lentOf k))) (sym (w .0))
-          (fares.taken-exactly-if (ltb 8191 pid) pid last size (lentOf k .room) (k .packet)),
-      taken-each pid size (lastAfter last (rulingOn pid size last (lentOf k))) ks (w .1),
+taken-each : (pid size : ℕ) (before : Before) (ks : List Call)
+    → map (λ k. fareOf (k .said)) ks ≡ faresFrom pid size before (map lentOf ks) → TakenIf pid size before ks
+taken-each pid size before [] e = tt
+taken-each pid size before (k ∷ ks) e =
+    let w = fares-cut pid size before k ks e in (
+      subst (λ (f : Fare). (f ≡ taken) ↔ (NotRefused pid size (lentOf k) × NotRepeated before (lentOf k))) (sym (w .0))
+          (fares.taken-exactly-if (ltb 8191 pid) pid before size (lentOf k .room) (k .packet)),
+      taken-each pid size (beforeAfter before (rulingOn pid size before (lentOf k))) ks (w .1),
     )
 
 pub taken-exactly-if : TakenExactlyIf Promised
 taken-exactly-if pid hold calls r hold′ x =
-    taken-each pid (length hold) none calls (by-packets-alone pid hold calls r hold′ x)
+    taken-each pid (length hold) noneBefore calls (by-packets-alone pid hold calls r hold′ x)
 
-refused-each : (pid size : ℕ) (last : Option ℕ) (ks : List Call)
-    → map (λ k. fareOf (k .said)) ks ≡ faresFrom pid size last (map lentOf ks) → Each (RefusedIf pid size) ks
-refused-each pid size last [] e = tt
-refused-each pid size last (k ∷ ks) e =
-    let w = fares-cut pid size last k ks e in
-    let row = fares.refused-exactly-if (ltb 8191 pid) pid last size (lentOf k .room) (k .packet) in (
+refused-each : (pid size : ℕ) (before : Before) (ks : List Call)
+    → map (λ k. fareOf (k .said)) ks ≡ faresFrom pid size before (map lentOf ks) → Each (RefusedIf pid size) ks
+refused-each pid size before [] e = tt
+refused-each pid size before (k ∷ ks) e =
+    let w = fares-cut pid size before k ks e in
+    let row = fares.refused-exactly-if (ltb 8191 pid) pid before size (lentOf k .room) (k .packet) in (
       λ n. (
         λ v. row n .0 (sym (w .0) ∙ said-refused n (k .said) .0 v),
         λ f. said-refused n (k .said) .1 (w .0 ∙ row n .1 f),
       ),
-      refused-each pid size (lastAfter last (rulingOn pid size last (lentOf k))) ks (w .1),
+      refused-each pid size (beforeAfter before (rulingOn pid size before (lentOf k))) ks (w .1),
     )
 
 pub refused-exactly-if : RefusedExactlyIf Promised
 refused-exactly-if pid hold calls r hold′ x =
-    refused-each pid (length hold) none calls (by-packets-alone pid hold calls r hold′ x)
+    refused-each pid (length hold) noneBefore calls (by-packets-alone pid hold calls r hold′ x)
 
 -- ---- a run never meets 43
 

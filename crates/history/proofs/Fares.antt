@@ -13,11 +13,11 @@ use borrow.Author.Tests.{eqb-true, eqb-false}
 use Rattle.wire.specs.If.{if_then_else_}
 use Rattle.collector.specs.Each.{Each}
 use Rattle.collector.specs.Packet.{startFlag, control, counterOf, payloadFrom}
-use Rattle.collector.specs.Rules.{Carried}
+use Rattle.collector.specs.Rules.{Before, Carried}
 use Rattle.collector.specs.Refusals.{Row, refusals, firstOf, carries, judgedBy, judged, repeats, Ruling, takes, carriedIn, ruledBy, ruling}
 use Rattle.collector.specs.Refusals as Refusals
 use Rattle.collector.proofs.Table.{none-of, all-passed}
-use Rattle.history.specs.Run.{Call, Fare, taken, fareOf, ruledFare, carriedIf, takenOf, lentOf, rulingOn, lastAfter, carriedBy, faresFrom, takenFrom, NotRepeated}
+use Rattle.history.specs.Run.{Call, Fare, taken, fareOf, ruledFare, carriedIf, takenOf, lentOf, rulingOn, beforeAfter, carriedBy, faresFrom, takenFrom, NotRepeated}
 use Rattle.history.specs.Run as R
 use Rattle.history.specs.Demand1.{First}
 
@@ -76,7 +76,7 @@ new-carried : (p : List ℕ) (q : Carried ℕ) (t : Bool) → carriedIf taken p 
 new-carried p q true e = refl
 new-carried p q false e = e
 
-module _ (unfit : Bool) (pid : ℕ) (last : Option ℕ) (size room : ℕ) (p : List ℕ) where
+module _ (unfit : Bool) (pid : ℕ) (before : Before) (size room : ℕ) (p : List ℕ) where
   abbrev rows : List Row
   rows = refusals unfit pid size room p
 
@@ -85,22 +85,22 @@ module _ (unfit : Bool) (pid : ℕ) (last : Option ℕ) (size room : ℕ) (p : L
 
   -- what no row refuses, by its adaptation control
   abbrev passedOn : Bool → Ruling
-  passedOn t = ruledBy last p (if t then Refusals.bare else carries (payloadFrom p) (startFlag p) (counterOf p))
+  passedOn t = ruledBy before p (if t then Refusals.bare else carries (payloadFrom p) (startFlag p) (counterOf p))
 
   -- ---- refused exactly with the first row that applies
 
   unrefused : (n : ℕ) (t : Bool) → ruledFare (passedOn t) ≡ R.refused n → ⊥
   unrefused n true e = let z : _≡_ {A = ℕ} 2 0 = ap fareNumber e in omega arith
-  unrefused n false e = new-unrefused n here (repeats last (counterOf p)) e
+  unrefused n false e = new-unrefused n here (repeats before (counterOf p)) e
 
-  refused-at : (n : ℕ) (o : Option ℕ) → (ruledFare (ruledBy last p (judgedBy o p)) ≡ R.refused n) ↔ (o ≡ some n)
+  refused-at : (n : ℕ) (o : Option ℕ) → (ruledFare (ruledBy before p (judgedBy o p)) ≡ R.refused n) ↔ (o ≡ some n)
   refused-at n (some m) = (λ e. ap some (ap numberIn e), λ e. let same : m ≡ n = cc in ap R.refused same)
   refused-at n none = (
     λ e. absurd (unrefused n (eqb (control p) 2) e),
     λ e. let z : _≡_ {A = ℕ} 0 1 = cc in absurd (omega arith),
   )
 
-  pub refused-exactly-if : (n : ℕ) → (ruledFare (ruling unfit pid last size room p) ≡ R.refused n) ↔ First n rows
+  pub refused-exactly-if : (n : ℕ) → (ruledFare (ruling unfit pid before size room p) ≡ R.refused n) ↔ First n rows
   unfolding judged
   refused-exactly-if n =
       let a = refused-at n (firstOf rows) in
@@ -111,22 +111,22 @@ module _ (unfit : Bool) (pid : ℕ) (last : Option ℕ) (size room : ℕ) (p : L
 
   abbrev Is : Ruling → Type 0
   Is z = (ruledFare z ≡ taken)
-      ↔ (Each (λ row. row .applies ≡ false) rows × NotRepeated last (record { packet = p; room = room }))
+      ↔ (Each (λ row. row .applies ≡ false) rows × NotRepeated before (record { packet = p; room = room }))
 
   passed-if : (t : Bool) → eqb (control p) 2 ≡ t → Each (λ row. row .applies ≡ false) rows → Is (passedOn t)
   passed-if true e w = (λ v. (w, inl (eqb-true _ _ e)), λ v. refl)
   passed-if false e w =
-      let f = new-taken here (repeats last (counterOf p)) in
+      let f = new-taken here (repeats before (counterOf p)) in
       (λ v. (w, inr (f .0 v)), λ v. ⊎-elim (λ u. absurd (eqb-false _ _ e u)) (λ u. f .1 u) (v .1))
 
-  taken-at : (o : Option ℕ) → firstOf rows ≡ o → Is (ruledBy last p (judgedBy o p))
+  taken-at : (o : Option ℕ) → firstOf rows ≡ o → Is (ruledBy before p (judgedBy o p))
   taken-at (some n) e = (
     λ v. let z : _≡_ {A = ℕ} 0 2 = ap fareNumber v in absurd (omega arith),
     λ v. let w = all-passed rows (v .0) in let z : _≡_ {A = ℕ} 0 1 = cc in absurd (omega arith),
   )
   taken-at none e = passed-if (eqb (control p) 2) refl (none-of rows e)
 
-  pub taken-exactly-if : Is (ruling unfit pid last size room p)
+  pub taken-exactly-if : Is (ruling unfit pid before size room p)
   unfolding judged
   taken-exactly-if = taken-at (firstOf rows) refl
 
@@ -135,35 +135,35 @@ module _ (unfit : Bool) (pid : ℕ) (last : Option ℕ) (size room : ℕ) (p : L
   carried-passed : (t : Bool) → eqb (control p) 2 ≡ t → carriedIf (ruledFare (passedOn t)) p ≡ carriedBy (passedOn t)
   carried-passed true e = ap (λ (t : Bool). if t then [] else here ∷ []) e
   carried-passed false e =
-      new-carried p here (repeats last (counterOf p)) (ap (λ (t : Bool). if t then [] else here ∷ []) e)
+      new-carried p here (repeats before (counterOf p)) (ap (λ (t : Bool). if t then [] else here ∷ []) e)
 
   carried-at : (o : Option ℕ)
-      → carriedIf (ruledFare (ruledBy last p (judgedBy o p))) p ≡ carriedBy (ruledBy last p (judgedBy o p))
+      → carriedIf (ruledFare (ruledBy before p (judgedBy o p))) p ≡ carriedBy (ruledBy before p (judgedBy o p))
   carried-at (some n) = refl
   carried-at none = carried-passed (eqb (control p) 2) refl
 
-  pub carried-alike : carriedIf (ruledFare (ruling unfit pid last size room p)) p
-      ≡ carriedBy (ruling unfit pid last size room p)
+  pub carried-alike : carriedIf (ruledFare (ruling unfit pid before size room p)) p
+      ≡ carriedBy (ruling unfit pid before size room p)
   unfolding judged
   carried-alike = carried-at (firstOf rows)
 
 -- ---- over the calls of a run
 
 -- calls that fare by the packets alone: the first of them, and the rest
-pub fares-cut : (pid size : ℕ) (last : Option ℕ) (k : Call) (ks : List Call)
-    → map (λ k. fareOf (k .said)) (k ∷ ks) ≡ faresFrom pid size last (map lentOf (k ∷ ks))
-    → (fareOf (k .said) ≡ ruledFare (rulingOn pid size last (lentOf k)))
+pub fares-cut : (pid size : ℕ) (before : Before) (k : Call) (ks : List Call)
+    → map (λ k. fareOf (k .said)) (k ∷ ks) ≡ faresFrom pid size before (map lentOf (k ∷ ks))
+    → (fareOf (k .said) ≡ ruledFare (rulingOn pid size before (lentOf k)))
     × (map (λ k. fareOf (k .said)) ks
-    ≡ faresFrom pid size (lastAfter last (rulingOn pid size last (lentOf k))) (map lentOf ks))
-fares-cut pid size last k ks e = (cc, cc)
+    ≡ faresFrom pid size (beforeAfter before (rulingOn pid size before (lentOf k))) (map lentOf ks))
+fares-cut pid size before k ks e = (cc, cc)
 
-pub taken-alike : (pid size : ℕ) (last : Option ℕ) (ks : List Call)
-    → map (λ k. fareOf (k .said)) ks ≡ faresFrom pid size last (map lentOf ks)
-    → takenOf ks ≡ takenFrom pid size last (map lentOf ks)
-taken-alike pid size last [] e = refl
-taken-alike pid size last (k ∷ ks) e =
-    let w = fares-cut pid size last k ks e in
-    let one : carriedIf (fareOf (k .said)) (k .packet) ≡ carriedBy (rulingOn pid size last (lentOf k)) =
+pub taken-alike : (pid size : ℕ) (before : Before) (ks : List Call)
+    → map (λ k. fareOf (k .said)) ks ≡ faresFrom pid size before (map lentOf ks)
+    → takenOf ks ≡ takenFrom pid size before (map lentOf ks)
+taken-alike pid size before [] e = refl
+taken-alike pid size before (k ∷ ks) e =
+    let w = fares-cut pid size before k ks e in
+    let one : carriedIf (fareOf (k .said)) (k .packet) ≡ carriedBy (rulingOn pid size before (lentOf k)) =
     ap (λ (f : Fare). carriedIf f (k .packet)) (w .0)
-    ∙ carried-alike (ltb 8191 pid) pid last size (lentOf k .room) (k .packet) in
-    λ i. one i ++ taken-alike pid size (lastAfter last (rulingOn pid size last (lentOf k))) ks (w .1) i
+    ∙ carried-alike (ltb 8191 pid) pid before size (lentOf k .room) (k .packet) in
+    λ i. one i ++ taken-alike pid size (beforeAfter before (rulingOn pid size before (lentOf k))) ks (w .1) i

@@ -9,8 +9,8 @@ use lib.ListN.{length, take, drop, take-append-drop}
 use lib.Seq.{drop-append-seam}
 use lib.Dec.{ltb}
 use Rattle.collector.specs.Each.{Each}
-use Rattle.collector.specs.Rules.{pointer, delivered, broken, filler, skipped, in-hand, Story, countOf, handOf, holding, totalOf, plain, takenIn}
-use Rattle.collector.specs.Refusals.{lastOf, cannotStand, Ruling, takes, ruling}
+use Rattle.collector.specs.Rules.{pointer, delivered, broken, filler, skipped, in-hand, Story, countOf, handOf, holding, totalOf, Before, noneBefore, plain, takenIn}
+use Rattle.collector.specs.Refusals.{lastOf, beforeOf, cannotStand, Ruling, takes, ruling}
 use Rattle.collector.specs.Refusals as Refusals
 use Rattle.collector.specs.Answer.{Told, refused, repeated, taken, Outcome}
 use Rattle.collector.specs.Collected.{freshRecord, over, outcomeOf, collected}
@@ -18,7 +18,7 @@ use Rattle.collector.specs.declared.Record.{Record}
 use Rattle.collector.specs.declared.Last.{Last}
 use Rattle.collector.specs.declared.Last.the-variants.{None, Counter}
 use Rattle.history.specs.History.{valueOf, History, historyOf}
-use Rattle.history.specs.Run.{Collector, Promised, Call, Input, inputOf, Run, no-call, one-call, Fare, fareOf, ruledFare, Lent, lentOf, rulingOn, lastAfter, faresFrom, takenFrom, cut, handedBy, handed, bytesBy, toldBy}
+use Rattle.history.specs.Run.{Collector, Promised, Call, Input, inputOf, Run, no-call, one-call, Fare, fareOf, ruledFare, Lent, lentOf, rulingOn, beforeAfter, faresFrom, takenFrom, cut, handedBy, handed, bytesBy, toldBy}
 use Rattle.history.specs.Run as R
 use Rattle.history.specs.Demand3.{TakenIf, RefusedIf}
 use Rattle.history.specs.Fixed.{RecordTells, BeyondStays, Asked, OnlyAsPromised, Agree}
@@ -39,13 +39,13 @@ same-fare R.repeated R.repeated a b = refl
 same-fare R.repeated R.taken a b = b .1 refl
 
 -- "refused exactly if" and "taken exactly if" leave one fare for each packet
-fares-by : (pid size : ℕ) (last : Option ℕ) (ks : List Call) → Each (RefusedIf pid size) ks → TakenIf pid size last ks
-    → map (λ k. fareOf (k .said)) ks ≡ faresFrom pid size last (map lentOf ks)
-fares-by pid size last [] a b = refl
-fares-by pid size last (k ∷ ks) a b =
-    let row = fares.refused-exactly-if (ltb 8191 pid) pid last size (lentOf k .room) (k .packet) in
-    let new = fares.taken-exactly-if (ltb 8191 pid) pid last size (lentOf k .room) (k .packet) in
-    let z : Ruling = rulingOn pid size last (lentOf k) in
+fares-by : (pid size : ℕ) (before : Before) (ks : List Call) → Each (RefusedIf pid size) ks → TakenIf pid size before ks
+    → map (λ k. fareOf (k .said)) ks ≡ faresFrom pid size before (map lentOf ks)
+fares-by pid size before [] a b = refl
+fares-by pid size before (k ∷ ks) a b =
+    let row = fares.refused-exactly-if (ltb 8191 pid) pid before size (lentOf k .room) (k .packet) in
+    let new = fares.taken-exactly-if (ltb 8191 pid) pid before size (lentOf k .room) (k .packet) in
+    let z : Ruling = rulingOn pid size before (lentOf k) in
     let here : fareOf (k .said) ≡ ruledFare z =
     same-fare (fareOf (k .said)) (ruledFare z)
     (λ n. (
@@ -53,7 +53,7 @@ fares-by pid size last (k ∷ ks) a b =
       λ e. said-refused n (k .said) .0 (a .0 n .1 (row n .0 e)),
     ))
     (λ e. new .1 (b .0 .0 e), λ e. b .0 .1 (new .0 e)) in
-    λ i. here i ∷ fares-by pid size (lastAfter last z) ks (a .1) (b .1) i
+    λ i. here i ∷ fares-by pid size (beforeAfter before z) ks (a .1) (b .1) i
 
 -- ---- what the statements say of a run, by the packets and the out rooms' sizes
 
@@ -68,7 +68,7 @@ last-in (Counter c) = refl
 abbrev recordIn : ℕ → History → Record
 recordIn pid h = record {
   pid = pid;
-  last = lastIn (h .last);
+  last = lastIn (h .before .last);
   in_hand = countOf in-hand (h .story .marks);
   pointer = countOf pointer (h .story .marks) % 2 ^ 32;
   delivered = countOf delivered (h .story .marks) % 2 ^ 32;
@@ -78,21 +78,21 @@ recordIn pid h = record {
 }
 
 record Shown (pid : ℕ) (hold : List ℕ) (xs : List Lent) (ks : List Call) (r : Record) (hold′ : List ℕ) : Type 0 where
-  fares-are : map (λ k. fareOf (k .said)) ks ≡ faresFrom pid (length hold) none xs
-  sections-are : handed ks ≡ map (map valueOf) (historyOf (takenFrom pid (length hold) none xs) .story .sections)
-  record-is : r ≡ recordIn pid (historyOf (takenFrom pid (length hold) none xs))
-  hand-is : take (r .in_hand) hold′ ≡ map valueOf (handOf (historyOf (takenFrom pid (length hold) none xs) .story))
+  fares-are : map (λ k. fareOf (k .said)) ks ≡ faresFrom pid (length hold) noneBefore xs
+  sections-are : handed ks ≡ map (map valueOf) (historyOf (takenFrom pid (length hold) noneBefore xs) .story .sections)
+  record-is : r ≡ recordIn pid (historyOf (takenFrom pid (length hold) noneBefore xs))
+  hand-is : take (r .in_hand) hold′ ≡ map valueOf (handOf (historyOf (takenFrom pid (length hold) noneBefore xs) .story))
 
 shown : (C : Collector) → Asked C → (pid : ℕ) (hold : List ℕ) (ks : List Call) (r : Record) (hold′ : List ℕ)
     → Run C (freshRecord pid) hold ks r hold′ → Shown pid hold (map lentOf ks) ks r hold′
 shown C a pid hold ks r hold′ x =
     let c = a .counters pid hold ks r hold′ x in
     let t = a .record-tells pid hold ks r hold′ x in
-    let last : r .last ≡ lastIn (historyOf (takenFrom pid (length hold) none (map lentOf ks)) .last) =
-    sym (last-in (r .last)) ∙ ap lastIn (t .1) in
+    let last : r .last ≡ lastIn (historyOf (takenFrom pid (length hold) noneBefore (map lentOf ks)) .before .last) =
+    sym (last-in (r .last)) ∙ ap (λ (b : Before). lastIn (b .last)) (t .1) in
     record {
       fares-are =
-          fares-by pid (length hold) none ks (a .refused-if pid hold ks r hold′ x) (a .taken-if pid hold ks r hold′ x);
+          fares-by pid (length hold) noneBefore ks (a .refused-if pid hold ks r hold′ x) (a .taken-if pid hold ks r hold′ x);
       sections-are = a .delivered pid hold ks r hold′ x .sections-are;
       record-is = λ i. record {
         pid = t .0 i;
@@ -119,17 +119,17 @@ stays-by r hold out (Refusals.refused n) = (refl, refl)
 stays-by r hold out Refusals.repeated = (refl, refl)
 stays-by r hold out Refusals.bare = (refl, refl)
 stays-by r hold out (takes q) =
-    let s : Story ℕ = takenIn plain (lastOf (r .last)) (holding (take (r .in_hand) hold)) q in
+    let s : Story ℕ = takenIn plain (beforeOf r) (holding (take (r .in_hand) hold)) q in
     (behind-over (flatten (s .sections)) out, behind-over (handOf s) hold)
 
 pub beyond-stays : BeyondStays Promised
 beyond-stays r hold out packet o x =
     subst (λ (y : Outcome). (drop (toldBy (y .said)) (y .out) ≡ drop (toldBy (y .said)) out)
     × (drop (y .rec .in_hand) (y .hold) ≡ drop (y .rec .in_hand) hold)) (sym x)
-    (stays-by r hold out (ruling (cannotStand r hold) (r .pid) (lastOf (r .last)) (length hold) (length out) packet))
+    (stays-by r hold out (ruling (cannotStand r hold) (r .pid) (beforeOf r) (length hold) (length out) packet))
 
 pub record-tells : RecordTells Promised
-record-tells pid hold calls r hold′ x = let g = ran x _ (agrees-fresh pid hold) .agrees in (g .pid-is, g .last-is)
+record-tells pid hold calls r hold′ x = let g = ran x _ (agrees-fresh pid hold) .agrees in (g .pid-is, g .before-is)
 
 pub promise-keeps : Asked Promised
 promise-keeps = record {

@@ -12,7 +12,7 @@ use lib.Seq.{getD-at}
 use borrow.Author.Tests.{eqb-true}
 use Rattle.wire.specs.If.{if_then_else_}
 use Rattle.collector.specs.Each.{Each}
-use Rattle.collector.specs.Rules.{Fate, pointer, delivered, broken, in-hand, Story, sameFate, handOf, given, settled, follows, joined, Carried}
+use Rattle.collector.specs.Rules.{Fate, pointer, delivered, broken, in-hand, Story, sameFate, handOf, given, settled, Before, nextTo, follows, joined, Carried}
 use Rattle.collector.proofs.Marks.{bytesOf-more, settled-hand}
 use Rattle.collector.proofs.Runs.{lt-or-ge}
 use Rattle.collector.proofs.Keeps.{each-append, each-map, Keeps, keep-payload}
@@ -75,28 +75,28 @@ module _ (qs : List (Carried ℕ)) where
 
   -- the last counter is that of the last packet
   abbrev LastIs : History → Type 0
-  LastIs h = (m : ℕ) → h .packets ≡ m + 1 → h .last ≡ some (counterAt qs m)
+  LastIs h = (m : ℕ) → h .packets ≡ m + 1 → h .before .last ≡ some (counterAt qs m)
 
   -- a counter that follows the last one is no break
-  follows-on : (last : Option ℕ) (m c : ℕ) → last ≡ some (counterAt qs m) → c ≡ counterAt qs (m + 1)
-      → follows last c ≡ true → BreakAfter qs m → ⊥
+  follows-on : (before : Before) (m c : ℕ) → before .last ≡ some (counterAt qs m) → c ≡ counterAt qs (m + 1)
+      → follows before c ≡ true → BreakAfter qs m → ⊥
   unfolding follows
-  follows-on last m c l e f b =
-      let g : follows (some (counterAt qs m)) c ≡ true = ap (λ (z : Option ℕ). follows z c) (sym l) ∙ f in
+  follows-on before m c l e f b =
+      let g : nextTo (some (counterAt qs m)) c ≡ true = ap (λ (z : Option ℕ). nextTo z c) (sym l) ∙ f in
       b .break (sym e ∙ eqb-true c _ g)
 
-  linked-on : (h : History) (c : ℕ) → LastIs h → c ≡ counterAt qs (h .packets) → follows (h .last) c ≡ true → (x : Byte)
+  linked-on : (h : History) (c : ℕ) → LastIs h → c ≡ counterAt qs (h .packets) → follows (h .before) c ≡ true → (x : Byte)
       → Linked (h .packets) x → Linked (h .packets + 1) x
   linked-on h c l e f x a = record {
     within = omega (arith, a .within);
     unbroken = λ k w v b. ⊎-elim (λ u. a .unbroken k w u b)
         (λ u.
         let at : h .packets ≡ k + 1 = omega arith in
-        follows-on (h .last) k c (l k at) (e ∙ ap (counterAt qs) at) f b) (lt-or-ge (k + 1) (h .packets));
+        follows-on (h .before) k c (l k at) (e ∙ ap (counterAt qs) at) f b) (lt-or-ge (k + 1) (h .packets));
   }
 
   linked-joined : (t : Bool) (h : History) (c : ℕ) (l : List Byte) → LastIs h → c ≡ counterAt qs (h .packets)
-      → follows (h .last) c ≡ t → Linking (h .packets) l (h .story) → Linking (h .packets + 1) l (joined t (h .story))
+      → follows (h .before) c ≡ t → Linking (h .packets) l (h .story) → Linking (h .packets + 1) l (joined t (h .story))
   linked-joined true h c l k e f x = record {
     hand = each-map (Linked (h .packets)) (Linked (h .packets + 1))
         (linked-on h c k e f) (handOf (h .story)) (x .hand);
@@ -118,9 +118,9 @@ module _ (qs : List (Carried ℕ)) where
   linked-after h q l k e x =
       keep-payload valueOf (Linked (h .packets + 1)) (Linking (h .packets + 1)) (keeps-linking (h .packets + 1))
       (λ b m s r y. linking-given (h .packets + 1) pointer b m s r y) (q .start) l
-      (joined (follows (h .last) (q .counter)) (h .story)) (numbered (h .packets) (q .bytes))
+      (joined (follows (h .before) (q .counter)) (h .story)) (numbered (h .packets) (q .bytes))
       (linked-new (h .packets) (q .bytes))
-      (linked-joined (follows (h .last) (q .counter)) h (q .counter) l k e refl x)
+      (linked-joined (follows (h .before) (q .counter)) h (q .counter) l k e refl x)
 
   last-after : (h : History) (q : Carried ℕ) → q .counter ≡ counterAt qs (h .packets) → LastIs (after h q)
   last-after h q e m w =

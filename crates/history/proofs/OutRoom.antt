@@ -2,15 +2,14 @@
 use mathlib.Core.Path.{_≡_, refl, ap, _∙_, subst}
 use mathlib.Core.Bool.{Bool, true, false}
 use mathlib.Core.List.{List, [], _∷_, _++_, append-nil, map, map-id, flatten}
-use mathlib.Core.Option.{Option}
 use Prim.Native.Nat.{ℕ, _≤_, _<_}
 use native.Mathlib.Omega.{arith}
 use lib.ListN.{length, take, drop, replicate, length-append, length-take, length-drop}
 use lib.Dec.{eqb}
 use Rattle.wire.specs.If.{if_then_else_}
 use Rattle.collector.specs.Each.{Each}
-use Rattle.collector.specs.Rules.{pointer, broken, in-hand, Story, bytesOf, countOf, handOf, marked, given, brokenOff, finished, holding, Mode, begin, inside, filling, skipping, breaking, Next, Size, going, whole, over, sizeOf, follows, plain, Carried, begun, grown, resumed, joined, byteIn, stretch, goesOn, sectionsIn, payload, takenIn}
-use Rattle.collector.specs.Refusals.{lastOf, cannotStand, Judged, refuse, carries, judged, repeats, repeated, takes, carriedIn, ruledBy}
+use Rattle.collector.specs.Rules.{pointer, broken, in-hand, Story, bytesOf, countOf, handOf, marked, given, brokenOff, finished, holding, Mode, begin, inside, filling, skipping, breaking, Next, Size, going, whole, over, sizeOf, Before, follows, plain, Carried, begun, grown, resumed, joined, byteIn, stretch, goesOn, sectionsIn, payload, takenIn}
+use Rattle.collector.specs.Refusals.{beforeOf, cannotStand, Judged, refuse, carries, judged, repeats, repeated, takes, carriedIn, ruledBy}
 use Rattle.collector.specs.Refusals as Refusals
 use Rattle.collector.specs.Answer.{Outcome}
 use Rattle.collector.specs.Collected.{outcomeOf}
@@ -107,24 +106,24 @@ whole-most (s ∷ z ∷ secs) k x = absurd (omega arith)
 
 -- ---- a packet
 
-most-in : (last : Option ℕ) (h : List ℕ) (q : Carried ℕ) (start : Bool) (bs : List ℕ) → q .start ≡ start → q .bytes ≡ bs
+most-in : (before : Before) (h : List ℕ) (q : Carried ℕ) (start : Bool) (bs : List ℕ) → q .start ≡ start → q .bytes ≡ bs
     → length h ≤ 4095 → 0 < length bs → length bs ≤ 184
-    → length (flatten (takenIn plain last (holding h) q .sections)) ≤ 4278
-most-in last h q false bs e w few some long =
-    let one : length (takenIn plain last (holding h) q .sections) ≤ 1 =
+    → length (flatten (takenIn plain before (holding h) q .sections)) ≤ 4278
+most-in before h q false bs e w few some long =
+    let one : length (takenIn plain before (holding h) q .sections) ≤ 1 =
     rw e
-    (one-goes (joined (follows last (q .counter)) (holding h)) (q .bytes)
-    (none-yet (follows last (q .counter)) h)) in
-    omega (arith, whole-most (takenIn plain last (holding h) q .sections) one (whole-taken last h q))
-most-in last h q true [] e w few some long = absurd (omega arith)
-most-in last h q true (p ∷ bs) e w few some long =
-    let s : Story ℕ = takenIn plain last (holding h) q in
-    let kept = keep-taken plain Any (Kept plain) (keeps-kept plain) (points-kept plain) last h (holding h) q
+    (one-goes (joined (follows before (q .counter)) (holding h)) (q .bytes)
+    (none-yet (follows before (q .counter)) h)) in
+    omega (arith, whole-most (takenIn plain before (holding h) q .sections) one (whole-taken before h q))
+most-in before h q true [] e w few some long = absurd (omega arith)
+most-in before h q true (p ∷ bs) e w few some long =
+    let s : Story ℕ = takenIn plain before (holding h) q in
+    let kept = keep-taken plain Any (Kept plain) (keeps-kept plain) (points-kept plain) before h (holding h) q
     (any (q .bytes)) (kept-holding plain h) in
     let point : countOf pointer (s .marks) ≡ 1 =
     rw (e, w)
-    (one-pointer (joined (follows last (q .counter)) (holding h)) p bs
-    (no-pointer (follows last (q .counter)) h)) in
+    (one-pointer (joined (follows before (q .counter)) (holding h)) p bs
+    (no-pointer (follows before (q .counter)) h)) in
     omega (
       arith,
       counts-in plain (h ++ q .bytes) s kept,
@@ -135,22 +134,22 @@ most-in last h q true (p ∷ bs) e w few some long =
     )
 
 most-ruled : (r : Record) (hold out : List ℕ) (q : Carried ℕ) (t : Bool)
-    → length (flatten (takenIn plain (lastOf (r .last)) (holding (take (r .in_hand) hold)) q .sections)) ≤ 4278
+    → length (flatten (takenIn plain (beforeOf r) (holding (take (r .in_hand) hold)) q .sections)) ≤ 4278
     → toldBy (outcomeOf r hold out (if t then repeated else takes q) .said) ≤ 4278
 most-ruled r hold out q true x = omega arith
 most-ruled r hold out q false x = x
 
 most-judged : (r : Record) (hold out packet : List ℕ) (j : Judged)
     → judged (cannotStand r hold) (r .pid) (length hold) (length out) packet ≡ j
-    → toldBy (outcomeOf r hold out (ruledBy (lastOf (r .last)) packet j) .said) ≤ 4278
+    → toldBy (outcomeOf r hold out (ruledBy (beforeOf r) packet j) .said) ≤ 4278
 most-judged r hold out packet (refuse n) e = omega arith
 most-judged r hold out packet Refusals.bare e = omega arith
 most-judged r hold out packet (carries from start counter) e =
     let fit = fit-of r hold out packet from start counter e in
     let q : Carried ℕ = carriedIn packet from start counter in
     let long : length (drop from packet) ≡ _ = length-drop from packet in
-    most-ruled r hold out q (repeats (lastOf (r .last)) counter)
-    (most-in (lastOf (r .last)) (take (r .in_hand) hold) q start (drop from packet) refl refl
+    most-ruled r hold out q (repeats (beforeOf r) counter)
+    (most-in (beforeOf r) (take (r .in_hand) hold) q start (drop from packet) refl refl
     (omega (arith, length-take (r .in_hand) hold, fit .few)) (omega (arith, long, fit .from-within))
     (omega (arith, long, fit .from-past, fit .long)))
 

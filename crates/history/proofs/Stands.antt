@@ -4,14 +4,13 @@ use mathlib.Core.Path.{_≡_, refl, sym, ap, _∙_, subst}
 use mathlib.Core.Bool.{Bool, true, false, _&&_, _||_}
 use mathlib.Core.List.{List, [], _∷_, _++_, map, map-id}
 use mathlib.Core.Logic.{⊎-elim}
-use mathlib.Core.Option.{Option}
 use Prim.Native.Nat.{ℕ, _+_, _≤_, _<_}
 use native.Mathlib.Omega.{arith}
 use lib.ListN.{length, take, drop, getD, length-append, List·getD-append}
 use lib.Dec.{ltb, leb, eqb}
 use borrow.Author.Tests.{ltb-true, ltb-false, leb-true, eqb-false, lt-ltb, le-ltb, lt-leb, ne-eqb}
 use Rattle.wire.specs.If.{if_then_else_}
-use Rattle.collector.specs.Rules.{Fate, pointer, broken, delivered, filler, skipped, in-hand, Story, sameFate, handOf, given, brokenOff, finished, holding, Mode, begin, inside, filling, skipping, breaking, Next, totalOf, Size, going, whole, over, sizeOf, follows, plain, Carried, begun, grown, resumed, joined, byteIn, stretch, goesOn, sectionsIn, payload, takenIn}
+use Rattle.collector.specs.Rules.{Fate, pointer, broken, delivered, filler, skipped, in-hand, Story, sameFate, handOf, given, brokenOff, finished, holding, Mode, begin, inside, filling, skipping, breaking, Next, totalOf, Size, going, whole, over, sizeOf, Before, follows, plain, Carried, begun, grown, resumed, joined, byteIn, stretch, goesOn, sectionsIn, payload, takenIn}
 use Rattle.collector.specs.Refusals.{isNone, counterPast, heldUnfit, cannotStand}
 use Rattle.collector.specs.declared.Record.{Record}
 use Rattle.collector.specs.declared.Last.{Last}
@@ -142,11 +141,11 @@ stands-joined : (t : Bool) (s : Story ℕ) → Standing (handOf s) → Standing 
 stands-joined true s x = x
 stands-joined false s x = subst Standing (sym (settled-hand broken refl (s .marks))) standing-none
 
-pub stands-taken : (last : Option ℕ) (h : List ℕ) (q : Carried ℕ) → Standing h
-    → Standing (handOf (takenIn plain last (holding h) q))
-stands-taken last h q x =
-    stands-payload (q .start) (joined (follows last (q .counter)) (holding h)) (q .bytes)
-    (stands-joined (follows last (q .counter)) (holding h) (subst Standing (sym (bytesOf-marked in-hand in-hand h)) x))
+pub stands-taken : (before : Before) (h : List ℕ) (q : Carried ℕ) → Standing h
+    → Standing (handOf (takenIn plain before (holding h) q))
+stands-taken before h q x =
+    stands-payload (q .start) (joined (follows before (q .counter)) (holding h)) (q .bytes)
+    (stands-joined (follows before (q .counter)) (holding h) (subst Standing (sym (bytesOf-marked in-hand in-hand h)) x))
 
 -- ---- the record
 

@@ -3,12 +3,11 @@
 use mathlib.Core.Path.{_≡_, refl, ap}
 use mathlib.Core.Logic.{inr}
 use mathlib.Core.List.{List, [], _∷_, map, flatten}
-use mathlib.Core.Option.{none}
 use Prim.Native.Nat.{ℕ}
 use native.Mathlib.Omega.{arith}
 use lib.ListN.{length}
 use Rattle.collector.specs.Each.{Each}
-use Rattle.collector.specs.Rules.{sizeOf, follows, Carried}
+use Rattle.collector.specs.Rules.{sizeOf, noneBefore, follows, Carried}
 use Rattle.collector.specs.Refusals.{cannotStand, judged, repeats}
 use Rattle.collector.specs.Answer.{Outcome, refused, repeated, taken}
 use Rattle.collector.specs.Collected.{freshRecord, collected}
@@ -26,7 +25,7 @@ callOf packet o = record { packet = packet; out = out₀; out′ = o .out; said 
 not-refused : NotRefused 20 4096 (record { packet = worked 0; room = 4280 })
 not-refused = (refl, (refl, (refl, (refl, (refl, (refl, (refl, (refl, (refl, tt)))))))))
 
-not-repeated : NotRepeated none (record { packet = worked 0; room = 4280 })
+not-repeated : NotRepeated noneBefore (record { packet = worked 0; room = 4280 })
 unfolding repeats
 not-repeated = inr refl
 

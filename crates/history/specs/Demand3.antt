@@ -2,27 +2,26 @@
 use mathlib.Core.Path.{_≡_}
 use mathlib.Core.Logic.{_↔_}
 use mathlib.Core.List.{List, [], _∷_, map, flatten}
-use mathlib.Core.Option.{Option, none}
 use Prim.Native.Nat.{ℕ, _+_, _%_, _^_, _≤_}
 use lib.ListN.{length, take}
 use lib.Dec.{ltb}
 use Rattle.collector.specs.Each.{Each}
-use Rattle.collector.specs.Rules.{pointer, delivered, broken, filler, skipped, in-hand, Mark, Story, bytesOf, countOf, handOf, Carried}
+use Rattle.collector.specs.Rules.{pointer, delivered, broken, filler, skipped, in-hand, Mark, Story, bytesOf, countOf, handOf, Before, noneBefore, Carried}
 use Rattle.collector.specs.Refusals.{refusals}
 use Rattle.collector.specs.Answer.{refused}
 use Rattle.collector.specs.Collected.{freshRecord}
 use Rattle.collector.specs.declared.Record.{Record}
 use Rattle.history.specs.History.{Byte, valueOf, historyOf, payloadsFrom, Unbroken, Among}
-use Rattle.history.specs.Run.{Collector, Call, Run, taken, fareOf, takenOf, lentOf, rulingOn, lastAfter, faresFrom, takenFrom, NotRefused, NotRepeated, handedBy, handed, bytesBy, toldBy}
+use Rattle.history.specs.Run.{Collector, Call, Run, taken, fareOf, takenOf, lentOf, rulingOn, beforeAfter, faresFrom, takenFrom, NotRefused, NotRepeated, handedBy, handed, bytesBy, toldBy}
 use Rattle.history.specs.Demand1.{First}
 
 -- "A packet is taken exactly if it is neither refused nor, by document 01's rule, repeated." Each call is held against
 -- the packets before it.
-abbrev pub TakenIf : ℕ → ℕ → Option ℕ → List Call → Type 0
-TakenIf pid size last [] = Unit {0}
-TakenIf pid size last (k ∷ ks) =
-    ((fareOf (k .said) ≡ taken) ↔ (NotRefused pid size (lentOf k) × NotRepeated last (lentOf k)))
-    × TakenIf pid size (lastAfter last (rulingOn pid size last (lentOf k))) ks
+abbrev pub TakenIf : ℕ → ℕ → Before → List Call → Type 0
+TakenIf pid size before [] = Unit {0}
+TakenIf pid size before (k ∷ ks) =
+    ((fareOf (k .said) ≡ taken) ↔ (NotRefused pid size (lentOf k) × NotRepeated before (lentOf k)))
+    × TakenIf pid size (beforeAfter before (rulingOn pid size before (lentOf k))) ks
 
 -- demand 1 of the packets of a run, whose record can stand exactly if its PID is one
 abbrev pub RefusedIf : ℕ → ℕ → Call → Type 0
@@ -31,7 +30,7 @@ RefusedIf pid size k = (n : ℕ)
 
 -- the packets taken that have payload, by the packets alone, and their bytes' fates
 abbrev pub takenBy : ℕ → List ℕ → List Call → List (Carried ℕ)
-takenBy pid hold calls = takenFrom pid (length hold) none (map lentOf calls)
+takenBy pid hold calls = takenFrom pid (length hold) noneBefore (map lentOf calls)
 
 abbrev pub storyBy : ℕ → List ℕ → List Call → Story Byte
 storyBy pid hold calls = historyOf (takenBy pid hold calls) .story
@@ -83,13 +82,13 @@ module _ (C : Collector) where
   RefusedExactlyIf = OverRuns (λ pid hold calls r hold′. Each (RefusedIf pid (length hold)) calls)
 
   abbrev pub TakenExactlyIf : Type 0
-  TakenExactlyIf = OverRuns (λ pid hold calls r hold′. TakenIf pid (length hold) none calls)
+  TakenExactlyIf = OverRuns (λ pid hold calls r hold′. TakenIf pid (length hold) noneBefore calls)
 
   -- which packets are taken, which are repeated, and which are refused with which number, depends on the packets and
   -- the rooms' sizes alone
   abbrev pub ByPacketsAlone : Type 0
   ByPacketsAlone = OverRuns (λ pid hold calls r hold′.
-      map (λ k. fareOf (k .said)) calls ≡ faresFrom pid (length hold) none (map lentOf calls))
+      map (λ k. fareOf (k .said)) calls ≡ faresFrom pid (length hold) noneBefore (map lentOf calls))
 
   -- a run never leaves a record that can't stand
   abbrev pub NeverUnfit : Type 0

@@ -2,11 +2,10 @@
 -- of its packet, counted from 0 among the packets taken that have payload.
 use mathlib.Core.Path.{_≡_}
 use mathlib.Core.List.{List, [], _∷_, _++_, map}
-use mathlib.Core.Option.{Option, none, some}
 use Prim.Native.Nat.{ℕ, _+_, _%_, _≤_, _<_}
 use lib.ListN.{length, getD}
 use Rattle.collector.specs.Each.{Each}
-use Rattle.collector.specs.Rules.{Story, holding, Carried, takenIn}
+use Rattle.collector.specs.Rules.{Story, holding, Before, noneBefore, Carried, handsOn, takenIn}
 
 pub record Byte : Type 0 where
   pub packet : ℕ
@@ -19,24 +18,24 @@ valueOf b = b .value
 abbrev pub numbered : ℕ → List ℕ → List Byte
 numbered k bs = map (λ v. record { packet = k; value = v }) bs
 
--- the last counter, how many packets with payload were taken, and the story of their bytes
+-- what counts for the next packet, how many packets with payload were taken, and the story of their bytes
 pub record History : Type 0 where
-  pub last : Option ℕ
+  pub before : Before
   pub packets : ℕ
   pub story : Story Byte
 
 abbrev pub unbegun : History
-unbegun = record { last = none; packets = 0; story = holding [] }
+unbegun = record { before = noneBefore; packets = 0; story = holding [] }
 
 abbrev pub numberedIn : ℕ → Carried ℕ → Carried Byte
 numberedIn k q = record { counter = q .counter; start = q .start; bytes = numbered k (q .bytes) }
 
--- "the counter then becomes the last. Fates then, as they stand after the packets so far"
+-- "Fates then, as they stand after the packets so far"
 abbrev pub after : History → Carried ℕ → History
 after h q = record {
-  last = some (q .counter);
+  before = handsOn q;
   packets = h .packets + 1;
-  story = takenIn valueOf (h .last) (h .story) (numberedIn (h .packets) q);
+  story = takenIn valueOf (h .before) (h .story) (numberedIn (h .packets) q);
 }
 
 abbrev pub historyFrom : History → List (Carried ℕ) → History

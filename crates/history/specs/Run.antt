@@ -4,14 +4,13 @@ use mathlib.Core.Path.{_≡_}
 use mathlib.Core.Logic.{_⊎_}
 use mathlib.Core.Bool.{false}
 use mathlib.Core.List.{List, [], _∷_, _++_, map}
-use mathlib.Core.Option.{Option, some}
 use Prim.Native.Nat.{ℕ, zero, suc}
 use lib.ListN.{length, take, drop}
 use lib.Dec.{ltb, eqb}
 use Rattle.wire.specs.If.{if_then_else_}
 use Rattle.collector.specs.Each.{Each}
 use Rattle.collector.specs.Packet.{startFlag, control, counterOf, payloadFrom}
-use Rattle.collector.specs.Rules.{totalOf, Carried}
+use Rattle.collector.specs.Rules.{totalOf, Before, Carried, handsOn}
 use Rattle.collector.specs.Refusals.{refusals, repeats, Ruling, carriedIn, ruling}
 use Rattle.collector.specs.Refusals as Refusals
 use Rattle.collector.specs.Answer.{Told, Outcome}
@@ -97,12 +96,12 @@ pub record Lent : Type 0 where
 abbrev pub lentOf : Call → Lent
 lentOf k = record { packet = k .packet; room = length (k .out) }
 
--- "the counter then becomes the last"
-abbrev pub lastAfter : Option ℕ → Ruling → Option ℕ
-lastAfter last (Refusals.refused n) = last
-lastAfter last Refusals.repeated = last
-lastAfter last Refusals.bare = last
-lastAfter last (Refusals.takes q) = some (q .counter)
+-- what counts for the next packet
+abbrev pub beforeAfter : Before → Ruling → Before
+beforeAfter before (Refusals.refused n) = before
+beforeAfter before Refusals.repeated = before
+beforeAfter before Refusals.bare = before
+beforeAfter before (Refusals.takes q) = handsOn q
 
 abbrev pub carriedBy : Ruling → List (Carried ℕ)
 carriedBy (Refusals.refused n) = []
@@ -112,25 +111,25 @@ carriedBy (Refusals.takes q) = q ∷ []
 
 module _ (pid size : ℕ) where
   -- a run's record can stand exactly if its PID is one
-  abbrev pub rulingOn : Option ℕ → Lent → Ruling
-  rulingOn last x = ruling (ltb 8191 pid) pid last size (x .room) (x .packet)
+  abbrev pub rulingOn : Before → Lent → Ruling
+  rulingOn before x = ruling (ltb 8191 pid) pid before size (x .room) (x .packet)
 
   -- how each packet of a run fares, and the packets taken that have payload
-  abbrev pub faresFrom : Option ℕ → List Lent → List Fare
-  faresFrom last [] = []
-  faresFrom last (x ∷ xs) = ruledFare (rulingOn last x) ∷ faresFrom (lastAfter last (rulingOn last x)) xs
+  abbrev pub faresFrom : Before → List Lent → List Fare
+  faresFrom before [] = []
+  faresFrom before (x ∷ xs) = ruledFare (rulingOn before x) ∷ faresFrom (beforeAfter before (rulingOn before x)) xs
 
-  abbrev pub takenFrom : Option ℕ → List Lent → List (Carried ℕ)
-  takenFrom last [] = []
-  takenFrom last (x ∷ xs) = carriedBy (rulingOn last x) ++ takenFrom (lastAfter last (rulingOn last x)) xs
+  abbrev pub takenFrom : Before → List Lent → List (Carried ℕ)
+  takenFrom before [] = []
+  takenFrom before (x ∷ xs) = carriedBy (rulingOn before x) ++ takenFrom (beforeAfter before (rulingOn before x)) xs
 
   -- "neither refused": no row of the table applies
   abbrev pub NotRefused : Lent → Type 0
   NotRefused x = Each (λ row. row .applies ≡ false) (refusals (ltb 8191 pid) pid size (x .room) (x .packet))
 
 -- "nor, by document 01's rule, repeated": control 10, or another counter than the last
-abbrev pub NotRepeated : Option ℕ → Lent → Type 0
-NotRepeated last x = (control (x .packet) ≡ 2) ⊎ (repeats last (counterOf (x .packet)) ≡ false)
+abbrev pub NotRepeated : Before → Lent → Type 0
+NotRepeated before x = (control (x .packet) ≡ 2) ⊎ (repeats before (counterOf (x .packet)) ≡ false)
 
 -- ---- the sections that a call hands out: so many, cut off the front of the out room's bytes by their own headers
 

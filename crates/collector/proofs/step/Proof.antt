@@ -1,7 +1,7 @@
 -- `collector::step` meets its contract: the verdict decides the outcome.
 use mathlib.Core.Path.{sym, ap, _∙_}
 use borrow.Author.Needs.{needs}
-use Rattle.collector.specs.Refusals.{lastOf, Judged, ruledBy}
+use Rattle.collector.specs.Refusals.{beforeOf, Judged, ruledBy}
 use Rattle.collector.specs.Answer.{Outcome}
 use Rattle.collector.specs.Collected.{outcomeOf}
 use Rattle.collector.specs.Inner.Packet.{meant}
@@ -15,7 +15,7 @@ start j = j .before .before .before .before .before
 
 -- the outcome, as the packet is judged
 abbrev outcome : tie.Start → Judged → Outcome
-outcome s j = outcomeOf (s .args .rec) (s .args .hold .now) (s .args .out .now) (ruledBy (lastOf (s .args .rec .last)) (s .args .packet .now) j)
+outcome s j = outcomeOf (s .args .rec) (s .args .hold .now) (s .args .out .now) (ruledBy (beforeOf (s .args .rec)) (s .args .packet .now) j)
 
 judge-requires : tie.Need-judge-requires
 judge-requires c κs = search needs

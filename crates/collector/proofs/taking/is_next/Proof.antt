@@ -4,7 +4,7 @@ use Prim.Native.Nat.{ℕ, _+_, _%_}
 use lib.Dec.{eqb}
 use borrow.Author.Needs.{needs}
 use Rattle.collector.specs.Rules.{follows}
-use Rattle.collector.specs.Refusals.{lastOf}
+use Rattle.collector.specs.Refusals.{lastBefore}
 use Rattle.collector.specs.declared.Last.{Last}
 use Rattle.collector.proofs.taking.is_next.Statement.{statement}
 use Rattle.collector.proofs.taking.is_next.Tie as tie
@@ -26,7 +26,7 @@ add-result c = search needs
 
 returns : tie.Need-returns
 unfolding follows
-returns c = sym (ap (λ (l : Last). follows (lastOf l) (c .before .before .args .counter)) (c .enum-told .given .1))
+returns c = sym (ap (λ (l : Last). follows (lastBefore l) (c .before .before .args .counter)) (c .enum-told .given .1))
 
 returns-2 : tie.Need-returns-2
 unfolding follows
@@ -34,7 +34,7 @@ returns-2 c =
     let k = c .before .before .before in
     ap (λ (n : ℕ). eqb n ((c .wide2 .result + 1) % 16)) (c .before .wide .ensures .same)
     ∙ ap (λ (n : ℕ). eqb (k .before .before .args .counter) ((n + 1) % 16)) (c .wide2 .ensures .same)
-    ∙ sym (ap (λ (l : Last). follows (lastOf l) (k .before .before .args .counter)) (k .last .given .1))
+    ∙ sym (ap (λ (l : Last). follows (lastBefore l) (k .before .before .args .counter)) (k .last .given .1))
 
 pub is-next-spec : {M : Type 1} → statement M
 is-next-spec = tie.close (tie.spec enum-told enum-known-last wide-requires wide-requires-2 add-result returns returns-2)
