@@ -24,7 +24,7 @@ use Rattle.head.specs.Head.{versionIn, numberIn, lastIn, isCurrent, hasNoSubTab
 use Rattle.roll.specs.Roll.{another, startsAfresh, begunWith, continued, after, asked, Outcome, answering, refusal, takingAccepted, taking}
 use Rattle.sequence.specs.Promise.{Promised, PromisedAsked}
 use Rattle.head.specs.Stands.{Versioned, OfSubTable}
-use Rattle.sequence.specs.Step.{Applies, no-sub-table, another as another-one, not-current, FirstFor, of-the-judge, of-the-roll, ComeFor, just, earlier, Answers, Taken, Asked, empty, begun, AnswersAny, RefusesExactlyIf, RefusalKeeps, TakesElse}
+use Rattle.sequence.specs.Step.{Applies, no-sub-table, another as another-one, not-current, FirstFor, of-the-judge, of-the-roll, ComeFor, just, earlier, Answers, AfterTaking, Asked, empty, begun, AnswersAny, RefusesExactlyIf, RefusalKeeps, TakesElse}
 use Rattle.sequence.proofs.MarkLaws.{unmarked-has-none, unmarked-whole, marked-whole, marked-has, marked-only, marked-more}
 use Rattle.head.proofs.Ids.{compared-as-it-stands, same-same-ids}
 use Rattle.sequence.proofs.TableIds.{no-sub-table-ids}
@@ -250,7 +250,7 @@ module _ (r : Roll) (s : List ℕ) (b : Bytes s) where
       go true e = rw e (begun-keeps v (only-this e))
       go false e = let on = goes-on e in rw e (continued-keeps v w (on .0) (same-sub-table (on .0) u) (on .1) (on .2))
 
-  pub taken-by : Whole (r .marks) → another r s ≡ false → isCurrent s ≡ true → Taken r s (answering (after r s))
+  pub taken-by : Whole (r .marks) → another r s ≡ false → isCurrent s ≡ true → AfterTaking r s (answering (after r s))
   unfolding asked smallestMissing
   taken-by w u v =
       let kept = after-keeps w u v in
@@ -272,9 +272,9 @@ module _ (r : Roll) (s : List ℕ) (b : Bytes s) where
 pub takes-else : TakesElse Promised
 takes-else r s o is b w none = go (went r s)
   where
-    go : Went r s → Taken r s o
+    go : Went r s → AfterTaking r s o
     go (refused f) = absurd (none _ _ f)
-    go (took u v t) = subst (Taken r s) (sym (is ∙ t)) (taken-by r s b w u v)
+    go (took u v t) = subst (AfterTaking r s) (sym (is ∙ t)) (taken-by r s b w u v)
 
 pub after-whole : (r : Roll) (s : List ℕ) → Whole (r .marks) → Whole (after r s .marks)
 unfolding after begunWith continued
