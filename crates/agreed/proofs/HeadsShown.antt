@@ -1,4 +1,5 @@
--- A section's head is what its sheet shows, from the one description of what a table contains: a field of another width in either is refused.
+-- A section's head is what its sheet shows, from the one description of what a table contains: a field of another width
+-- in either is refused.
 use Prim.Native.Nat.{ℕ, _+_, _*_, _%_, _<_}
 use mathlib.Core.Path.{_≡_, refl, sym, ap, _∙_, subst}
 use mathlib.Core.List.{List, [], _∷_, _++_, append-assoc}
@@ -51,7 +52,8 @@ two (a ∷ []) e = absurd (omega arith)
 two (a ∷ b ∷ []) e = refl
 two (a ∷ b ∷ c ∷ l) e = absurd (omega arith)
 
-common-shown : (more : List Item) (l : Fields) → EachOk sectionItem (plain 2 ∷ version ∷ numbers ∷ more) l → Common more l
+common-shown : (more : List Item) (l : Fields) → EachOk sectionItem (plain 2 ∷ version ∷ numbers ∷ more) l
+    → Common more l
 unfolding EachOk eachShow pack room
 common-shown more [] ok = absurd ok
 common-shown more (ids ∷ []) ok = absurd (ok .1)
@@ -75,7 +77,9 @@ common-shown more (ids ∷ (r ∷ v ∷ k ∷ []) ∷ ns ∷ rest) ok =
       version-fits = ok .1 .0 .1 .0;
       current-fits = ok .1 .0 .1 .1 .0;
       rest-ok = ok .1 .1 .1;
-      in-section = rw (p, q) (ap (λ (x : ℕ). getD ids 0 0 ∷ getD ids 1 0 ∷ x ∷ getD ns 0 0 ∷ getD ns 1 0 ∷ eachShow sectionItem more rest) (omega arith));
+      in-section = rw (p, q)
+          (ap (λ (x : ℕ). getD ids 0 0 ∷ getD ids 1 0 ∷ x ∷ getD ns 0 0 ∷ getD ns 1 0 ∷ eachShow sectionItem more rest)
+          (omega arith));
       in-sheet = rw (p, q) refl;
     }
 
@@ -192,32 +196,39 @@ module _ (c : Content) (h : Holds c) (below : rowIn c < TDT) where
       (subst (λ (xs : List Item). EachOk sectionItem xs (bodyOf c .0)) (sym (common-items row below)) (h .body .0))
 
   module _ (f : Common more (bodyOf c .0)) where
-    section-is : sectionOf c ≡ broadcast (tableOf c) (second c) (sectionLength c % 256) (f .a) (f .b) (f .r) (f .v) (f .k) (f .n) (f .m) []
+    section-is : sectionOf c
+        ≡ broadcast (tableOf c) (second c) (sectionLength c % 256) (f .a) (f .b) (f .r) (f .v) (f .k) (f .n) (f .m) []
         (eachShow sectionItem more (f .rest) ++ (tail ++ seal c))
     unfolding sectionOf
     section-is =
-        let head = sym (ap (λ (xs : List Item). eachShow sectionItem xs (bodyOf c .0)) (common-items row below)) ∙ f .in-section in
+        let items = common-items row below in
+        let head = sym (ap (λ (xs : List Item). eachShow sectionItem xs (bodyOf c .0)) items) ∙ f .in-section in
         ap (λ z. z ++ seal c) (front-is c)
         ∙ ap (λ z. tableOf c ∷ second c ∷ (sectionLength c % 256) ∷ ((z ++ tail) ++ seal c)) head
-        ∙ ap (λ z. tableOf c ∷ second c ∷ (sectionLength c % 256) ∷ f .a ∷ f .b ∷ (f .r * 64 + f .v * 2 + f .k) ∷ f .n ∷ f .m ∷ z)
+        ∙ ap (λ z. tableOf c ∷ second c ∷ (sectionLength c % 256)
+        ∷ f .a ∷ f .b ∷ (f .r * 64 + f .v * 2 + f .k) ∷ f .n ∷ f .m ∷ z)
         (append-assoc (eachShow sectionItem more (f .rest)) tail (seal c))
 
     sheet-is : sheetOf c ≡ shown (tableOf c) 0 0 (f .a) (f .b) 0 (f .v) (f .k) (f .n) (f .m)
         (eachShow sheetItem more (f .rest) ++ sheet-tail) []
     unfolding sheetOf
     sheet-is =
-        let head = sym (ap (λ (xs : List Item). eachShow sheetItem xs (bodyOf c .0)) (common-items row below)) ∙ f .in-sheet in
-        ap (λ z. tableOf c ∷ (z ++ (eachShow sheetItem (headOf row) (bodyOf c .0) ++ sheet-tail))) (frame-unshown (frameOf c))
+        let items = common-items row below in
+        let head = sym (ap (λ (xs : List Item). eachShow sheetItem xs (bodyOf c .0)) items) ∙ f .in-sheet in
+        ap (λ z. tableOf c ∷ (z ++ (eachShow sheetItem (headOf row) (bodyOf c .0) ++ sheet-tail)))
+        (frame-unshown (frameOf c))
         ∙ ap (λ z. tableOf c ∷ (z ++ sheet-tail)) head
 
     fields-shown : Shows (sheetOf c) (sectionOf c)
     fields-shown =
         let ids = behind row (f .rest) sheet-tail (tail ++ seal c) (f .rest-ok) in
         subst (λ z. Shows z (sectionOf c)) (sym sheet-is)
-        (subst (λ z. Shows (shown (tableOf c) 0 0 (f .a) (f .b) 0 (f .v) (f .k) (f .n) (f .m) (eachShow sheetItem more (f .rest) ++ sheet-tail) []) z)
+        (subst (λ z. Shows (shown (tableOf c) 0 0 (f .a) (f .b) 0 (f .v) (f .k) (f .n) (f .m)
+        (eachShow sheetItem more (f .rest) ++ sheet-tail) []) z)
         (sym section-is)
         (heads-shown (tableOf c) (second c) (sectionLength c % 256) (f .a) (f .b) (f .r) (f .v) (f .k) (f .n) (f .m)
-        (eachShow sheetItem more (f .rest) ++ sheet-tail) (eachShow sectionItem more (f .rest) ++ (tail ++ seal c))
+        (eachShow sheetItem more (f .rest) ++ sheet-tail)
+        (eachShow sectionItem more (f .rest) ++ (tail ++ seal c))
         (f .version-fits) (f .current-fits) (ids .sdt) (ids .eit)))
 
   pub content-shown : Shows (sheetOf c) (sectionOf c)
@@ -235,11 +246,13 @@ section-shown n s t w e numbered =
     let c = x .content in
     let y = held s c w (x .reads) in
     let below = numbered-row c (ap hasNoSubTable (sym (x .made)) ∙ numbered) in
-    subst (λ z. Shows s z) (sym (x .made)) (subst (λ z. Shows z (sectionOf c)) (sym (y .shows)) (content-shown c (y .holds) below))
+    subst (λ z. Shows s z) (sym (x .made))
+    (subst (λ z. Shows z (sectionOf c)) (sym (y .shows)) (content-shown c (y .holds) below))
 
 pub sheet-shown : SheetShown
 sheet-shown n s t w e numbered =
     let x = from-section n s t w e .1 in
     let c = x .content in
     let below = numbered-row c (ap hasNoSubTable (x .is) ∙ numbered) in
-    subst (λ z. Shows t z) (x .is) (subst (λ z. Shows z (sectionOf c)) (sym (x .made)) (content-shown c (x .holds) below))
+    subst (λ z. Shows t z) (x .is)
+    (subst (λ z. Shows z (sectionOf c)) (sym (x .made)) (content-shown c (x .holds) below))

@@ -1,6 +1,7 @@
--- A section's head and its sheet: each field that `head` reads in a section's bits stands in the sheet in bytes of its own. Document 01,
--- "Content sheets": "NIT, BAT, SDT, EIT: extension id 2, version 1, current 1, section number 1, last 1. SDT adds original_network_id 2. EIT
--- adds transport_stream_id 2, original_network_id 2, ..", behind the table_id's one byte.
+-- A section's head and its sheet: each field that `head` reads in a section's bits stands in the sheet in bytes of its
+-- own. Document 01, "Content sheets", behind the table_id's one byte: "NIT, BAT, SDT, EIT: extension id 2, version 1,
+-- current 1, section number 1, last 1. SDT adds original_network_id 2. EIT adds transport_stream_id 2,
+-- original_network_id 2, .."
 use Prim.Native.Nat.{ℕ}
 use mathlib.Core.Path.{_≡_}
 use mathlib.Core.List.{List}

@@ -15,7 +15,7 @@ use Rattle.roll.specs.Answer.{Says, missing, complete}
 use Rattle.roll.specs.Marks.{has, unmarked, marked, smallest, smallestMissing}
 use Rattle.head.specs.SubTable.{subTableOf, compared, sameIds}
 use Rattle.head.specs.Head.{versionIn, numberIn, lastIn}
-use Rattle.roll.specs.Roll.{another, startsAfresh, begunWith, continued, after, asked, Outcome, answering, taking}
+use Rattle.roll.specs.Roll.{another, startsAfresh, begunWith, continued, rollAfter, asked, Outcome, answering, taking}
 use Rattle.sequence.specs.Sequence.{belongs, unrefused, takenOf, Come, just, earlier, Answered, nothing, some, Kept, Agrees, empty, begun, Next, took, refused, AllBytes, none, more, Run, start, step, MarksAre, EachFares, AnswersAre}
 use Rattle.sequence.specs.Promise.{Promised, PromisedAsked}
 use Rattle.sequence.specs.Step.{Answers, all, least}
@@ -81,8 +81,8 @@ unfolding startsAfresh
 afresh-by r s e = rw e
 
 after-agrees : {t : List (List ℕ)} {r : Roll} → Agrees t r → (s : List ℕ) → Bytes s → belongs t s ≡ true
-    → Agrees (s ∷ t) (after r s)
-unfolding after startsAfresh
+    → Agrees (s ∷ t) (rollAfter r s)
+unfolding rollAfter startsAfresh
 after-agrees (empty e) s b h = rw e (afresh-agrees s [] b (λ n c. first-come c))
 after-agrees (begun {s = u} {t} {r} k sound whole) s b h =
     subst (λ (a : Bool). Agrees (s ∷ u ∷ t) (if a then begunWith s else continued r s)) (sym (afresh-by r s (k .begun)))
@@ -119,7 +119,7 @@ next : {t : List (List ℕ)} {r : Roll} → Agrees t r → (s : List ℕ) → By
     → Next t r s (taking r s) × ((unrefused t s ≡ true → Agrees (s ∷ t) (taking r s .roll)))
 next {t} {r} g s b = go (taken-or-refused r s t (another-agrees g s))
   where
-    go : ((unrefused t s ≡ true) × ((belongs t s ≡ true) × (taking r s ≡ answering (after r s))))
+    go : ((unrefused t s ≡ true) × ((belongs t s ≡ true) × (taking r s ≡ answering (rollAfter r s))))
         ⊎ ((unrefused t s ≡ false) × Refuses t r s)
         → Next t r s (taking r s) × ((unrefused t s ≡ true → Agrees (s ∷ t) (taking r s .roll)))
     go (inl (p, (h, e))) =
