@@ -14,9 +14,9 @@ use Rattle.roll.specs.Roll as roll
 use Rattle.roll.specs.Roll.{emptyRoll, asked, taking, refusal}
 use Rattle.roll.specs.declared.Roll as of
 use Rattle.sequence.specs.Promise as beneath
-use Rattle.sequence.specs.Step.{Taken}
+use Rattle.sequence.specs.Step.{AfterTaking}
 use Rattle.sequence.specs.Sequence as beneath-runs
-use Rattle.sequence.specs.Sequence.{taken, Next, AllBytes, none, more}
+use Rattle.sequence.specs.Sequence.{takenOf, Next, AllBytes, none, more}
 use Rattle.sequence.proofs.Exactly.{refuses-exactly-if, first-refuses, takes-else, answers-any}
 use Rattle.sequence.proofs.WholeSequence.{each-fares, answers-are}
 use Rattle.cabinet.specs.Numbers.{bit, isSet}
@@ -148,7 +148,7 @@ takes-or-refuses r s o is b w no-refusal =
     let took = takes-else (rollIn r) s (call .under) (call .call) b (whole-in r w) no-refusal in (
       call .under .says,
       call .tells,
-      subst (λ (q : of.Roll). Taken (rollIn r) s (record { roll = q; says = call .under .says }))
+      subst (λ (q : of.Roll). AfterTaking (rollIn r) s (record { roll = q; says = call .under .says }))
           (sym (call .roll-in)) took,
     )
 
@@ -175,7 +175,7 @@ each-section-fares given r x s w o is =
     let fares = each-fares given (rollIn r) (run-beneath x) s w (b .under) (b .call) in (
       b .under .says,
       b .tells,
-      subst (λ (q : of.Roll). Next (taken given) (rollIn r) s (record { roll = q; says = b .under .says }))
+      subst (λ (q : of.Roll). Next (takenOf given) (rollIn r) s (record { roll = q; says = b .under .says }))
           (sym (b .roll-in)) fares,
     )
 

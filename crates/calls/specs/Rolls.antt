@@ -13,9 +13,9 @@ use Rattle.roll.specs.Roll as roll
 use Rattle.roll.specs.Roll.{emptyRoll, asked}
 use Rattle.roll.specs.declared.Roll as of
 use Rattle.sequence.specs.Promise as beneath
-use Rattle.sequence.specs.Step.{FirstFor, Taken, Asked}
+use Rattle.sequence.specs.Step.{FirstFor, AfterTaking, Asked}
 use Rattle.sequence.specs.Sequence as beneath-runs
-use Rattle.sequence.specs.Sequence.{taken, Answered, Next}
+use Rattle.sequence.specs.Sequence.{takenOf, Answered, Next}
 use Rattle.cabinet.specs.Numbers.{bit, isSet}
 use Rattle.cabinet.specs.Roll.{rollIn, rollSays, rollAnswer, Outcome, rolling}
 use Rattle.cabinet.specs.declared.rolls.Roll.{Roll}
@@ -118,16 +118,16 @@ module _ (take : Roller) where
   abbrev pub TakesElse : Type 0
   TakesElse = (r : Roll) (s : List ℕ) (o : Outcome) → take r s o → Bytes s → length (r .came) ≡ 256
       → ((k p : ℕ) → FirstFor (rollIn r) s k p → ⊥)
-      → (x : Says) × Tells x (o .answer) × Taken (rollIn r) s (record { roll = rollIn (o .roll); says = x })
+      → (x : Says) × Tells x (o .answer) × AfterTaking (rollIn r) s (record { roll = rollIn (o .roll); says = x })
 
   -- over whole sequences: each section fares by those taken before it
   abbrev pub EachFares : Type 0
   EachFares = (given : List (List ℕ)) (r : Roll) → Run take given r → (s : List ℕ) → Bytes s → (o : Outcome)
       → take r s o
       → (x : Says) × Tells x (o .answer)
-      × Next (taken given) (rollIn r) s (record { roll = rollIn (o .roll); says = x })
+      × Next (takenOf given) (rollIn r) s (record { roll = rollIn (o .roll); says = x })
 
   -- and the answer is the smallest number missing, or complete
   abbrev pub AnswersAre : (Roll → RollAnswer → Type 0) → Type 0
   AnswersAre ask = (given : List (List ℕ)) (r : Roll) → Run take given r → (a : RollAnswer) → ask r a
-      → (x : Says) × Tells x a × Answered (taken given) x
+      → (x : Says) × Tells x a × Answered (takenOf given) x

@@ -1,4 +1,5 @@
--- The fields of a section's head that NIT, SDT, BAT and EIT have: EN 300 468, clause 5.2. A byte that is not there reads as 0.
+-- The fields of a section's head that NIT, SDT, BAT and EIT have: EN 300 468, clause 5.2. A byte that is not there reads
+-- as 0.
 use Prim.Native.Nat.{ℕ, _/_, _%_}
 use mathlib.Core.List.{List}
 use mathlib.Core.Bool.{Bool, not}

@@ -21,9 +21,12 @@ isEit id = eqb (rowOf id) EIT
 -- table_id, extension and those transport ids that count for the table; 0 in the place of the others
 unfoldable pub idsThatCount : ℕ → ℕ → ℕ → ℕ → SubTable
 idsThatCount id extension transport network =
-    if isSdt id then record { «table_id» = id; extension = extension; «transport_stream_id» = 0; «original_network_id» = network }
-    else if isEit id then record { «table_id» = id; extension = extension; «transport_stream_id» = transport; «original_network_id» = network }
-    else record { «table_id» = id; extension = extension; «transport_stream_id» = 0; «original_network_id» = 0 }
+    if isSdt id then of 0 network
+    else if isEit id then of transport network
+    else of 0 0
+  where
+    of : ℕ → ℕ → SubTable
+    of t n = record { «table_id» = id; extension = extension; «transport_stream_id» = t; «original_network_id» = n }
 
 -- original_network_id: bytes 8 and 9 of SDT, 10 and 11 of EIT
 unfoldable pub networkIn : List ℕ → ℕ

@@ -1,4 +1,5 @@
-// A section's head: what NIT, SDT, BAT and EIT have between section_length and their loops. A byte that is not there reads as 0.
+// A section's head: what NIT, SDT, BAT and EIT have between section_length and their loops. A byte that is not there
+// reads as 0.
 ghost use mathlib.Core.Path.{_≡_};
 ghost use Rattle.head.specs.Head.{extensionIn, versionIn, isCurrent, numberIn, lastIn, hasNoSubTable};
 use tables::is_numbered;

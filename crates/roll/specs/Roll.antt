@@ -44,8 +44,8 @@ continued r s =
     }
 
 -- the roll after a section that it takes
-unfoldable pub after : Roll → List ℕ → Roll
-after r s = if startsAfresh r s then begunWith s else continued r s
+unfoldable pub rollAfter : Roll → List ℕ → Roll
+rollAfter r s = if startsAfresh r s then begunWith s else continued r s
 
 -- the answer without a section: of an empty roll nothing has come, so that 0 is missing
 unfoldable pub asked : Roll → Says
@@ -73,7 +73,7 @@ unfoldable pub takingAccepted : Roll → List ℕ → Outcome
 takingAccepted r s =
     if hasNoSubTable s then refusal r 83 0
     else if another r s then refusal r 82 0
-    else if isCurrent s then answering (after r s)
+    else if isCurrent s then answering (rollAfter r s)
     else refusal r 81 0
 
 -- "It takes a section; refuses 1 to 10", with the judge's place, before all else

@@ -1,6 +1,6 @@
 // A roll and a section that the judge accepts.
 ghost use mathlib.Core.Path.{_≡_};
-ghost use Rattle.roll.specs.Roll.{another, startsAfresh, begunWith, after, takingAccepted, heard};
+ghost use Rattle.roll.specs.Roll.{another, startsAfresh, begunWith, rollAfter, takingAccepted, heard};
 use crate::Answer;
 use crate::Roll;
 use crate::Step;
@@ -56,7 +56,7 @@ fn begun_with(section: &[u8]) -> Roll
 
 // The roll after a section that nothing refuses.
 fn with_section(roll: Roll, section: &[u8]) -> Roll
-    ensures { λ r. ⌜ r ≡ after roll (now (section .entry)) ⌝ }
+    ensures { λ r. ⌜ r ≡ rollAfter roll (now (section .entry)) ⌝ }
 {
     if starts_afresh(roll, section) {
         return begun_with(section);

@@ -13,7 +13,7 @@ use Rattle.wire.specs.Bytes.{Bytes}
 use Rattle.roll.specs.Answer.{Says, missing}
 use Rattle.roll.specs.Marks.{has, unmarked, marked, Whole, smallest, smallestMissing}
 use Rattle.head.specs.Head.{numberIn}
-use Rattle.roll.specs.Roll.{another, startsAfresh, begunWith, continued, after, asked, answering, refusal, taking}
+use Rattle.roll.specs.Roll.{another, startsAfresh, begunWith, continued, rollAfter, asked, answering, refusal, taking}
 use Rattle.sequence.specs.Promise.{Promised}
 use Rattle.sequence.specs.Sequence.{AllBytes, none, more}
 use Rattle.sequence.specs.Alike.{Alike, empty, begun, answersTo, StaysAlike}
@@ -72,8 +72,8 @@ on-alike (begun {r} {q} e f i v l w x h) s b n =
     begun e f i v l (marked-whole (r .marks) (numberIn s) w) (marked-whole (q .marks) (numberIn s) x)
     (marked-alike (r .marks) (q .marks) (numberIn s) (r .last) w x (b 6) h)
 
-after-alike : {r q : Roll} → Alike r q → (s : List ℕ) → Bytes s → Alike (after r s) (after q s)
-unfolding after
+after-alike : {r q : Roll} → Alike r q → (s : List ℕ) → Bytes s → Alike (rollAfter r s) (rollAfter q s)
+unfolding rollAfter
 after-alike {r} {q} g s b = rw (starts-alike g s) (go (startsAfresh q s) refl)
   where
     go : (a : Bool) → startsAfresh q s ≡ a
@@ -85,7 +85,7 @@ pub taking-alike : {r q : Roll} → Alike r q → (s : List ℕ) → Bytes s
     → (taking r s .says ≡ taking q s .says) × Alike (taking r s .roll) (taking q s .roll)
 taking-alike {r} {q} g s b = go (both-taken-or-refused r s q (another-alike g s))
   where
-    go : ((taking r s ≡ answering (after r s)) × (taking q s ≡ answering (after q s)))
+    go : ((taking r s ≡ answering (rollAfter r s)) × (taking q s ≡ answering (rollAfter q s)))
         ⊎ ((k : ℕ) × (p : ℕ) × ((taking r s ≡ refusal r k p) × (taking q s ≡ refusal q k p)))
         → (taking r s .says ≡ taking q s .says) × Alike (taking r s .roll) (taking q s .roll)
     go (inl (e, f)) = let a = after-alike g s b in rw (e, f) (asked-alike a, a)

@@ -16,7 +16,7 @@ use Rattle.roll.specs.Answer.{missing, complete, refusing}
 use Rattle.roll.specs.Marks.{has, unmarked, marked, smallest, smallestMissing}
 use Rattle.head.specs.SubTable.{idsThatCount, networkIn, subTableOf, compared, sameIds}
 use Rattle.head.specs.Head.{versionIn, isCurrent, hasNoSubTable}
-use Rattle.roll.specs.Roll.{another, startsAfresh, begunWith, continued, after, asked, takingAccepted, taking, emptyRoll}
+use Rattle.roll.specs.Roll.{another, startsAfresh, begunWith, continued, rollAfter, asked, takingAccepted, taking, emptyRoll}
 use Rattle.sequence.specs.Alike.{answersTo}
 
 -- the time and date table of the worked values
@@ -132,7 +132,7 @@ pub at-work :
     ≡ missing 1 ∷ refusing 82 0 ∷ refusing 82 0 ∷ complete ∷ [])
 unfolding tdt coming second other opening lower higher longer services services-elsewhere services-of-another
     services-other services-on events events-of-another events-elsewhere events-on emptyRoll taking takingAccepted asked
-    after continued begunWith startsAfresh another hasNoSubTable isCurrent versionIn sameIds compared subTableOf
+    rollAfter continued begunWith startsAfresh another hasNoSubTable isCurrent versionIn sameIds compared subTableOf
     numberAt networkIn idsThatCount smallestMissing smallest marked unmarked has judged read opened header wrongSyntax
     lengthOutside sizeDiffers crcFails aboveLast inside topped plain twoLoops secondLoop leavesRoom fills _andThen_
     entries descriptors run trail cell holds first rowOf crc feedBytes feedBits feed

@@ -21,10 +21,10 @@ use Rattle.roll.specs.Answer.{missing, refusing}
 use Rattle.roll.specs.Marks.{has, unmarked, marked, Whole, smallest, smallestMissing}
 use Rattle.head.specs.SubTable.{subTableOf, compared, sameIds}
 use Rattle.head.specs.Head.{versionIn, numberIn, lastIn, isCurrent, hasNoSubTable}
-use Rattle.roll.specs.Roll.{another, startsAfresh, begunWith, continued, after, asked, Outcome, answering, refusal, takingAccepted, taking}
+use Rattle.roll.specs.Roll.{another, startsAfresh, begunWith, continued, rollAfter, asked, Outcome, answering, refusal, takingAccepted, taking}
 use Rattle.sequence.specs.Promise.{Promised, PromisedAsked}
 use Rattle.head.specs.Stands.{Versioned, OfSubTable}
-use Rattle.sequence.specs.Step.{Applies, no-sub-table, another as another-one, not-current, FirstFor, of-the-judge, of-the-roll, ComeFor, just, earlier, Answers, Taken, Asked, empty, begun, AnswersAny, RefusesExactlyIf, RefusalKeeps, TakesElse}
+use Rattle.sequence.specs.Step.{Applies, no-sub-table, another as another-one, not-current, FirstFor, of-the-judge, of-the-roll, ComeFor, just, earlier, Answers, AfterTaking, Asked, empty, begun, AnswersAny, RefusesExactlyIf, RefusalKeeps, TakesElse}
 use Rattle.sequence.proofs.MarkLaws.{unmarked-has-none, unmarked-whole, marked-whole, marked-has, marked-only, marked-more}
 use Rattle.head.proofs.Ids.{compared-as-it-stands, same-same-ids}
 use Rattle.sequence.proofs.TableIds.{no-sub-table-ids}
@@ -89,7 +89,7 @@ module _ (r : Roll) (s : List ℕ) where
 
   pub data Went : Type 0 where
     refused : {k p : ℕ} → FirstFor r s k p → Went
-    took : another r s ≡ false → isCurrent s ≡ true → taking r s ≡ answering (after r s) → Went
+    took : another r s ≡ false → isCurrent s ≡ true → taking r s ≡ answering (rollAfter r s) → Went
 
   only-83 : (j : ℕ) → 83 < j → Applies r s j → ⊥
   only-83 j h (no-sub-table e) = omega arith
@@ -145,9 +145,9 @@ same-refusal : {k p j q : ℕ} → refusing k p ≡ refusing j q → (k ≡ j) �
 same-refusal e = (cc, cc)
 
 -- a step that takes the section is none of the refusals
-pub took-none : (r : Roll) (s : List ℕ) → taking r s ≡ answering (after r s) → (k p : ℕ) → FirstFor r s k p → ⊥
+pub took-none : (r : Roll) (s : List ℕ) → taking r s ≡ answering (rollAfter r s) → (k p : ℕ) → FirstFor r s k p → ⊥
 took-none r s t k p f =
-    asked-no-refusal (after r s) k p
+    asked-no-refusal (rollAfter r s) k p
     (sym (ap (λ (x : Outcome). x .says) t) ∙ ap (λ (x : Outcome). x .says) (first-refuses r s f))
 
 -- ---- the statements
@@ -162,7 +162,7 @@ refuses-exactly-if r s o is k p = (
     to (refused {k = j} f) e =
         let same = same-refusal (sym (ap (λ (x : Outcome). x .says) (first-refuses r s f)) ∙ e) in
         subst (λ i. FirstFor r s i p) (same .0) (subst (λ i. FirstFor r s j i) (same .1) f)
-    to (took u v t) e = absurd (asked-no-refusal (after r s) k p (sym (ap (λ (x : Outcome). x .says) t) ∙ e))
+    to (took u v t) e = absurd (asked-no-refusal (rollAfter r s) k p (sym (ap (λ (x : Outcome). x .says) t) ∙ e))
 
 pub refusal-keeps : RefusalKeeps Promised
 refusal-keeps r s o is k p f = ap (λ (x : Outcome). x .roll) (is ∙ first-refuses r s f)
@@ -242,15 +242,15 @@ module _ (r : Roll) (s : List ℕ) (b : Bytes s) where
           absurd (false≢true (sym u
           ∙ applies-another r s e (λ x. false≢true (sym h ∙ of-sub-table (r .«sub_table») s .1 x))))
 
-  after-keeps : Whole (r .marks) → another r s ≡ false → isCurrent s ≡ true → Keeps (after r s)
-  unfolding after
+  after-keeps : Whole (r .marks) → another r s ≡ false → isCurrent s ≡ true → Keeps (rollAfter r s)
+  unfolding rollAfter
   after-keeps w u v = go (startsAfresh r s) refl
     where
       go : (a : Bool) → startsAfresh r s ≡ a → Keeps (if startsAfresh r s then begunWith s else continued r s)
       go true e = rw e (begun-keeps v (only-this e))
       go false e = let on = goes-on e in rw e (continued-keeps v w (on .0) (same-sub-table (on .0) u) (on .1) (on .2))
 
-  pub taken-by : Whole (r .marks) → another r s ≡ false → isCurrent s ≡ true → Taken r s (answering (after r s))
+  pub taken-by : Whole (r .marks) → another r s ≡ false → isCurrent s ≡ true → AfterTaking r s (answering (rollAfter r s))
   unfolding asked smallestMissing
   taken-by w u v =
       let kept = after-keeps w u v in
@@ -264,20 +264,20 @@ module _ (r : Roll) (s : List ℕ) (b : Bytes s) where
         marks = marks;
         says =
             rw (kept .0)
-            (subst (λ n. Answers (ComeFor r s) n (smallest (has (after r s .marks)) (after r s .last + 1) 0)) last
-            (smallest-answers (has (after r s .marks)) (ComeFor r s) (λ n. marks n .0) (λ n. marks n .1)
-            (after r s .last)));
+            (subst (λ n. Answers (ComeFor r s) n (smallest (has (rollAfter r s .marks)) (rollAfter r s .last + 1) 0)) last
+            (smallest-answers (has (rollAfter r s .marks)) (ComeFor r s) (λ n. marks n .0) (λ n. marks n .1)
+            (rollAfter r s .last)));
       }
 
 pub takes-else : TakesElse Promised
 takes-else r s o is b w none = go (went r s)
   where
-    go : Went r s → Taken r s o
+    go : Went r s → AfterTaking r s o
     go (refused f) = absurd (none _ _ f)
-    go (took u v t) = subst (Taken r s) (sym (is ∙ t)) (taken-by r s b w u v)
+    go (took u v t) = subst (AfterTaking r s) (sym (is ∙ t)) (taken-by r s b w u v)
 
-pub after-whole : (r : Roll) (s : List ℕ) → Whole (r .marks) → Whole (after r s .marks)
-unfolding after begunWith continued
+pub after-whole : (r : Roll) (s : List ℕ) → Whole (r .marks) → Whole (rollAfter r s .marks)
+unfolding rollAfter begunWith continued
 after-whole r s w =
     if-case (λ (q : Roll). Whole (q .marks)) (startsAfresh r s) (λ _. marked-whole unmarked (numberIn s) unmarked-whole)
     (λ _. marked-whole (r .marks) (numberIn s) w)

@@ -6,7 +6,7 @@ use mathlib.Core.Logic.{_↔_}
 use mathlib.Core.List.{List}
 use Rattle.roll.specs.Marks.{has, Whole}
 use Rattle.roll.specs.Roll.{Outcome, taking}
-use Rattle.sequence.specs.Step.{Taken, Roller}
+use Rattle.sequence.specs.Step.{AfterTaking, Roller}
 use Rattle.sequence.specs.Alike.{Alike, empty, begun, Fixed}
 use Rattle.head.proofs.HeadLaws.{version-is, ids-compared}
 use Rattle.sequence.proofs.Exactly.{Went, refused, took, went, first-refuses, took-none, taken-by, after-whole}
@@ -26,7 +26,7 @@ same-test true false x y = absurd (false≢true (y .1 (x .0 refl)))
 same-test false true x y = absurd (false≢true (x .1 (y .0 refl)))
 same-test false false x y = refl
 
-taken-alike : (r : Roll) (s : List ℕ) (o o' : Outcome) → Taken r s o → Taken r s o' → Whole (o .roll .marks)
+taken-alike : (r : Roll) (s : List ℕ) (o o' : Outcome) → AfterTaking r s o → AfterTaking r s o' → Whole (o .roll .marks)
     → Whole (o' .roll .marks)
     → (o .says ≡ o' .says) × Alike (o .roll) (o' .roll)
 taken-alike r s o o' x y w w' = (
@@ -48,5 +48,5 @@ fixed take refuses keeps else r s o is b w w' = go (went r s)
     go (took u v t) =
         let none = took-none r s t in
         let whole = subst (λ (x : Outcome). Whole (x .roll .marks)) (sym t) (after-whole r s w) in
-        taken-alike r s o (taking r s) (else r s o is b w none) (subst (Taken r s) (sym t) (taken-by r s b w u v)) w'
+        taken-alike r s o (taking r s) (else r s o is b w none) (subst (AfterTaking r s) (sym t) (taken-by r s b w u v)) w'
         whole

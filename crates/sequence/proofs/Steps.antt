@@ -8,8 +8,8 @@ use Rattle.verdict.specs.Verdict.{isAccepted, numberOf, placeOf}
 use Rattle.verdict.proofs.SaidLaws.{is-accepted, is-refused}
 use Rattle.section.specs.Reading.{judged}
 use Rattle.head.specs.Head.{isCurrent, hasNoSubTable}
-use Rattle.roll.specs.Roll.{another, after, refusal, answering, takingAccepted, taking}
-use Rattle.sequence.specs.Sequence.{belongs, takes, FirstRefusal, by-the-judge, no-sub-table, another-sub-table, not-current}
+use Rattle.roll.specs.Roll.{another, rollAfter, refusal, answering, takingAccepted, taking}
+use Rattle.sequence.specs.Sequence.{belongs, unrefused, FirstRefusal, by-the-judge, no-sub-table, another-sub-table, not-current}
 use Rattle.roll.specs.declared.Roll.{Roll}
 
 -- refused with the first refusal that applies, and "itself unchanged"
@@ -22,14 +22,14 @@ pub record Refuses (t : List (List ℕ)) (r : Roll) (s : List ℕ) : Type 0 wher
 module _ (r : Roll) (s : List ℕ) where
   -- a roll that compares with what was taken takes exactly what belongs there
   pub taken-or-refused : (t : List (List ℕ)) → another r s ≡ not (belongs t s)
-      → ((takes t s ≡ true) × ((belongs t s ≡ true) × (taking r s ≡ answering (after r s))))
-      ⊎ ((takes t s ≡ false) × Refuses t r s)
-  unfolding taking takingAccepted takes
+      → ((unrefused t s ≡ true) × ((belongs t s ≡ true) × (taking r s ≡ answering (rollAfter r s))))
+      ⊎ ((unrefused t s ≡ false) × Refuses t r s)
+  unfolding taking takingAccepted unrefused
   taken-or-refused t h = go (isAccepted (judged s)) (hasNoSubTable s) (belongs t s) (isCurrent s) refl refl refl refl
     where
       go : (a n b c : Bool) → isAccepted (judged s) ≡ a → hasNoSubTable s ≡ n → belongs t s ≡ b → isCurrent s ≡ c
-          → ((takes t s ≡ true) × ((belongs t s ≡ true) × (taking r s ≡ answering (after r s))))
-          ⊎ ((takes t s ≡ false) × Refuses t r s)
+          → ((unrefused t s ≡ true) × ((belongs t s ≡ true) × (taking r s ≡ answering (rollAfter r s))))
+          ⊎ ((unrefused t s ≡ false) × Refuses t r s)
       go false n b c p q u v =
           inr (
             rw p,
@@ -69,14 +69,14 @@ module _ (r : Roll) (s : List ℕ) where
 
   -- alike, by the same tests, for two rolls that compare alike
   pub both-taken-or-refused : (q : Roll) → another r s ≡ another q s
-      → ((taking r s ≡ answering (after r s)) × (taking q s ≡ answering (after q s)))
+      → ((taking r s ≡ answering (rollAfter r s)) × (taking q s ≡ answering (rollAfter q s)))
       ⊎ ((k : ℕ) × (p : ℕ) × ((taking r s ≡ refusal r k p) × (taking q s ≡ refusal q k p)))
   unfolding taking takingAccepted
   both-taken-or-refused q h =
       go (isAccepted (judged s)) (hasNoSubTable s) (another q s) (isCurrent s) refl refl refl refl
     where
       go : (a n b c : Bool) → isAccepted (judged s) ≡ a → hasNoSubTable s ≡ n → another q s ≡ b → isCurrent s ≡ c
-          → ((taking r s ≡ answering (after r s)) × (taking q s ≡ answering (after q s)))
+          → ((taking r s ≡ answering (rollAfter r s)) × (taking q s ≡ answering (rollAfter q s)))
           ⊎ ((k : ℕ) × (p : ℕ) × ((taking r s ≡ refusal r k p) × (taking q s ≡ refusal q k p)))
       go false n b c e f u v = inr (numberOf (judged s), placeOf (judged s), (rw e, rw e))
       go true true b c e f u v = inr (83, 0, (rw (e, f), rw (e, f)))

@@ -11,7 +11,7 @@ use Rattle.wire.specs.Bytes.{Bytes}
 use Rattle.roll.specs.Answer.{Says, missing, complete, refusing}
 use Rattle.roll.specs.Marks.{Whole}
 use Rattle.roll.specs.Roll.{emptyRoll, taking}
-use Rattle.sequence.specs.Step.{FirstFor, Taken}
+use Rattle.sequence.specs.Step.{FirstFor, AfterTaking}
 use Rattle.sequence.proofs.MarkLaws.{unmarked-whole}
 use Rattle.head.proofs.Ids.{and-left, and-right}
 use Rattle.sequence.proofs.Exactly.{refuses-exactly-if, takes-else}
@@ -52,5 +52,5 @@ empty-whole : Whole (emptyRoll .marks)
 unfolding emptyRoll
 empty-whole = unmarked-whole
 
-pub higher-taken : Taken emptyRoll higher (taking emptyRoll higher)
+pub higher-taken : AfterTaking emptyRoll higher (taking emptyRoll higher)
 higher-taken = takes-else emptyRoll higher (taking emptyRoll higher) refl higher-bytes empty-whole none-refuses

@@ -15,8 +15,8 @@ use Rattle.roll.specs.Answer.{Says, missing, complete}
 use Rattle.roll.specs.Marks.{has, unmarked, marked, smallest, smallestMissing}
 use Rattle.head.specs.SubTable.{subTableOf, compared, sameIds}
 use Rattle.head.specs.Head.{versionIn, numberIn, lastIn}
-use Rattle.roll.specs.Roll.{another, startsAfresh, begunWith, continued, after, asked, Outcome, answering, taking}
-use Rattle.sequence.specs.Sequence.{belongs, takes, taken, Come, just, earlier, Answered, nothing, some, Kept, Agrees, empty, begun, Next, took, refused, AllBytes, none, more, Run, start, step, MarksAre, EachFares, AnswersAre}
+use Rattle.roll.specs.Roll.{another, startsAfresh, begunWith, continued, rollAfter, asked, Outcome, answering, taking}
+use Rattle.sequence.specs.Sequence.{belongs, unrefused, takenOf, Come, just, earlier, Answered, nothing, some, Kept, Agrees, empty, begun, Next, took, refused, AllBytes, none, more, Run, start, step, MarksAre, EachFares, AnswersAre}
 use Rattle.sequence.specs.Promise.{Promised, PromisedAsked}
 use Rattle.sequence.specs.Step.{Answers, all, least}
 use Rattle.sequence.proofs.MarkLaws.{unmarked-has-none, unmarked-whole, marked-whole, marked-has, marked-only, marked-more}
@@ -81,8 +81,8 @@ unfolding startsAfresh
 afresh-by r s e = rw e
 
 after-agrees : {t : List (List ℕ)} {r : Roll} → Agrees t r → (s : List ℕ) → Bytes s → belongs t s ≡ true
-    → Agrees (s ∷ t) (after r s)
-unfolding after startsAfresh
+    → Agrees (s ∷ t) (rollAfter r s)
+unfolding rollAfter startsAfresh
 after-agrees (empty e) s b h = rw e (afresh-agrees s [] b (λ n c. first-come c))
 after-agrees (begun {s = u} {t} {r} k sound whole) s b h =
     subst (λ (a : Bool). Agrees (s ∷ u ∷ t) (if a then begunWith s else continued r s)) (sym (afresh-by r s (k .begun)))
@@ -116,12 +116,12 @@ agrees-answers (begun {s} {t} {r} k sound whole) =
 
 -- one section more, and the roll after it
 next : {t : List (List ℕ)} {r : Roll} → Agrees t r → (s : List ℕ) → Bytes s
-    → Next t r s (taking r s) × ((takes t s ≡ true → Agrees (s ∷ t) (taking r s .roll)))
+    → Next t r s (taking r s) × ((unrefused t s ≡ true → Agrees (s ∷ t) (taking r s .roll)))
 next {t} {r} g s b = go (taken-or-refused r s t (another-agrees g s))
   where
-    go : ((takes t s ≡ true) × ((belongs t s ≡ true) × (taking r s ≡ answering (after r s))))
-        ⊎ ((takes t s ≡ false) × Refuses t r s)
-        → Next t r s (taking r s) × ((takes t s ≡ true → Agrees (s ∷ t) (taking r s .roll)))
+    go : ((unrefused t s ≡ true) × ((belongs t s ≡ true) × (taking r s ≡ answering (rollAfter r s))))
+        ⊎ ((unrefused t s ≡ false) × Refuses t r s)
+        → Next t r s (taking r s) × ((unrefused t s ≡ true → Agrees (s ∷ t) (taking r s .roll)))
     go (inl (p, (h, e))) =
         let a = after-agrees g s b h in (
           took p (subst (λ (o : Outcome). Answered (s ∷ t) (o .says)) (sym e) (agrees-answers a)),
@@ -129,27 +129,27 @@ next {t} {r} g s b = go (taken-or-refused r s t (another-agrees g s))
         )
     go (inr (p, y)) = (refused p (y .number) (y .place) (y .first) (y .same), λ q. absurd (false≢true (sym p ∙ q)))
 
-run-agrees : {given : List (List ℕ)} {r : Roll} → Run Promised given r → Agrees (taken given) r
-unfolding taken
+run-agrees : {given : List (List ℕ)} {r : Roll} → Run Promised given r → Agrees (takenOf given) r
+unfolding takenOf
 run-agrees (start r e) = empty e
 run-agrees (step {given} {r} x s b o is) =
     let g = run-agrees x in
-    subst (λ (o : Outcome). Agrees (taken (s ∷ given)) (o .roll)) (sym is) (go g (next g s b .0) (next g s b .1))
+    subst (λ (o : Outcome). Agrees (takenOf (s ∷ given)) (o .roll)) (sym is) (go g (next g s b .0) (next g s b .1))
   where
-    go : Agrees (taken given) r → Next (taken given) r s (taking r s)
-        → (takes (taken given) s ≡ true → Agrees (s ∷ taken given) (taking r s .roll))
-        → Agrees (taken (s ∷ given)) (taking r s .roll)
+    go : Agrees (takenOf given) r → Next (takenOf given) r s (taking r s)
+        → (unrefused (takenOf given) s ≡ true → Agrees (s ∷ takenOf given) (taking r s .roll))
+        → Agrees (takenOf (s ∷ given)) (taking r s .roll)
     go g (took p w) a = rw p (a p)
-    go g (refused p k j f same) a = rw p (subst (λ (o : Outcome). Agrees (taken given) (o .roll)) (sym same) g)
+    go g (refused p k j f same) a = rw p (subst (λ (o : Outcome). Agrees (takenOf given) (o .roll)) (sym same) g)
 
 pub marks-are : MarksAre Promised
 marks-are given r x = run-agrees x
 
 pub each-fares : EachFares Promised
-each-fares given r x s b o is = subst (Next (taken given) r s) (sym is) (next (marks-are given r x) s b .0)
+each-fares given r x s b o is = subst (Next (takenOf given) r s) (sym is) (next (marks-are given r x) s b .0)
 
 pub answers-are : AnswersAre Promised PromisedAsked
-answers-are given r x a is = subst (Answered (taken given)) (sym is) (agrees-answers (marks-are given r x))
+answers-are given r x a is = subst (Answered (takenOf given)) (sym is) (agrees-answers (marks-are given r x))
 
 -- what an answer of those says
 pub complete-all : {come : ℕ → Type 0} {last : ℕ} → Answers come last complete → (n : ℕ) → n ≤ last → come n

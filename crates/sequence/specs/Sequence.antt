@@ -24,8 +24,8 @@ belongs [] s = true
 belongs (u ∷ t) s = sameIds (subTableOf u) (subTableOf s)
 
 -- none of 1 to 10, 83, 82 and 81 applies to s, where t were taken before
-unfoldable pub takes : List (List ℕ) → List ℕ → Bool
-takes t s = isAccepted (judged s) && (not (hasNoSubTable s) && (belongs t s && isCurrent s))
+unfoldable pub unrefused : List (List ℕ) → List ℕ → Bool
+unrefused t s = isAccepted (judged s) && (not (hasNoSubTable s) && (belongs t s && isCurrent s))
 
 -- the first refusal that applies to s, its number and place, where t were taken before
 pub data FirstRefusal (t : List (List ℕ)) (s : List ℕ) : ℕ → ℕ → Type 0 where
@@ -40,9 +40,9 @@ pub data FirstRefusal (t : List (List ℕ)) (s : List ℕ) : ℕ → ℕ → Typ
       → FirstRefusal t s 81 0
 
 -- those that are taken, of all that were given
-unfoldable pub taken : List (List ℕ) → List (List ℕ)
-taken [] = []
-taken (s ∷ given) = if takes (taken given) s then s ∷ taken given else taken given
+unfoldable pub takenOf : List (List ℕ) → List (List ℕ)
+takenOf [] = []
+takenOf (s ∷ given) = if unrefused (takenOf given) s then s ∷ takenOf given else takenOf given
 
 -- the number has come since the last fresh start: with the last section taken; or before, where that one has the
 -- version and the last number of the one taken before it, since "A new version or last number starts it afresh"
@@ -78,8 +78,8 @@ pub data Agrees : List (List ℕ) → Roll → Type 0 where
 -- one section more, where t were taken before: taken exactly if none of the refusals applies, and then the answer is
 -- that of those taken; else refused with the first that applies, "itself unchanged"
 pub data Next (t : List (List ℕ)) (r : Roll) (s : List ℕ) (o : Outcome) : Type 0 where
-  took : takes t s ≡ true → Answered (s ∷ t) (o .says) → Next t r s o
-  refused : takes t s ≡ false → (k p : ℕ) → FirstRefusal t s k p → o ≡ refusal r k p → Next t r s o
+  took : unrefused t s ≡ true → Answered (s ∷ t) (o .says) → Next t r s o
+  refused : unrefused t s ≡ false → (k p : ℕ) → FirstRefusal t s k p → o ≡ refusal r k p → Next t r s o
 
 -- ---- calls, one after the other
 
@@ -93,15 +93,15 @@ pub data Run (take : Roller) : List (List ℕ) → Roll → Type 0 where
 module _ (take : Roller) where
   -- after any sections, the marks are the numbers that have come since the last fresh start, of those taken
   abbrev pub MarksAre : Type 0
-  MarksAre = (given : List (List ℕ)) (r : Roll) → Run take given r → Agrees (taken given) r
+  MarksAre = (given : List (List ℕ)) (r : Roll) → Run take given r → Agrees (takenOf given) r
 
   -- and each section more fares by those taken before it
   abbrev pub EachFares : Type 0
   EachFares = (given : List (List ℕ)) (r : Roll) → Run take given r → (s : List ℕ) → Bytes s → (o : Outcome)
-      → take r s o → Next (taken given) r s o
+      → take r s o → Next (takenOf given) r s o
 
   -- asked without a section: complete exactly if all numbers from 0 to the last have come since the last fresh start,
   -- else the smallest that has not
   abbrev pub AnswersAre : (Roll → Says → Type 0) → Type 0
   AnswersAre ask = (given : List (List ℕ)) (r : Roll) → Run take given r → (x : Says) → ask r x
-      → Answered (taken given) x
+      → Answered (takenOf given) x

@@ -49,7 +49,7 @@ pub data Answers (come : ℕ → Type 0) (last : ℕ) : Says → Type 0 where
   least : (n : ℕ) → n ≤ last → (come n → ⊥) → ((k : ℕ) → k < n → come k) → Answers come last (missing n)
 
 -- the roll and the answer after a section that is taken
-pub record Taken (r : Roll) (s : List ℕ) (o : Outcome) : Type 0 where
+pub record AfterTaking (r : Roll) (s : List ℕ) (o : Outcome) : Type 0 where
   pub begun : o .roll .begun ≡ true
   pub ids : OfSubTable (o .roll .«sub_table») s
   pub version : Versioned s (o .roll .version) 1
@@ -86,4 +86,4 @@ module _ (take : Roller) where
   -- "no other input is refused": every other section is taken
   abbrev pub TakesElse : Type 0
   TakesElse = (r : Roll) (s : List ℕ) (o : Outcome) → take r s o → Bytes s → Whole (r .marks)
-      → ((k p : ℕ) → FirstFor r s k p → ⊥) → Taken r s o
+      → ((k p : ℕ) → FirstFor r s k p → ⊥) → AfterTaking r s o

@@ -1,6 +1,6 @@
 -- `roll::stepping::with_section` meets its contract.
 use mathlib.Core.Path.{sym, _∙_}
-use Rattle.roll.specs.Roll.{after, continued}
+use Rattle.roll.specs.Roll.{rollAfter, continued}
 use borrow.Author.Needs.{needs}
 use Rattle.roll.proofs.stepping.with_section.Statement.{statement}
 use Rattle.roll.proofs.stepping.with_section.Tie as tie
@@ -12,7 +12,7 @@ begun-with-requires : tie.Need-begun-with-requires
 begun-with-requires c κs = search needs
 
 returns : tie.Need-returns
-unfolding after continued
+unfolding rollAfter continued
 returns c = rw (sym (c .before .before .starts-afresh .ensures) ∙ c .before .if1 .taken) (c .begun-with .ensures)
 
 number-of-requires : tie.Need-number-of-requires
@@ -22,7 +22,7 @@ mark-requires : tie.Need-mark-requires
 mark-requires c κs = search needs
 
 returns-2 : tie.Need-returns-2
-unfolding after continued
+unfolding rollAfter continued
 returns-2 c =
     let test = c .before .before .before .before in
     rw (sym (test .before .starts-afresh .ensures) ∙ test .if1 .left) (cc (c .before .mark .ensures, c .before .before .number-of .ensures))

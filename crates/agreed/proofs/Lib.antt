@@ -1,0 +1,2 @@
+-- What is proved of sheets and heads.
+pub mod HeadsShown

@@ -1,0 +1,2 @@
+-- What a section and its sheet agree on.
+pub mod Agreed
