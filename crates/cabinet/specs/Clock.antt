@@ -1,6 +1,7 @@
 -- What the readings of times, durations, offsets and dates say in numbers: 0 and the value, or the refusal and zeros.
 use lib.IntN.{ℤ, pos}
-use Rattle.wire.specs.Reading.{Reading, value, refused}
+use Rattle.wire.specs.Reading.{value, refused}
+use Rattle.clock.specs.Fault.{Answered, numberOf}
 use Rattle.clock.specs.declared.Hms.{Hms}
 use Rattle.clock.specs.declared.time.Moment as clock
 use Rattle.clock.specs.declared.time.Moment.the-variants.{Undefined, At}
@@ -29,9 +30,9 @@ abbrev pub noMoment : Moment
 noMoment = record { mjd = 0; hour = 0; minute = 0; second = 0; undefined = 0 }
 
 -- the time, or the refusal
-abbrev pub timeAnswer : Reading clock.Moment → TimeAnswer
+abbrev pub timeAnswer : Answered clock.Moment → TimeAnswer
 timeAnswer (value t) = record { number = 0; time = momentSays t }
-timeAnswer (refused k) = record { number = k; time = noMoment }
+timeAnswer (refused w) = record { number = numberOf w; time = noMoment }
 
 -- a duration's fields
 abbrev pub durationSays : Hms → Duration
@@ -42,14 +43,14 @@ abbrev pub noDuration : Duration
 noDuration = record { hour = 0; minute = 0; second = 0 }
 
 -- the duration, or the refusal
-abbrev pub durationAnswer : Reading Hms → DurationAnswer
+abbrev pub durationAnswer : Answered Hms → DurationAnswer
 durationAnswer (value t) = record { number = 0; duration = durationSays t }
-durationAnswer (refused k) = record { number = k; duration = noDuration }
+durationAnswer (refused w) = record { number = numberOf w; duration = noDuration }
 
 -- "An offset is signed minutes"
-abbrev pub offsetAnswer : Reading ℤ → OffsetAnswer
+abbrev pub offsetAnswer : Answered ℤ → OffsetAnswer
 offsetAnswer (value n) = record { number = 0; minutes = n }
-offsetAnswer (refused k) = record { number = k; minutes = pos 0 }
+offsetAnswer (refused w) = record { number = numberOf w; minutes = pos 0 }
 
 -- a date's fields
 abbrev pub dateSays : calendar.Date → Date
@@ -60,6 +61,6 @@ abbrev pub noDate : Date
 noDate = record { year = 0; month = 0; day = 0 }
 
 -- the date, or the refusal
-abbrev pub dateAnswer : Reading calendar.Date → DateAnswer
+abbrev pub dateAnswer : Answered calendar.Date → DateAnswer
 dateAnswer (value d) = record { number = 0; date = dateSays d }
-dateAnswer (refused k) = record { number = k; date = noDate }
+dateAnswer (refused w) = record { number = numberOf w; date = noDate }

@@ -1,6 +1,7 @@
 -- What the readings of the delivery systems say in numbers: 0 and the fields, or the refusal's number and zeros.
 use Prim.Native.Nat.{ℕ}
-use Rattle.wire.specs.Reading.{Reading, value, refused}
+use Rattle.wire.specs.Reading.{value, refused}
+use Rattle.clock.specs.Fault.{Answered, numberOf}
 use Rattle.delivery.specs.declared.satellite.System.{System}
 use Rattle.delivery.specs.declared.satellite.System.the-variants.{S, S2}
 use Rattle.delivery.specs.declared.satellite.Satellite as satellite
@@ -53,9 +54,9 @@ noSatellite = record {
 }
 
 -- the satellite delivery system, or the refusal
-abbrev pub satelliteAnswer : Reading satellite.Satellite → SatelliteAnswer
+abbrev pub satelliteAnswer : Answered satellite.Satellite → SatelliteAnswer
 satelliteAnswer (value f) = record { number = 0; satellite = satelliteSays f }
-satelliteAnswer (refused k) = record { number = k; satellite = noSatellite }
+satelliteAnswer (refused w) = record { number = numberOf w; satellite = noSatellite }
 
 -- the fields of a cable delivery system
 abbrev pub cableSays : cable.Cable → Cable
@@ -78,9 +79,9 @@ noCable = record {
 }
 
 -- the cable delivery system, or the refusal
-abbrev pub cableAnswer : Reading cable.Cable → CableAnswer
+abbrev pub cableAnswer : Answered cable.Cable → CableAnswer
 cableAnswer (value f) = record { number = 0; cable = cableSays f }
-cableAnswer (refused k) = record { number = k; cable = noCable }
+cableAnswer (refused w) = record { number = numberOf w; cable = noCable }
 
 -- the fields of a terrestrial delivery system
 abbrev pub terrestrialSays : terrestrial.Terrestrial → Terrestrial
@@ -117,6 +118,6 @@ noTerrestrial = record {
 }
 
 -- the terrestrial delivery system, or the refusal
-abbrev pub terrestrialAnswer : Reading terrestrial.Terrestrial → TerrestrialAnswer
+abbrev pub terrestrialAnswer : Answered terrestrial.Terrestrial → TerrestrialAnswer
 terrestrialAnswer (value f) = record { number = 0; terrestrial = terrestrialSays f }
-terrestrialAnswer (refused k) = record { number = k; terrestrial = noTerrestrial }
+terrestrialAnswer (refused w) = record { number = numberOf w; terrestrial = noTerrestrial }

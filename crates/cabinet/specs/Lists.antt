@@ -1,7 +1,8 @@
 -- What the readings of the descriptors that are lists say in numbers: 0 and the item, or the refusal's number and zeros.
 use Prim.Native.Nat.{ℕ}
 use lib.IntN.{pos}
-use Rattle.wire.specs.Reading.{Reading, value, refused}
+use Rattle.wire.specs.Reading.{value, refused}
+use Rattle.clock.specs.Fault.{Answered, numberOf}
 use Rattle.lists.specs.declared.service_list.Item as ServiceList
 use Rattle.lists.specs.declared.content.Item as Content
 use Rattle.lists.specs.declared.parental_rating.Item as ParentalRating
@@ -18,9 +19,9 @@ use Rattle.cabinet.specs.declared.list_readings.LocalTimeOffsetItem.{Loc
 use Rattle.cabinet.specs.declared.list_readings.LocalTimeOffsetAnswer.{LocalTimeOffsetAnswer}
 
 -- how many items there are, or the refusal
-abbrev pub countAnswer : Reading ℕ → CountAnswer
+abbrev pub countAnswer : Answered ℕ → CountAnswer
 countAnswer (value n) = record { number = 0; count = n }
-countAnswer (refused k) = record { number = k; count = 0 }
+countAnswer (refused w) = record { number = numberOf w; count = 0 }
 
 -- an item of 0x41 service list; zeros, where there is none; the one or the refusal
 abbrev pub serviceListSays : ServiceList.Item → ServiceListItem
@@ -29,9 +30,9 @@ serviceListSays i = record { «service_id» = i .«service_id»; «service_type�
 abbrev pub noServiceList : ServiceListItem
 noServiceList = record { «service_id» = 0; «service_type» = 0 }
 
-abbrev pub serviceListAnswer : Reading ServiceList.Item → ServiceListAnswer
+abbrev pub serviceListAnswer : Answered ServiceList.Item → ServiceListAnswer
 serviceListAnswer (value i) = record { number = 0; item = serviceListSays i }
-serviceListAnswer (refused k) = record { number = k; item = noServiceList }
+serviceListAnswer (refused w) = record { number = numberOf w; item = noServiceList }
 
 -- an item of 0x54 content; zeros, where there is none; the one or the refusal
 abbrev pub contentSays : Content.Item → ContentItem
@@ -44,9 +45,9 @@ contentSays i = record {
 abbrev pub noContent : ContentItem
 noContent = record { «content_nibble_level_1» = 0; «content_nibble_level_2» = 0; «user_byte» = 0 }
 
-abbrev pub contentAnswer : Reading Content.Item → ContentAnswer
+abbrev pub contentAnswer : Answered Content.Item → ContentAnswer
 contentAnswer (value i) = record { number = 0; item = contentSays i }
-contentAnswer (refused k) = record { number = k; item = noContent }
+contentAnswer (refused w) = record { number = numberOf w; item = noContent }
 
 -- an item of 0x55 parental rating; zeros, where there is none; the one or the refusal
 abbrev pub parentalRatingSays : ParentalRating.Item → ParentalRatingItem
@@ -55,9 +56,9 @@ parentalRatingSays i = record { «country_code» = i .«country_code»; rating =
 abbrev pub noParentalRating : ParentalRatingItem
 noParentalRating = record { «country_code» = 0; rating = 0 }
 
-abbrev pub parentalRatingAnswer : Reading ParentalRating.Item → ParentalRatingAnswer
+abbrev pub parentalRatingAnswer : Answered ParentalRating.Item → ParentalRatingAnswer
 parentalRatingAnswer (value i) = record { number = 0; item = parentalRatingSays i }
-parentalRatingAnswer (refused k) = record { number = k; item = noParentalRating }
+parentalRatingAnswer (refused w) = record { number = numberOf w; item = noParentalRating }
 
 -- an item of 0x58 local time offset; zeros, where there is none; the one or the refusal
 abbrev pub localTimeOffsetSays : LocalTimeOffset.Item → LocalTimeOffsetItem
@@ -78,6 +79,6 @@ noLocalTimeOffset = record {
   «next_time_offset» = pos 0;
 }
 
-abbrev pub localTimeOffsetAnswer : Reading LocalTimeOffset.Item → LocalTimeOffsetAnswer
+abbrev pub localTimeOffsetAnswer : Answered LocalTimeOffset.Item → LocalTimeOffsetAnswer
 localTimeOffsetAnswer (value i) = record { number = 0; item = localTimeOffsetSays i }
-localTimeOffsetAnswer (refused k) = record { number = k; item = noLocalTimeOffset }
+localTimeOffsetAnswer (refused w) = record { number = numberOf w; item = noLocalTimeOffset }

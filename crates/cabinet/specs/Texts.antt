@@ -1,5 +1,6 @@
 -- What the readings of the descriptors that hold texts say in numbers: 0 and the fields, or the refusal and zeros.
-use Rattle.wire.specs.Reading.{Reading, value, refused}
+use Rattle.wire.specs.Reading.{value, refused}
+use Rattle.clock.specs.Fault.{Answered, numberOf}
 use Rattle.layout.specs.declared.Part as layout
 use Rattle.texts.specs.declared.service.Service as service
 use Rattle.texts.specs.declared.short_event.ShortEvent as event
@@ -19,9 +20,9 @@ abbrev pub noPart : Part
 noPart = record { start = 0; size = 0 }
 
 -- 0x40 network name and 0x42 stuffing, or the refusal
-abbrev pub textAnswer : Reading layout.Part → TextAnswer
+abbrev pub textAnswer : Answered layout.Part → TextAnswer
 textAnswer (value p) = record { number = 0; text = partSays p }
-textAnswer (refused k) = record { number = k; text = noPart }
+textAnswer (refused w) = record { number = numberOf w; text = noPart }
 
 -- the fields of 0x48 service; zeros, where there is none; the one or the refusal
 abbrev pub serviceSays : service.Service → Service
@@ -34,9 +35,9 @@ serviceSays f = record {
 abbrev pub noService : Service
 noService = record { «service_type» = 0; «service_provider_name» = noPart; «service_name» = noPart }
 
-abbrev pub serviceAnswer : Reading service.Service → ServiceAnswer
+abbrev pub serviceAnswer : Answered service.Service → ServiceAnswer
 serviceAnswer (value f) = record { number = 0; service = serviceSays f }
-serviceAnswer (refused k) = record { number = k; service = noService }
+serviceAnswer (refused w) = record { number = numberOf w; service = noService }
 
 -- the fields of 0x4D short event; zeros, where there is none; the one or the refusal
 abbrev pub shortEventSays : event.ShortEvent → ShortEvent
@@ -49,6 +50,6 @@ shortEventSays f = record {
 abbrev pub noShortEvent : ShortEvent
 noShortEvent = record { «language_code» = 0; «event_name» = noPart; text = noPart }
 
-abbrev pub shortEventAnswer : Reading event.ShortEvent → ShortEventAnswer
+abbrev pub shortEventAnswer : Answered event.ShortEvent → ShortEventAnswer
 shortEventAnswer (value f) = record { number = 0; «short_event» = shortEventSays f }
-shortEventAnswer (refused k) = record { number = k; «short_event» = noShortEvent }
+shortEventAnswer (refused w) = record { number = numberOf w; «short_event» = noShortEvent }

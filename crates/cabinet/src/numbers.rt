@@ -1,6 +1,6 @@
 // Document 01's numbers of refusals, and flags as numbers.
 ghost use mathlib.Core.Path.{_≡_};
-ghost use Rattle.clock.specs.Fault.{numbered as faultNumbered};
+ghost use Rattle.clock.specs.Fault.{numberOf, numbered as faultNumbered};
 ghost use Rattle.layout.specs.Refusal.{numbered};
 ghost use Rattle.cabinet.specs.Numbers.{bit};
 use clock::Fault;
@@ -8,7 +8,7 @@ use layout::Refusal;
 
 // 63 to 65.
 pub fn of_fault(fault: Fault) -> u32
-    ensures { λ r. ⌜ r ≡ faultNumbered fault ⌝ }
+    ensures { λ r. ⌜ r ≡ numberOf (faultNumbered fault) ⌝ }
 {
     match fault {
         Fault::BadDigit => 63,
@@ -19,7 +19,7 @@ pub fn of_fault(fault: Fault) -> u32
 
 // 61 to 66.
 pub fn of_refusal(refusal: Refusal) -> u32
-    ensures { λ r. ⌜ r ≡ numbered refusal ⌝ }
+    ensures { λ r. ⌜ r ≡ numberOf (numbered refusal) ⌝ }
 {
     match refusal {
         Refusal::WrongTag => 61,

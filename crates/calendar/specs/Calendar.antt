@@ -5,8 +5,8 @@ use Prim.Native.Nat.{ℕ, zero, suc, _+_, _-_, _%_}
 use lib.Dec.{eqb, ltb}
 use lib.ListN.{getD}
 use Rattle.wire.specs.If.{if_then_else_}
-use Rattle.wire.specs.Reading.{Reading, value, refused, _>>=_}
-use Rattle.clock.specs.Fault.{numbered}
+use Rattle.wire.specs.Reading.{value, refused, _>>=_}
+use Rattle.clock.specs.Fault.{Answered, numbered}
 use Rattle.clock.specs.Time.{day}
 use Rattle.calendar.specs.declared.Date.{Date}
 use Rattle.calendar.specs.declared.Answer.{Answer}
@@ -41,10 +41,10 @@ unfoldable pub gregorian : ℕ → Date
 gregorian mjd = daysOn (mjd - 15079)
 
 -- "the date is the Gregorian one of the MJD"; "65 MJD below 15,079"
-unfoldable pub dateOf : ℕ → Reading Date
+unfoldable pub dateOf : ℕ → Answered Date
 dateOf mjd = day mjd >>= λ d. value (gregorian d)
 
 -- document 01's number for every answer
-abbrev pub told : Answer → Reading Date
+abbrev pub told : Answer → Answered Date
 told (Is t) = value t
 told (Refused f) = refused (numbered f)

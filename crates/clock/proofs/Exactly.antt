@@ -9,13 +9,14 @@ use native.Mathlib.Omega.{arith}
 use borrow.Author.Tests.{eqb-true, eq-eqb, ne-eqb, ltb-false, lt-ltb, le-ltb}
 use lib.Dec.{eqb, ltb}
 use lib.IntN.{ℤ, pos, negℤ, natAbs}
-use Rattle.wire.specs.Reading.{value, refused, _>>=_}
+use Rattle.wire.specs.Reading.{value, refused}
 use Rattle.wire.specs.Number.{number}
 use Rattle.wire.specs.Digits.{digit, bcdAfter, bcdOf, bcdShow}
 use Rattle.wire.proofs.ReadingLaws.{value-is, never, through}
 use Rattle.wire.proofs.IfLaws.{if-case}
 use Rattle.wire.proofs.Decimal.{bcd-bad}
 use Rattle.wire.proofs.Shown.{bcd-shown, bcd-of-shown, show-below}
+use Rattle.clock.specs.Fault.{plain}
 use Rattle.clock.specs.Field.{field, hms, InRange, Written}
 use Rattle.clock.specs.Time.{day, timeOf, Defined, timeShown}
 use Rattle.clock.specs.Duration.{durationOf}
@@ -43,12 +44,12 @@ module _ (limit b n : ℕ) (byte : b < 256) (most : limit ≤ 100) where
   )
 
 -- "63 BCD digit above 9"
-pub bad-digit : (limit b j : ℕ) → j < 2 → 9 < digit j b → field limit b ≡ refused 63
+pub bad-digit : (limit b j : ℕ) → j < 2 → 9 < digit j b → field limit b ≡ refused (plain 63)
 unfolding field
 bad-digit limit b j h g = rw (bcd-bad 2 b j h g)
 
 -- "64 hour above 23, minute or second above 59"
-pub out-of-range : (limit n : ℕ) → limit ≤ n → n < 100 → field limit (bcdShow 2 n) ≡ refused 64
+pub out-of-range : (limit n : ℕ) → limit ≤ n → n < 100 → field limit (bcdShow 2 n) ≡ refused (plain 64)
 unfolding field
 out-of-range limit n h g = rw (bcd-of-shown 2 n g, le-ltb n limit h)
 

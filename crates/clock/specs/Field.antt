@@ -3,9 +3,9 @@ use mathlib.Core.Path.{_≡_}
 use Prim.Native.Nat.{ℕ, _<_}
 use lib.Dec.{ltb}
 use Rattle.wire.specs.If.{if_then_else_}
-use Rattle.wire.specs.Reading.{Reading, value, refused, _>>=_}
+use Rattle.wire.specs.Reading.{value, refused, _>>=_}
 use Rattle.wire.specs.Digits.{bcdOf, bcdShow}
-use Rattle.clock.specs.Fault.{numbered}
+use Rattle.clock.specs.Fault.{Answered, plain, numbered}
 use Rattle.clock.specs.declared.Hms.{Hms}
 use Rattle.clock.specs.declared.field.Field.{Field}
 use Rattle.clock.specs.declared.field.Field.the-variants.{Is, Refused}
@@ -13,15 +13,15 @@ use Rattle.clock.specs.declared.field.Clock.{Clock}
 use Rattle.clock.specs.declared.field.Clock.the-variants as clock
 
 -- "64 hour above 23, minute or second above 59"
-abbrev pub below : ℕ → ℕ → Reading ℕ
-below limit n = if ltb n limit then value n else refused 64
+abbrev pub below : ℕ → ℕ → Answered ℕ
+below limit n = if ltb n limit then value n else refused (plain 64)
 
 -- two digits, and then the limit: "each 63, 64"
-unfoldable pub field : ℕ → ℕ → Reading ℕ
+unfoldable pub field : ℕ → ℕ → Answered ℕ
 field limit b = bcdOf 2 b >>= below limit
 
 -- hour, minute and second, "fields left to right"; the hour is below the limit
-unfoldable pub hms : ℕ → ℕ → ℕ → ℕ → Reading Hms
+unfoldable pub hms : ℕ → ℕ → ℕ → ℕ → Answered Hms
 hms limit h m s = do
   hour ← field limit h
   minute ← field 60 m
@@ -41,11 +41,11 @@ pub record Written (t : Hms) (h m s : ℕ) : Type 0 where
   pub second : bcdShow 2 (t .second) ≡ s
 
 -- document 01's number for every answer
-abbrev pub told : Field → Reading ℕ
+abbrev pub told : Field → Answered ℕ
 told (Is n) = value n
 told (Refused f) = refused (numbered f)
 
 -- and of a whole clock
-abbrev pub toldHms : Clock → Reading Hms
+abbrev pub toldHms : Clock → Answered Hms
 toldHms (clock.Is t) = value t
 toldHms (clock.Refused f) = refused (numbered f)

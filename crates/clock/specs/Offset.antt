@@ -2,9 +2,9 @@
 use mathlib.Core.Bool.{Bool, true, false}
 use Prim.Native.Nat.{ℕ, _+_, _*_, _/_, _%_}
 use lib.IntN.{ℤ, pos, negℤ, natAbs}
-use Rattle.wire.specs.Reading.{Reading, value, refused, _>>=_}
+use Rattle.wire.specs.Reading.{value, refused, _>>=_}
 use Rattle.wire.specs.Digits.{bcdShow}
-use Rattle.clock.specs.Fault.{numbered}
+use Rattle.clock.specs.Fault.{Answered, numbered}
 use Rattle.clock.specs.Field.{field}
 use Rattle.clock.specs.declared.offset.Answer.{Answer}
 use Rattle.clock.specs.declared.offset.Answer.the-variants.{Minutes, Refused}
@@ -15,7 +15,7 @@ signed true n = negℤ (pos n)
 signed false n = pos n
 
 -- hour and minute, "fields of their own too", as signed minutes
-unfoldable pub offsetOf : Bool → ℕ → ℕ → Reading ℤ
+unfoldable pub offsetOf : Bool → ℕ → ℕ → Answered ℤ
 offsetOf behind h m = do
   hour ← field 24 h
   minute ← field 60 m
@@ -26,6 +26,6 @@ abbrev pub offsetShown : ℤ → ℕ
 offsetShown z = bcdShow 2 (natAbs z / 60) * 256 + bcdShow 2 (natAbs z % 60)
 
 -- document 01's number for every answer
-abbrev pub told : Answer → Reading ℤ
+abbrev pub told : Answer → Answered ℤ
 told (Minutes n) = value n
 told (Refused f) = refused (numbered f)

@@ -1,9 +1,10 @@
 -- 0x44 cable delivery system: EN 300 468, clause 6.2.13.1.
 use mathlib.Core.List.{List, [], _∷_}
 use Prim.Native.Nat.{ℕ, _*_, _^_, _<_}
-use Rattle.wire.specs.Reading.{Reading, value, refused, _>>=_}
+use Rattle.wire.specs.Reading.{value, refused, _>>=_}
 use Rattle.wire.specs.Digits.{bcdShow}
 use Rattle.forms.specs.Fields.{Field, kept, reserved}
+use Rattle.clock.specs.Fault.{Answered}
 use Rattle.layout.specs.Refusal.{numbered}
 use Rattle.layout.specs.Body.{fixed}
 use Rattle.layout.specs.Widths.{size, bitsOf, byteOf, digitsOf}
@@ -28,7 +29,7 @@ layout =
     ∷ []
 
 -- each field by its index in the layout
-unfoldable pub fields : List ℕ → Reading Cable
+unfoldable pub fields : List ℕ → Answered Cable
 fields b = do
   frequency ← digitsOf layout 0 b
   rate ← digitsOf layout 4 b
@@ -41,7 +42,7 @@ fields b = do
   })
 
 -- the tag 0x44, and a body of the layout's 11 bytes
-unfoldable pub cable : List ℕ → Reading Cable
+unfoldable pub cable : List ℕ → Answered Cable
 cable s = fixed (size layout) 0x44 s >>= fields
 
 -- the values that its kept fields have, in the layout's order
@@ -59,6 +60,6 @@ abbrev pub Digits : Cable → Type 0
 Digits f = (f .frequency .0 < 10 ^ 8) × (f .«symbol_rate» < 10 ^ 7)
 
 -- document 01's number for every answer
-abbrev pub told : Answer → Reading Cable
+abbrev pub told : Answer → Answered Cable
 told (Is c) = value c
 told (Refused why) = refused (numbered why)

@@ -3,9 +3,10 @@ use mathlib.Core.List.{List, [], _∷_}
 use Prim.Native.Nat.{ℕ, _*_, _^_, _<_}
 use lib.Dec.{eqb}
 use Rattle.wire.specs.If.{if_then_else_}
-use Rattle.wire.specs.Reading.{Reading, value, refused, _>>=_}
+use Rattle.wire.specs.Reading.{value, refused, _>>=_}
 use Rattle.wire.specs.Digits.{bcdShow}
 use Rattle.forms.specs.Fields.{Field, kept, reserved}
+use Rattle.clock.specs.Fault.{Answered}
 use Rattle.layout.specs.Refusal.{numbered}
 use Rattle.layout.specs.Body.{fixed}
 use Rattle.layout.specs.Widths.{size, bitsOf, digitsOf, bit}
@@ -61,7 +62,7 @@ made b frequency position rate = record {
 }
 
 -- those numbers, left to right
-unfoldable pub fields : List ℕ → Reading Satellite
+unfoldable pub fields : List ℕ → Answered Satellite
 fields b = do
   frequency ← digitsOf layout 0 b
   position ← digitsOf layout 1 b
@@ -69,7 +70,7 @@ fields b = do
   value (made b frequency position rate)
 
 -- the tag 0x43, and a body of the layout's 11 bytes
-unfoldable pub satellite : List ℕ → Reading Satellite
+unfoldable pub satellite : List ℕ → Answered Satellite
 satellite s = fixed (size layout) 0x43 s >>= fields
 
 -- the values that the bits of a modulation system have, in front of others
@@ -91,6 +92,6 @@ abbrev pub Digits : Satellite → Type 0
 Digits f = (f .frequency .0 < 10 ^ 8) × (f .«orbital_position» < 10 ^ 4) × (f .«symbol_rate» < 10 ^ 7)
 
 -- document 01's number for every answer
-abbrev pub told : Answer → Reading Satellite
+abbrev pub told : Answer → Answered Satellite
 told (Is f) = value f
 told (Refused why) = refused (numbered why)

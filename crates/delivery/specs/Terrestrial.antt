@@ -2,8 +2,9 @@
 use mathlib.Core.List.{List, [], _∷_}
 use Prim.Native.Nat.{ℕ, _*_}
 use lib.Dec.{eqb}
-use Rattle.wire.specs.Reading.{Reading, value, refused, _>>=_}
+use Rattle.wire.specs.Reading.{value, refused, _>>=_}
 use Rattle.forms.specs.Fields.{Field, kept, reserved}
+use Rattle.clock.specs.Fault.{Answered}
 use Rattle.layout.specs.Refusal.{numbered}
 use Rattle.layout.specs.Body.{fixed}
 use Rattle.layout.specs.Widths.{size, bitsOf, numberOf, bit}
@@ -53,7 +54,7 @@ fields b = record {
 }
 
 -- the tag 0x5A, and a body of the layout's 11 bytes
-unfoldable pub terrestrial : List ℕ → Reading Terrestrial
+unfoldable pub terrestrial : List ℕ → Answered Terrestrial
 terrestrial s = fixed (size layout) 0x5A s >>= λ b. value (fields b)
 
 -- the values that its kept fields have, in the layout's order
@@ -74,6 +75,6 @@ shown f =
     ∷ []
 
 -- document 01's number for every answer
-abbrev pub told : Answer → Reading Terrestrial
+abbrev pub told : Answer → Answered Terrestrial
 told (Is f) = value f
 told (Refused why) = refused (numbered why)

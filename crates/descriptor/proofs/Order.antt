@@ -8,8 +8,9 @@ use native.Mathlib.Omega.{arith}
 use borrow.Author.Tests.{eqb-true, eq-eqb}
 use lib.Dec.{eqb}
 use lib.ListN.{length, getD}
-use Rattle.wire.specs.Reading.{Reading, value, refused, _>>=_}
+use Rattle.wire.specs.Reading.{value, refused, _>>=_}
 use Rattle.wire.proofs.IfLaws.{if-case, true-not-false}
+use Rattle.clock.specs.Fault.{Why, Answered, plain}
 use Rattle.layout.specs.Body.{framed, fixed, fit}
 use Rattle.layout.specs.Items.{items, count, place, item}
 use Rattle.layout.specs.Texts.{twoTexts}
@@ -31,53 +32,54 @@ use Rattle.delivery.specs.Terrestrial.{terrestrial}
 use Rattle.descriptor.specs.Order.{AnyBody, Sized, Items, Texts, InOrder, ListInOrder}
 
 -- what is refused in front is refused in all
-refused-on : {A B : Type 0} {n : ℕ} (r : Reading A) (f : A → Reading B) → r ≡ refused n → (r >>= f) ≡ refused n
+refused-on : {A B : Type 0} {w : Why} (r : Answered A) (f : A → Answered B) → r ≡ refused w → (r >>= f) ≡ refused w
 refused-on r f e = ap (λ x. x >>= f) e
 
 -- ---- the frame, and a body judged behind it
 
-module _ {A : Type 0} (tag : ℕ) (f : List ℕ → Reading A) where
-  no-tag : (s : List ℕ) → NoTag tag s → (framed tag s >>= f) ≡ refused 61
+module _ {A : Type 0} (tag : ℕ) (f : List ℕ → Answered A) where
+  no-tag : (s : List ℕ) → NoTag tag s → (framed tag s >>= f) ≡ refused (plain 61)
   no-tag s h = refused-on (framed tag s) f (wrong-tag-exactly tag s .1 h)
 
   -- 62, where no body that stands in the frame is read
-  no-fit : (s : List ℕ) → (NoTag tag s → ⊥) → ((b : List ℕ) → Framed tag s b → f b ≡ refused 62)
-      → (framed tag s >>= f) ≡ refused 62
+  no-fit : (s : List ℕ) → (NoTag tag s → ⊥) → ((b : List ℕ) → Framed tag s b → f b ≡ refused (plain 62))
+      → (framed tag s >>= f) ≡ refused (plain 62)
   unfolding framed
   no-fit [] h g = absurd (h tt)
   no-fit (t ∷ []) h g =
-      if-case (λ x. (x >>= f) ≡ refused 62) (eqb t tag) (λ _. refl)
+      if-case (λ x. (x >>= f) ≡ refused (plain 62)) (eqb t tag) (λ _. refl)
       (λ q. absurd (h (λ e. true-not-false (sym (eq-eqb t tag e) ∙ q))))
   no-fit (t ∷ n ∷ b) h g =
-      if-case (λ x. (x >>= f) ≡ refused 62) (eqb t tag)
-      (λ p. if-case (λ x. (x >>= f) ≡ refused 62) (eqb n (length b))
+      if-case (λ x. (x >>= f) ≡ refused (plain 62)) (eqb t tag)
+      (λ p. if-case (λ x. (x >>= f) ≡ refused (plain 62)) (eqb n (length b))
       (λ q. g b (ap₂ (λ x y. x ∷ y ∷ b) (eqb-true t tag p) (eqb-true n (length b) q))) (λ _. refl))
       (λ q. absurd (h (λ e. true-not-false (sym (eq-eqb t tag e) ∙ q))))
 
-any-order : {A : Type 0} (tag : ℕ) (f : List ℕ → Reading A) → InOrder tag (AnyBody tag) (λ s. framed tag s >>= f)
+any-order : {A : Type 0} (tag : ℕ) (f : List ℕ → Answered A) → InOrder tag (AnyBody tag) (λ s. framed tag s >>= f)
 any-order tag f = record { tag-first = no-tag tag f; then-body = λ s h g. no-fit tag f s h (λ b e. absurd (g (b, e))) }
 
 -- ---- a body of n bytes
 
-fixed-order : {A : Type 0} (n tag : ℕ) (f : List ℕ → Reading A) → InOrder tag (Sized n tag) (λ s. fixed n tag s >>= f)
+fixed-order : {A : Type 0} (n tag : ℕ) (f : List ℕ → Answered A) → InOrder tag (Sized n tag) (λ s. fixed n tag s >>= f)
 unfolding fixed
 fixed-order n tag f = record {
   tag-first = λ s h. refused-on (fixed n tag s) f (no-tag tag _ s h);
   then-body = λ s h g. refused-on (fixed n tag s) f (no-fit tag _ s h (λ b e.
-      if-case (λ x. x ≡ refused 62) (eqb (length b) n) (λ q. absurd (g (b, e, eqb-true (length b) n q))) (λ _. refl)));
+      if-case (λ x. x ≡ refused (plain 62)) (eqb (length b) n)
+      (λ q. absurd (g (b, e, eqb-true (length b) n q))) (λ _. refl)));
 }
 
 -- ---- two texts
 
-not-read : (h : ℕ) (b : List ℕ) → ((t : TwoTexts) → twoTexts h b ≡ value t → ⊥) → twoTexts h b ≡ refused 62
+not-read : (h : ℕ) (b : List ℕ) → ((t : TwoTexts) → twoTexts h b ≡ value t → ⊥) → twoTexts h b ≡ refused (plain 62)
 unfolding twoTexts
 not-read h b =
     let a : ℕ = getD b h 0 in
     let n : ℕ = getD b (h + 1 + a) 0 in
-    if-case (λ x. ((t : TwoTexts) → x ≡ value t → ⊥) → x ≡ refused 62) (eqb (length b) (h + 2 + a + n))
+    if-case (λ x. ((t : TwoTexts) → x ≡ value t → ⊥) → x ≡ refused (plain 62)) (eqb (length b) (h + 2 + a + n))
     (λ _ g. absurd (g _ refl)) (λ _ g. refl)
 
-texts-order : {A : Type 0} (h tag : ℕ) (f : TwoTexts → List ℕ → Reading A)
+texts-order : {A : Type 0} (h tag : ℕ) (f : TwoTexts → List ℕ → Answered A)
     → InOrder tag (Texts h tag) (λ s. framed tag s >>= λ b. twoTexts h b >>= λ t. f t b)
 texts-order h tag f = record {
   tag-first = no-tag tag _;
@@ -102,10 +104,10 @@ module _ (k tag : ℕ) (some : 0 < k) where
   items-order = record {
     tag-first = no-tag tag _;
     then-body = λ s h g. no-fit tag _ s h (λ b e.
-        if-case (λ x. x ≡ refused 62) (eqb (length b % k) 0) (λ q. absurd (g (cut s b e q))) (λ _. refl));
+        if-case (λ x. x ≡ refused (plain 62)) (eqb (length b % k) 0) (λ q. absurd (g (cut s b e q))) (λ _. refl));
   }
 
-  item-order : {A : Type 0} (f : List ℕ → Reading A) → ListInOrder k tag (λ s i. item k tag s i >>= f)
+  item-order : {A : Type 0} (f : List ℕ → Answered A) → ListInOrder k tag (λ s i. item k tag s i >>= f)
   unfolding item place
   item-order f = record {
     at = λ i. record {

@@ -15,6 +15,7 @@ use Rattle.wire.specs.Reading.{value, refused, _>>=_}
 use Rattle.wire.proofs.ReadingLaws.{value-is, never, refused-is, through}
 use Rattle.wire.proofs.IfLaws.{if-case, true-not-false}
 use Rattle.wire.proofs.PartLaws.{part-front}
+use Rattle.clock.specs.Fault.{plain, numberOf}
 use Rattle.layout.specs.Body.{framed, fixed, fit, lengthed}
 use Rattle.layout.specs.Items.{items, count, place, item}
 use Rattle.layout.specs.Texts.{twoTexts}
@@ -34,7 +35,7 @@ fit-is t b c =
     if-case (λ x. x ≡ value c → (t ≡ true) × (b ≡ c)) t (λ h e. (h, value-is e)) (λ _ e. absurd (never (sym e)))
 
 -- 61 and 62 for the frame, each exactly where it is given
-pub wrong-tag-exactly : (tag : ℕ) (s : List ℕ) → framed tag s ≡ refused 61 ↔ NoTag tag s
+pub wrong-tag-exactly : (tag : ℕ) (s : List ℕ) → framed tag s ≡ refused (plain 61) ↔ NoTag tag s
 unfolding framed
 wrong-tag-exactly tag [] = (λ _. tt, λ _. refl)
 wrong-tag-exactly tag (t ∷ rest) = (
@@ -42,30 +43,32 @@ wrong-tag-exactly tag (t ∷ rest) = (
   λ h. rw (ne-eqb t tag h),
 )
   where
-    sixty-one : (r : List ℕ) → lengthed r ≡ refused 61 → _≡_ {A = ℕ} 61 62
-    sixty-one [] = λ e. refused-is (sym e)
+    sixty-one : (r : List ℕ) → lengthed r ≡ refused (plain 61) → _≡_ {A = ℕ} 61 62
+    sixty-one [] = λ e. ap numberOf (refused-is (sym e))
     sixty-one (n ∷ b) =
-        if-case (λ x. x ≡ refused 61 → _≡_ {A = ℕ} 61 62) (eqb n (length b)) (λ _ e. absurd (never e))
-        (λ _ e. refused-is (sym e))
+        if-case (λ x. x ≡ refused (plain 61) → _≡_ {A = ℕ} 61 62) (eqb n (length b)) (λ _ e. absurd (never e))
+        (λ _ e. ap numberOf (refused-is (sym e)))
 
-pub no-body-exactly : (tag : ℕ) (s : List ℕ) → framed tag s ≡ refused 62 ↔ NoBody tag s
+pub no-body-exactly : (tag : ℕ) (s : List ℕ) → framed tag s ≡ refused (plain 62) ↔ NoBody tag s
 unfolding framed
 no-body-exactly tag s = (
   λ e. (
-    λ h. let z = refused-is (sym (wrong-tag-exactly tag s .1 h) ∙ e) in absurd (omega arith),
+    λ h.
+        let z : _≡_ {A = ℕ} 61 62 = ap numberOf (refused-is (sym (wrong-tag-exactly tag s .1 h) ∙ e)) in
+        absurd (omega arith),
     λ b h. never (sym (framed-exactly tag s b .1 h) ∙ e),
   ),
   back s,
 )
   where
-    back : (l : List ℕ) → NoBody tag l → framed tag l ≡ refused 62
+    back : (l : List ℕ) → NoBody tag l → framed tag l ≡ refused (plain 62)
     back [] h = absurd (h .0 tt)
     back (t ∷ []) h =
-        if-case (λ x. x ≡ refused 62) (eqb t tag) (λ _. refl)
+        if-case (λ x. x ≡ refused (plain 62)) (eqb t tag) (λ _. refl)
         (λ q. absurd (h .0 (λ e. true-not-false (sym (eq-eqb t tag e) ∙ q))))
     back (t ∷ n ∷ b) h =
-        if-case (λ x. x ≡ refused 62) (eqb t tag)
-        (λ p. if-case (λ x. x ≡ refused 62) (eqb n (length b))
+        if-case (λ x. x ≡ refused (plain 62)) (eqb t tag)
+        (λ p. if-case (λ x. x ≡ refused (plain 62)) (eqb n (length b))
         (λ q. absurd (h .1 b (ap₂ (λ x y. x ∷ y ∷ b) (eqb-true t tag p) (eqb-true n (length b) q)))) (λ _. refl))
         (λ q. absurd (h .0 (λ e. true-not-false (sym (eq-eqb t tag e) ∙ q))))
 
@@ -176,7 +179,7 @@ module _ (k tag : ℕ) (some : 0 < k) (s : List ℕ) where
         (ap (take k) (sym (drop-drop (k * i) 2 s) ∙ ap (λ l. drop (k * i) (drop 2 l)) (are .framed))
         ∙ item-at k xs i (are .each) h))
 
-    pub item-past : length xs ≤ i → item k tag s i ≡ refused 66
+    pub item-past : length xs ≤ i → item k tag s i ≡ refused (plain 66)
     unfolding item place
     item-past h = rw (body-of xs are, number-of xs are, le-ltb i (length xs) h)
 

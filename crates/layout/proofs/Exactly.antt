@@ -12,6 +12,7 @@ use Rattle.wire.specs.Reading.{value, refused}
 use Rattle.wire.proofs.ReadingLaws.{value-is, never, through}
 use Rattle.wire.proofs.IfLaws.{if-case}
 use Rattle.wire.proofs.PartLaws.{part-front}
+use Rattle.clock.specs.Fault.{plain}
 use Rattle.layout.specs.Refusal.{partAt, bytesOf}
 use Rattle.layout.specs.Body.{lengthed, framed}
 use Rattle.layout.specs.Items.{items, count, place}
@@ -112,7 +113,7 @@ module _ (k tag : ℕ) (s : List ℕ) (i : ℕ) where
       let q : length (t .0) / k ≡ n = value-is (t .2) in
       rw (t .1, q, lt-ltb i n h)
 
-  pub index-past : (n : ℕ) → count k tag s ≡ value n → n ≤ i → place k tag s i ≡ refused 66
+  pub index-past : (n : ℕ) → count k tag s ≡ value n → n ≤ i → place k tag s i ≡ refused (plain 66)
   unfolding count place
   index-past n e h =
       let t = through (items k tag s) _ n e in

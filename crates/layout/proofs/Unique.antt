@@ -28,28 +28,32 @@ use Rattle.layout.specs.declared.texts.Texts.{Texts}
 use Rattle.layout.specs.declared.texts.Texts.the-variants.{Are, DoNotFit}
 
 -- a field's fault has a number between those of the other refusals
-between : (f : Fault) → (62 < fault.numbered f) × (fault.numbered f < 66)
+between : (f : Fault) → (62 < fault.numberOf (fault.numbered f)) × (fault.numberOf (fault.numbered f) < 66)
 between BadDigit = (omega arith, omega arith)
 between OutOfRange = (omega arith, omega arith)
 between TooEarly = (omega arith, omega arith)
 
+by-number : (p q : Refusal) → numbered p ≡ numbered q → fault.numberOf (numbered p) ≡ fault.numberOf (numbered q)
+    → p ≡ q
+by-number WrongTag WrongTag e n = refl
+by-number WrongTag DoesNotFit e n = absurd (omega arith)
+by-number WrongTag PastEnd e n = absurd (omega arith)
+by-number WrongTag (Field g) e n = absurd (omega (arith, between g))
+by-number DoesNotFit WrongTag e n = absurd (omega arith)
+by-number DoesNotFit DoesNotFit e n = refl
+by-number DoesNotFit PastEnd e n = absurd (omega arith)
+by-number DoesNotFit (Field g) e n = absurd (omega (arith, between g))
+by-number PastEnd WrongTag e n = absurd (omega arith)
+by-number PastEnd DoesNotFit e n = absurd (omega arith)
+by-number PastEnd PastEnd e n = refl
+by-number PastEnd (Field g) e n = absurd (omega (arith, between g))
+by-number (Field f) WrongTag e n = absurd (omega (arith, between f))
+by-number (Field f) DoesNotFit e n = absurd (omega (arith, between f))
+by-number (Field f) PastEnd e n = absurd (omega (arith, between f))
+by-number (Field f) (Field g) e n = ap Field (fault-once f g e)
+
 pub refusal-once : (p q : Refusal) → numbered p ≡ numbered q → p ≡ q
-refusal-once WrongTag WrongTag e = refl
-refusal-once WrongTag DoesNotFit e = absurd (omega arith)
-refusal-once WrongTag PastEnd e = absurd (omega arith)
-refusal-once WrongTag (Field g) e = absurd (omega (arith, between g))
-refusal-once DoesNotFit WrongTag e = absurd (omega arith)
-refusal-once DoesNotFit DoesNotFit e = refl
-refusal-once DoesNotFit PastEnd e = absurd (omega arith)
-refusal-once DoesNotFit (Field g) e = absurd (omega (arith, between g))
-refusal-once PastEnd WrongTag e = absurd (omega arith)
-refusal-once PastEnd DoesNotFit e = absurd (omega arith)
-refusal-once PastEnd PastEnd e = refl
-refusal-once PastEnd (Field g) e = absurd (omega (arith, between g))
-refusal-once (Field f) WrongTag e = absurd (omega (arith, between f))
-refusal-once (Field f) DoesNotFit e = absurd (omega (arith, between f))
-refusal-once (Field f) PastEnd e = absurd (omega (arith, between f))
-refusal-once (Field f) (Field g) e = ap Field (fault-once f g e)
+refusal-once p q e = by-number p q e (ap fault.numberOf e)
 
 pub body-once : (s : List ℕ) (p q : Body) → body.told s p ≡ body.told s q → p ≡ q
 body-once s Fits Fits e = refl

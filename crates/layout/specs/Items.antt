@@ -4,7 +4,8 @@ use Prim.Native.Nat.{ℕ, _+_, _*_, _/_, _%_}
 use lib.Dec.{eqb, ltb}
 use lib.ListN.{length, take, drop}
 use Rattle.wire.specs.If.{if_then_else_}
-use Rattle.wire.specs.Reading.{Reading, value, refused, _>>=_}
+use Rattle.wire.specs.Reading.{value, refused, _>>=_}
+use Rattle.clock.specs.Fault.{Answered, plain}
 use Rattle.layout.specs.Refusal.{numbered}
 use Rattle.layout.specs.Body.{framed, fit}
 use Rattle.layout.specs.declared.items.Count.{Count}
@@ -13,27 +14,28 @@ use Rattle.layout.specs.declared.items.Place.{Place}
 use Rattle.layout.specs.declared.items.Place.the-variants as answer
 
 -- 62, "body doesn't fit the layout exactly": its size is no multiple of k
-unfoldable pub items : ℕ → ℕ → List ℕ → Reading (List ℕ)
+unfoldable pub items : ℕ → ℕ → List ℕ → Answered (List ℕ)
 items k tag s = framed tag s >>= λ body. fit (eqb (length body % k) 0) body
 
 -- how many items there are
-unfoldable pub count : ℕ → ℕ → List ℕ → Reading ℕ
+unfoldable pub count : ℕ → ℕ → List ℕ → Answered ℕ
 count k tag s = items k tag s >>= λ body. value (length body / k)
 
 -- "66 index past the end": where the item of an index counted from 0 starts, counted from the tag as 0
-unfoldable pub place : ℕ → ℕ → List ℕ → ℕ → Reading ℕ
-place k tag s index = items k tag s >>= λ body. if ltb index (length body / k) then value (2 + k * index) else refused 66
+unfoldable pub place : ℕ → ℕ → List ℕ → ℕ → Answered ℕ
+place k tag s index =
+    items k tag s >>= λ body. if ltb index (length body / k) then value (2 + k * index) else refused (plain 66)
 
 -- the bytes of that item
-unfoldable pub item : ℕ → ℕ → List ℕ → ℕ → Reading (List ℕ)
+unfoldable pub item : ℕ → ℕ → List ℕ → ℕ → Answered (List ℕ)
 item k tag s index = place k tag s index >>= λ at. value (take k (drop at s))
 
 -- document 01's number for every answer
-abbrev pub toldCount : Count → Reading ℕ
+abbrev pub toldCount : Count → Answered ℕ
 toldCount (Items n) = value n
 toldCount (Refused why) = refused (numbered why)
 
 -- and of a place
-abbrev pub toldPlace : Place → Reading ℕ
+abbrev pub toldPlace : Place → Answered ℕ
 toldPlace (answer.At at) = value at
 toldPlace (answer.Refused why) = refused (numbered why)

@@ -9,10 +9,10 @@ use Rattle.layout.specs.declared.Part.{Part}
 
 -- "61 no byte, or tag differs; 62 length byte missing or not the number of bytes after it, or body doesn't fit the layout exactly;
 -- 66 index past the end"; 63 to 65 are a field's
-abbrev pub numbered : Refusal → ℕ
-numbered WrongTag = 61
-numbered DoesNotFit = 62
-numbered PastEnd = 66
+abbrev pub numbered : Refusal → fault.Why
+numbered WrongTag = fault.plain 61
+numbered DoesNotFit = fault.plain 62
+numbered PastEnd = fault.plain 66
 numbered (Field f) = fault.numbered f
 
 -- the n bytes of the body at a place, as a part of the descriptor, whose body follows two bytes

@@ -5,9 +5,9 @@ use mathlib.Core.Path.{_≡_}
 use mathlib.Core.Bool.{Bool, true, false}
 use mathlib.Core.List.{List, [], _∷_}
 use lib.ListN.{length, getD, take}
-use Rattle.wire.specs.Reading.{Reading}
 use Rattle.wire.specs.Number.{number, numberAt, bitsAt}
 use Rattle.forms.specs.Fields.{Field, kept, reserved, width, unpack}
+use Rattle.clock.specs.Fault.{Answered}
 use Rattle.layout.specs.Field.{digitsAt}
 use Rattle.layout.specs.Shapes.{Framed, Itemed, Texted}
 use Rattle.layout.specs.declared.texts.TwoTexts.{TwoTexts}
@@ -48,7 +48,7 @@ abbrev pub numberOf : List Field → ℕ → List ℕ → ℕ
 numberOf fs i b = numberAt (widthOf fs i / 8) b (place fs i)
 
 -- a field of BCD digits, the first of them the high half of a byte
-abbrev pub digitsOf : List Field → ℕ → List ℕ → Reading ℕ
+abbrev pub digitsOf : List Field → ℕ → List ℕ → Answered ℕ
 digitsOf fs i b = digitsAt (widthOf fs i / 4) b (place fs i)
 
 -- the values of the fields that are kept

@@ -1,8 +1,9 @@
 -- 0x54 content: EN 300 468, clause 6.2.9.
 use mathlib.Core.List.{List, [], _∷_}
 use Prim.Native.Nat.{ℕ}
-use Rattle.wire.specs.Reading.{Reading, value, refused, _>>=_}
+use Rattle.wire.specs.Reading.{value, refused, _>>=_}
 use Rattle.forms.specs.Fields.{Field, kept}
+use Rattle.clock.specs.Fault.{Answered}
 use Rattle.layout.specs.Refusal.{numbered}
 use Rattle.layout.specs.Items.{item, count}
 use Rattle.layout.specs.Widths.{size, bitsOf, byteOf}
@@ -23,11 +24,11 @@ abbrev pub fields : List ℕ → Item
 fields b = record { «content_nibble_level_1» = bitsOf layout 0 b; «content_nibble_level_2» = bitsOf layout 1 b; «user_byte» = byteOf layout 2 b }
 
 -- the item of an index, of a body of items of the layout's 2 bytes behind the tag 0x54
-unfoldable pub content : List ℕ → ℕ → Reading Item
+unfoldable pub content : List ℕ → ℕ → Answered Item
 content s index = item (size layout) 0x54 s index >>= λ b. value (fields b)
 
 -- how many there are
-abbrev pub contentCount : List ℕ → Reading ℕ
+abbrev pub contentCount : List ℕ → Answered ℕ
 contentCount s = count (size layout) 0x54 s
 
 -- the values that its fields have, in the layout's order
@@ -35,6 +36,6 @@ abbrev pub shown : Item → List ℕ
 shown i = i .«content_nibble_level_1» ∷ i .«content_nibble_level_2» ∷ i .«user_byte» ∷ []
 
 -- document 01's number for every answer
-abbrev pub told : Answer → Reading Item
+abbrev pub told : Answer → Answered Item
 told (Is i) = value i
 told (Refused why) = refused (numbered why)

@@ -6,9 +6,10 @@ use Prim.Native.Nat.{ℕ, _+_, _<_}
 use lib.IntN.{ℤ, natAbs}
 use lib.Dec.{eqb}
 use lib.ListN.{getD}
-use Rattle.wire.specs.Reading.{Reading, value, refused, _>>=_}
+use Rattle.wire.specs.Reading.{value, refused, _>>=_}
 use Rattle.wire.specs.Number.{numberAt}
 use Rattle.forms.specs.Fields.{Field, kept, reserved}
+use Rattle.clock.specs.Fault.{Answered}
 use Rattle.clock.specs.Offset.{signed, offsetOf, offsetShown}
 use Rattle.clock.specs.Time.{timeOf, Defined, timeShown}
 use Rattle.clock.specs.declared.time.Moment.{Moment}
@@ -32,15 +33,15 @@ layout =
     ∷ []
 
 -- an offset of 16 bits at a place of the item: hour and minute in BCD, and the polarity that serves both offsets
-unfoldable pub offsetAt : List ℕ → ℕ → Reading ℤ
+unfoldable pub offsetAt : List ℕ → ℕ → Answered ℤ
 offsetAt b at = offsetOf (eqb (bitsOf layout 3 b) 1) (getD b at 0) (getD b (at + 1) 0)
 
 -- a time of 40 bits at a place of the item: MJD 16, then hour, minute and second in BCD
-unfoldable pub timeAt : List ℕ → ℕ → Reading Moment
+unfoldable pub timeAt : List ℕ → ℕ → Answered Moment
 timeAt b at = timeOf (numberAt 2 b at) (getD b (at + 2) 0) (getD b (at + 3) 0) (getD b (at + 4) 0)
 
 -- each field by its index in the layout
-unfoldable pub fields : List ℕ → Reading Item
+unfoldable pub fields : List ℕ → Answered Item
 fields b = do
   local ← offsetAt b (place layout 4)
   change ← timeAt b (place layout 5)
@@ -54,11 +55,11 @@ fields b = do
   })
 
 -- the item of an index, of a body of items of the layout's 13 bytes behind the tag 0x58
-unfoldable pub localTimeOffset : List ℕ → ℕ → Reading Item
+unfoldable pub localTimeOffset : List ℕ → ℕ → Answered Item
 localTimeOffset s index = item (size layout) 0x58 s index >>= fields
 
 -- how many there are
-abbrev pub offsetCount : List ℕ → Reading ℕ
+abbrev pub offsetCount : List ℕ → Answered ℕ
 offsetCount s = count (size layout) 0x58 s
 
 -- the values that its kept fields have, in the layout's order; one polarity serves both offsets
@@ -83,6 +84,6 @@ pub record Right (behind : Bool) (i : Item) : Type 0 where
   pub next : Signed behind (i .«next_time_offset»)
 
 -- document 01's number for every answer
-abbrev pub told : Answer → Reading Item
+abbrev pub told : Answer → Answered Item
 told (Is i) = value i
 told (Refused why) = refused (numbered why)

@@ -1,8 +1,9 @@
 -- 0x55 parental rating: EN 300 468, clause 6.2.28.
 use mathlib.Core.List.{List, [], _∷_}
 use Prim.Native.Nat.{ℕ}
-use Rattle.wire.specs.Reading.{Reading, value, refused, _>>=_}
+use Rattle.wire.specs.Reading.{value, refused, _>>=_}
 use Rattle.forms.specs.Fields.{Field, kept}
+use Rattle.clock.specs.Fault.{Answered}
 use Rattle.layout.specs.Refusal.{numbered}
 use Rattle.layout.specs.Items.{item, count}
 use Rattle.layout.specs.Widths.{size, byteOf, numberOf}
@@ -22,11 +23,11 @@ abbrev pub fields : List ℕ → Item
 fields b = record { «country_code» = numberOf layout 0 b; rating = byteOf layout 1 b }
 
 -- the item of an index, of a body of items of the layout's 4 bytes behind the tag 0x55
-unfoldable pub parentalRating : List ℕ → ℕ → Reading Item
+unfoldable pub parentalRating : List ℕ → ℕ → Answered Item
 parentalRating s index = item (size layout) 0x55 s index >>= λ b. value (fields b)
 
 -- how many there are
-abbrev pub ratingCount : List ℕ → Reading ℕ
+abbrev pub ratingCount : List ℕ → Answered ℕ
 ratingCount s = count (size layout) 0x55 s
 
 -- the values that its fields have, in the layout's order
@@ -34,6 +35,6 @@ abbrev pub shown : Item → List ℕ
 shown i = i .«country_code» ∷ i .rating ∷ []
 
 -- document 01's number for every answer
-abbrev pub told : Answer → Reading Item
+abbrev pub told : Answer → Answered Item
 told (Is i) = value i
 told (Refused why) = refused (numbered why)

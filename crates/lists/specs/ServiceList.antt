@@ -1,8 +1,9 @@
 -- 0x41 service list: EN 300 468, clause 6.2.35.
 use mathlib.Core.List.{List, [], _∷_}
 use Prim.Native.Nat.{ℕ}
-use Rattle.wire.specs.Reading.{Reading, value, refused, _>>=_}
+use Rattle.wire.specs.Reading.{value, refused, _>>=_}
 use Rattle.forms.specs.Fields.{Field, kept}
+use Rattle.clock.specs.Fault.{Answered}
 use Rattle.layout.specs.Refusal.{numbered}
 use Rattle.layout.specs.Items.{item, count}
 use Rattle.layout.specs.Widths.{size, byteOf, numberOf}
@@ -22,11 +23,11 @@ abbrev pub fields : List ℕ → Item
 fields b = record { «service_id» = numberOf layout 0 b; «service_type» = byteOf layout 1 b }
 
 -- the item of an index, of a body of items of the layout's 3 bytes behind the tag 0x41
-unfoldable pub serviceList : List ℕ → ℕ → Reading Item
+unfoldable pub serviceList : List ℕ → ℕ → Answered Item
 serviceList s index = item (size layout) 0x41 s index >>= λ b. value (fields b)
 
 -- how many there are
-abbrev pub serviceCount : List ℕ → Reading ℕ
+abbrev pub serviceCount : List ℕ → Answered ℕ
 serviceCount s = count (size layout) 0x41 s
 
 -- the values that its fields have, in the layout's order
@@ -34,6 +35,6 @@ abbrev pub shown : Item → List ℕ
 shown i = i .«service_id» ∷ i .«service_type» ∷ []
 
 -- document 01's number for every answer
-abbrev pub told : Answer → Reading Item
+abbrev pub told : Answer → Answered Item
 told (Is i) = value i
 told (Refused why) = refused (numbered why)

@@ -1,8 +1,9 @@
 -- 0x4D short event: EN 300 468, clause 6.2.37.
 use mathlib.Core.List.{List, [], _∷_}
 use Prim.Native.Nat.{ℕ}
-use Rattle.wire.specs.Reading.{Reading, value, refused, _>>=_}
+use Rattle.wire.specs.Reading.{value, refused, _>>=_}
 use Rattle.forms.specs.Fields.{Field, kept}
+use Rattle.clock.specs.Fault.{Answered}
 use Rattle.layout.specs.Refusal.{numbered}
 use Rattle.layout.specs.Body.{framed}
 use Rattle.layout.specs.Texts.{twoTexts}
@@ -18,13 +19,13 @@ layout = kept 24  -- 0 language_code
     ∷ []
 
 -- behind it the length of the name, 8 bits, and the name; then the length of the text, 8 bits, and the text to the end
-unfoldable pub fields : List ℕ → Reading ShortEvent
+unfoldable pub fields : List ℕ → Answered ShortEvent
 fields b = do
   parts ← twoTexts (size layout) b
   value (record { «language_code» = numberOf layout 0 b; «event_name» = parts .first; text = parts .second })
 
 -- the tag 0x4D, and a body of those fields
-unfoldable pub shortEvent : List ℕ → Reading ShortEvent
+unfoldable pub shortEvent : List ℕ → Answered ShortEvent
 shortEvent s = framed 0x4D s >>= fields
 
 -- its two texts
@@ -32,6 +33,6 @@ abbrev pub texts : ShortEvent → TwoTexts
 texts f = record { first = f .«event_name»; second = f .text }
 
 -- document 01's number for every answer
-abbrev pub told : Answer → Reading ShortEvent
+abbrev pub told : Answer → Answered ShortEvent
 told (Is f) = value f
 told (Refused why) = refused (numbered why)

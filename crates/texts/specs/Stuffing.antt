@@ -1,10 +1,10 @@
 -- 0x42 stuffing: EN 300 468, clause 6.2.40.
 use mathlib.Core.List.{List}
 use Prim.Native.Nat.{ℕ}
-use Rattle.wire.specs.Reading.{Reading}
+use Rattle.clock.specs.Fault.{Answered}
 use Rattle.layout.specs.declared.Part.{Part}
 use Rattle.texts.specs.Whole.{whole}
 
 -- 0.. stuffing bytes, any value
-unfoldable pub stuffing : List ℕ → Reading Part
+unfoldable pub stuffing : List ℕ → Answered Part
 stuffing s = whole 0x42 s

@@ -2,7 +2,8 @@
 use mathlib.Core.List.{List}
 use Prim.Native.Nat.{ℕ}
 use lib.ListN.{length}
-use Rattle.wire.specs.Reading.{Reading, value, refused, _>>=_}
+use Rattle.wire.specs.Reading.{value, refused, _>>=_}
+use Rattle.clock.specs.Fault.{Answered}
 use Rattle.layout.specs.Refusal.{numbered, partAt}
 use Rattle.layout.specs.Body.{framed}
 use Rattle.layout.specs.declared.Part.{Part}
@@ -10,10 +11,10 @@ use Rattle.texts.specs.declared.whole.Answer.{Answer}
 use Rattle.texts.specs.declared.whole.Answer.the-variants.{Is, Refused}
 
 -- all bytes of the body behind a tag
-unfoldable pub whole : ℕ → List ℕ → Reading Part
+unfoldable pub whole : ℕ → List ℕ → Answered Part
 whole tag s = framed tag s >>= λ b. value (partAt 0 (length b))
 
 -- document 01's number for every answer
-abbrev pub told : Answer → Reading Part
+abbrev pub told : Answer → Answered Part
 told (Is bytes) = value bytes
 told (Refused why) = refused (numbered why)

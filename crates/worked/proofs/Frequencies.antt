@@ -4,9 +4,10 @@ use mathlib.Core.Path.{_≡_, refl, sym, ap, _∙_}
 use mathlib.Core.List.{List, _∷_, _++_}
 use lib.Dec.{eqb}
 use lib.ListN.{length}
-use Rattle.wire.specs.Reading.{Reading, value, refused, _>>=_}
+use Rattle.wire.specs.Reading.{value, refused, _>>=_}
 use Rattle.wire.proofs.ReadingLaws.{value-is, never, through}
 use Rattle.wire.proofs.IfLaws.{if-case}
+use Rattle.clock.specs.Fault.{Answered}
 use Rattle.layout.specs.Body.{framed, fixed, fit}
 use Rattle.layout.specs.Field.{digitsAt}
 use Rattle.layout.proofs.Exactly.{framed-is}
@@ -32,20 +33,22 @@ body-is tag l b e = go (through (framed tag (tag ∷ 11 ∷ l)) (λ body. fit (e
 
 module _ {A : Type 0} (count : A → ℕ) where
   -- the number that is read first is the count of what is read in all
-  first-is : (r : Reading ℕ) (k : ℕ → Reading A) → ((n : ℕ) (a : A) → k n ≡ value a → count a ≡ n) → (a : A) → (r >>= k) ≡ value a
-      → r ≡ value (count a)
+  first-is : (r : Answered ℕ) (k : ℕ → Answered A) → ((n : ℕ) (a : A) → k n ≡ value a → count a ≡ n) → (a : A)
+      → (r >>= k) ≡ value a → r ≡ value (count a)
   first-is (value n) k h a e = ap value (sym (h n a e))
   first-is (refused m) k h a e = absurd (never (sym e))
 
   -- what is read behind it does not alter it
-  stays : {n : ℕ} (r : Reading ℕ) (k : ℕ → Reading A) → ((m : ℕ) (a : A) → k m ≡ value a → count a ≡ n) → (a : A) → (r >>= k) ≡ value a → count a ≡ n
+  stays : {n : ℕ} (r : Answered ℕ) (k : ℕ → Answered A) → ((m : ℕ) (a : A) → k m ≡ value a → count a ≡ n) → (a : A)
+      → (r >>= k) ≡ value a → count a ≡ n
   stays (value m) k h a e = h m a e
   stays (refused m) k h a e = absurd (never (sym e))
 
-  is-count : {n : ℕ} (c a : A) → count c ≡ n → _≡_ {A = Reading A} (value c) (value a) → count a ≡ n
+  is-count : {n : ℕ} (c a : A) → count c ≡ n → _≡_ {A = Answered A} (value c) (value a) → count a ≡ n
   is-count c a h e = sym (ap count (value-is e)) ∙ h
 
-  module _ (tag : ℕ) (fields : List ℕ → Reading A) (first : (b : List ℕ) (a : A) → fields b ≡ value a → digitsAt 8 b 0 ≡ value (count a)) where
+  module _ (tag : ℕ) (fields : List ℕ → Answered A)
+      (first : (b : List ℕ) (a : A) → fields b ≡ value a → digitsAt 8 b 0 ≡ value (count a)) where
     by-digits : (l : List ℕ) (n : ℕ) → digitsAt 8 l 0 ≡ value n → (a : A) → (fixed 11 tag (tag ∷ 11 ∷ l) >>= fields) ≡ value a → count a ≡ n
     by-digits l n d a e = go (through (fixed 11 tag (tag ∷ 11 ∷ l)) fields a e)
       where

@@ -8,6 +8,7 @@ use borrow.Author.Tests.{lt-ltb, le-ltb, ne-eqb}
 use lib.Dec.{eqb}
 use Rattle.wire.specs.Reading.{value, refused}
 use Rattle.wire.specs.Number.{number}
+use Rattle.clock.specs.Fault.{Why, numberOf}
 use Rattle.clock.specs.Field.{hms}
 use Rattle.clock.specs.Time.{timeOf}
 use Rattle.clock.specs.declared.Hms.{Hms}
@@ -58,12 +59,12 @@ every-clock mjd d low high valid number t right =
 pub no-day : (mjd : ℕ) → mjd < 15079 → holds (noDay mjd 65)
 unfolding timeOf dateOf
 no-day mjd l = (
-  rw (lt-ltb mjd 15079 l),
+  rw (lt-ltb mjd 15079 l) refl,
   λ h m s i j k.
       let e : number (mjd ∷ h ∷ m ∷ s ∷ []) ≡ 0xFF_FFFF_FFFF → ⊥ = λ e. omega arith in
-      rw (ne-eqb (number (mjd ∷ h ∷ m ∷ s ∷ [])) 0xFF_FFFF_FFFF e, lt-ltb mjd 15079 l),
+      rw (ne-eqb (number (mjd ∷ h ∷ m ∷ s ∷ [])) 0xFF_FFFF_FFFF e, lt-ltb mjd 15079 l) refl,
 )
 
-pub no-clock : (h m s k : ℕ) → s < 255 → hms 24 h m s ≡ refused k → holds (noClock h m s k)
+pub no-clock : (h m s : ℕ) (w : Why) → s < 255 → hms 24 h m s ≡ refused w → holds (noClock h m s (numberOf w))
 unfolding timeOf
-no-clock h m s k l e mjd low = rw (not-ones mjd h m s l, le-ltb mjd 15079 low, e)
+no-clock h m s w l e mjd low = rw (not-ones mjd h m s l, le-ltb mjd 15079 low, e) refl

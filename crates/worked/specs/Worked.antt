@@ -4,11 +4,12 @@ use Prim.Native.Nat.{ℕ, _<_, _≤_}
 use mathlib.Core.Path.{_≡_}
 use mathlib.Core.List.{List, [], _∷_, _++_}
 use lib.ListN.{getD, take, set}
-use Rattle.wire.specs.Reading.{Reading, value, refused, _>>=_}
+use Rattle.wire.specs.Reading.{value, _>>=_}
 use Rattle.wire.specs.Number.{numberAt}
 use Rattle.verdict.specs.Verdict.{Said, accepted, refused as refusedAt}
 use Rattle.section.specs.Reading.{judged}
 use Rattle.wire.specs.Digits.{bcdShow}
+use Rattle.clock.specs.Fault.{Answered, RefusedAs}
 use Rattle.clock.specs.Field.{InRange}
 use Rattle.clock.specs.Time.{timeOf}
 use Rattle.clock.specs.declared.Hms.{Hms}
@@ -27,13 +28,13 @@ pub data Case : Type 0 where
   judge : List ℕ → Said → Case
   -- a section, accepted, and the date and the clock of its UTC_time
   time : List ℕ → Date → Hms → Case
-  -- an MJD that is refused, whatever the clock
+  -- an MJD that is refused with a number, whatever the clock
   noDay : ℕ → ℕ → Case
   -- an MJD and its date, at every legal clock
   day : ℕ → Date → Case
   -- an MJD with the digits of hour, minute and second, and the date and the clock
   dayAt : ℕ → ℕ → ℕ → ℕ → Date → Hms → Case
-  -- digits of hour, minute and second that are refused, on whatever day
+  -- digits of hour, minute and second that are refused with a number, on whatever day
   noClock : ℕ → ℕ → ℕ → ℕ → Case
   -- the four bytes of a frequency, and its steps
   cableSteps : List ℕ → CableFrequency → Case
@@ -55,7 +56,8 @@ abbrev pub zeros : List ℕ
 zeros = 0 ∷ 0 ∷ 0 ∷ 0 ∷ 0 ∷ 0 ∷ 0 ∷ []
 
 -- a delivery system whose frequency has these four bytes: what follows them does not alter the count, and there is one that is read
-pub record Counted {A F : Type 0} (tag : ℕ) (read : List ℕ → Reading A) (frequency : A → F) (bytes : List ℕ) (count : F) : Type 0 where
+pub record Counted {A F : Type 0} (tag : ℕ) (read : List ℕ → Answered A) (frequency : A → F) (bytes : List ℕ) (count : F)
+    : Type 0 where
   pub always : (behind : List ℕ) (a : A) → read (tag ∷ 11 ∷ (bytes ++ behind)) ≡ value a → frequency a ≡ count
   pub once : (read (tag ∷ 11 ∷ (bytes ++ zeros)) >>= λ a. value (frequency a)) ≡ value count
 
@@ -69,11 +71,11 @@ abbrev pub holds : Case → Type 0
 holds (judge s v) = judged s ≡ v
 holds (time s d t) = (judged s ≡ accepted) × Told (numberAt 2 s 3) (getD s 5 0) (getD s 6 0) (getD s 7 0) d t
 holds (noDay mjd k) =
-    (dateOf mjd ≡ refused k) × ((h m s : ℕ) → h < 256 → m < 256 → s < 256 → timeOf mjd h m s ≡ refused k)
+    RefusedAs k (dateOf mjd) × ((h m s : ℕ) → h < 256 → m < 256 → s < 256 → RefusedAs k (timeOf mjd h m s))
 holds (day mjd d) =
     (t : Hms) → InRange 24 t → Told mjd (bcdShow 2 (t .hour)) (bcdShow 2 (t .minute)) (bcdShow 2 (t .second)) d t
 holds (dayAt mjd h m s d t) = Told mjd h m s d t
-holds (noClock h m s k) = (mjd : ℕ) → 15079 ≤ mjd → timeOf mjd h m s ≡ refused k
+holds (noClock h m s k) = (mjd : ℕ) → 15079 ≤ mjd → RefusedAs k (timeOf mjd h m s)
 holds (cableSteps f n) = Counted 0x44 cable (λ c. c .frequency) f n
 holds (satelliteSteps f n) = Counted 0x43 satellite (λ c. c .frequency) f n
 holds (loop l ds v gs) = (descriptors 0 l ≡ record { items = ds; ends = v }) × Gave l 0 gs
