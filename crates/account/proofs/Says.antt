@@ -195,11 +195,7 @@ module _ (input hold₀ out₀ : List ℕ) (enough : 188 ≤ length input) (hold
         taken-is = tally .taken-is ∙ counts oneTaken;
         repeated-is = tally .repeated-is ∙ counts oneRepeated;
         refused-is = tally .refused-is ∙ counts oneRefused;
-        pointer-is = c .pointer-is;
-        delivered-is = c .delivered-is;
-        broken-is = c .broken-is;
-        filler-is = c .filler-is;
-        skipped-is = c .skipped-is;
+        counters-are = c .counters-are;
         in-hand-is = c .in-hand-is;
         sections-is = tally .sections-is ∙ sections;
       }

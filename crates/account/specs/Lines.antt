@@ -7,8 +7,8 @@ use lib.Dec.{eqb}
 use lib.ListN.{length, take}
 use Rattle.wire.specs.If.{if_then_else_}
 use Rattle.collector.specs.Packet.{pidOf}
-use Rattle.collector.specs.Rules.{pointer, delivered, broken, filler, skipped, in-hand, Story, countOf, noneBefore}
-use Rattle.collector.specs.Collected.{freshRecord}
+use Rattle.collector.specs.Rules.{Kind, in-hand, done, Story, countOf, noneBefore}
+use Rattle.collector.specs.Collected.{bytesCounted, freshRecord}
 use Rattle.history.specs.History.{Byte, historyOf}
 use Rattle.history.specs.Run.{Promised, Call, Run, Fare, refused, repeated, taken, Lent, faresFrom, takenFrom}
 use Rattle.account.specs.Entered.{pieces}
@@ -86,11 +86,7 @@ pub record Lines (input : List ℕ) (a : Account) : Type 0 where
   pub taken-is : a .taken ≡ total oneTaken (faresIn input) % 2 ^ 64
   pub repeated-is : a .repeated ≡ total oneRepeated (faresIn input) % 2 ^ 64
   pub refused-is : a .refused ≡ total oneRefused (faresIn input) % 2 ^ 64
-  pub pointer-is : a .rec .pointer ≡ countOf pointer (storyIn input .marks) % 2 ^ 32
-  pub delivered-is : a .rec .delivered ≡ countOf delivered (storyIn input .marks) % 2 ^ 32
-  pub broken-is : a .rec .broken ≡ countOf broken (storyIn input .marks) % 2 ^ 32
-  pub filler-is : a .rec .filler ≡ countOf filler (storyIn input .marks) % 2 ^ 32
-  pub skipped-is : a .rec .skipped ≡ countOf skipped (storyIn input .marks) % 2 ^ 32
+  pub counters-are : (k : Kind) → bytesCounted (done k) (a .rec) ≡ countOf (done k) (storyIn input .marks) % 2 ^ 32
   pub in-hand-is : a .rec .in_hand ≡ countOf in-hand (storyIn input .marks)
   pub sections-is : a .sections ≡ length (storyIn input .sections) % 2 ^ 64
 

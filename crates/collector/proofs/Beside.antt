@@ -8,7 +8,7 @@ use native.Mathlib.Omega.{arith}
 use lib.ListN.{length, take, drop, length-append}
 use lib.Dec.{eqb}
 use Rattle.wire.specs.If.{if_then_else_}
-use Rattle.collector.specs.Rules.{Fate, pointer, delivered, broken, filler, skipped, in-hand, Story, sameFate, bytesOf, countOf, handOf, given, settled, brokenOff, finished, Mode, begin, inside, filling, skipping, breaking, Next, Size, going, whole, over, sizeOf, Before, follows, plain, Carried, begun, grown, resumed, joined, byteIn, stretch, goesOn, sectionsIn, payload, takenIn}
+use Rattle.collector.specs.Rules.{Fate, pointer, delivered, broken, filler, skipped, done, in-hand, Story, sameFate, bytesOf, countOf, handOf, given, settled, brokenOff, finished, Mode, begin, inside, filling, skipping, breaking, Next, Size, going, whole, over, sizeOf, Before, follows, plain, Carried, begun, grown, resumed, joined, byteIn, stretch, goesOn, sectionsIn, payload, takenIn}
 use Rattle.collector.proofs.Marks.{bytesOf-more, settled-hand, settled-count}
 
 -- ---- lists
@@ -78,13 +78,13 @@ module _ {A : Type 0} (value : A → ℕ) where
     settled-hands g h s S = ap (map value) (settled-hand g h (S .marks)) ∙ sym (settled-hand g h (s .marks))
 
     pub beside-broken : (s : Story ℕ) (S : Story A) → Beside base secs s S → Beside base secs (brokenOff s) (brokenOff S)
-    beside-broken s S x = record { hand = settled-hands broken refl s S; sections = x .sections; counts = settled-counts broken s S x }
+    beside-broken s S x = record { hand = settled-hands (done broken) refl s S; sections = x .sections; counts = settled-counts (done broken) s S x }
 
     beside-finished : (s : Story ℕ) (S : Story A) → Beside base secs s S → Beside base secs (finished s) (finished S)
     beside-finished s S x = record {
-      hand = settled-hands delivered refl s S;
+      hand = settled-hands (done delivered) refl s S;
       sections = map-append (map value) (S .sections) (handOf S ∷ []) ∙ ap (λ (l : List (List ℕ)). l ++ (map value (handOf S) ∷ [])) (x .sections) ∙ append-assoc secs (s .sections) (map value (handOf S) ∷ []) ∙ ap (λ (l : List ℕ). secs ++ (s .sections ++ (l ∷ []))) (x .hand);
-      counts = settled-counts delivered s S x;
+      counts = settled-counts (done delivered) s S x;
     }
 
     -- ---- a byte, and a stretch
@@ -94,7 +94,7 @@ module _ {A : Type 0} (value : A → ℕ) where
       story : Beside base secs (n .story) (N .story)
 
     beside-begun : (t : Bool) (b : A) (s : Story ℕ) (S : Story A) → Beside base secs s S → BesideAt (begun t (value b) s) (begun t b S)
-    beside-begun true b s S x = record { mode = refl; story = beside-given filler b s S x }
+    beside-begun true b s S x = record { mode = refl; story = beside-given (done filler) b s S x }
     beside-begun false b s S x = record { mode = refl; story = beside-given in-hand b s S x }
 
     beside-grown : (after : Mode) (z : Size) (s : Story ℕ) (S : Story A) → Beside base secs s S → BesideAt (grown after z s) (grown after z S)
@@ -111,9 +111,9 @@ module _ {A : Type 0} (value : A → ℕ) where
     beside-byte after inside b s S x =
         subst (λ (z : Size). BesideAt (grown after z (given in-hand (value b) s)) (grown after (sizeOf (map value (handOf S ++ (b ∷ [])))) (given in-hand b S))) (sym (same-size b s S x))
         (beside-grown after (sizeOf (map value (handOf S ++ (b ∷ [])))) (given in-hand (value b) s) (given in-hand b S) (beside-given in-hand b s S x))
-    beside-byte after filling b s S x = record { mode = refl; story = beside-given filler b s S x }
-    beside-byte after skipping b s S x = record { mode = refl; story = beside-given skipped b s S x }
-    beside-byte after breaking b s S x = record { mode = refl; story = beside-given broken b s S x }
+    beside-byte after filling b s S x = record { mode = refl; story = beside-given (done filler) b s S x }
+    beside-byte after skipping b s S x = record { mode = refl; story = beside-given (done skipped) b s S x }
+    beside-byte after breaking b s S x = record { mode = refl; story = beside-given (done broken) b s S x }
 
     beside-stretch : (after : Mode) (n : Next ℕ) (N : Next A) (bs : List A) → BesideAt n N → BesideAt (stretch plain after n (map value bs)) (stretch value after N bs)
     beside-stretch after n N [] x = x
@@ -133,10 +133,10 @@ module _ {A : Type 0} (value : A → ℕ) where
     beside-payload false s S bs x = beside-goes s S bs x
     beside-payload true s S [] x = x
     beside-payload true s S (p ∷ bs) x =
-        let y = beside-goes (given pointer (value p) s) (given pointer p S) (take (value p) bs) (beside-given pointer p s S x) in
+        let y = beside-goes (given (done pointer) (value p) s) (given (done pointer) p S) (take (value p) bs) (beside-given (done pointer) p s S x) in
         let z = beside-sections _ _ (drop (value p) bs) (beside-broken _ _ y) in
-        subst (λ (l : List ℕ). Beside base secs (sectionsIn plain (brokenOff (goesOn plain (given pointer (value p) s) l)) (drop (value p) (map value bs))) (payload value true S (p ∷ bs))) (sym (map-take (value p) bs))
-        (subst (λ (l : List ℕ). Beside base secs (sectionsIn plain (brokenOff (goesOn plain (given pointer (value p) s) (map value (take (value p) bs)))) l) (payload value true S (p ∷ bs))) (sym (map-drop (value p) bs)) z)
+        subst (λ (l : List ℕ). Beside base secs (sectionsIn plain (brokenOff (goesOn plain (given (done pointer) (value p) s) l)) (drop (value p) (map value bs))) (payload value true S (p ∷ bs))) (sym (map-take (value p) bs))
+        (subst (λ (l : List ℕ). Beside base secs (sectionsIn plain (brokenOff (goesOn plain (given (done pointer) (value p) s) (map value (take (value p) bs)))) l) (payload value true S (p ∷ bs))) (sym (map-drop (value p) bs)) z)
 
     beside-joined : (t : Bool) (s : Story ℕ) (S : Story A) → Beside base secs s S → Beside base secs (joined t s) (joined t S)
     beside-joined true s S x = x

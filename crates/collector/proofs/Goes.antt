@@ -8,7 +8,7 @@ use native.Mathlib.Omega.{arith}
 use lib.ListN.{length, take, drop, length-drop}
 use lib.Seq.{paste, length-take-le, take-append-add, take-take}
 use Rattle.wire.specs.If.{if_then_else_}
-use Rattle.collector.specs.Rules.{Fate, delivered, broken, filler, skipped, in-hand, Mark, Story, sameFate, outOfHand, handOf, marked, settled, brokenOff, finished, holding, Mode, inside, filling, skipping, Next, totalOf, joined, resumed, plain, stretch, goesOn}
+use Rattle.collector.specs.Rules.{Fate, delivered, broken, filler, skipped, done, in-hand, Mark, Story, sameFate, outOfHand, handOf, marked, settled, brokenOff, finished, holding, Mode, inside, filling, skipping, Next, totalOf, joined, resumed, plain, stretch, goesOn}
 use Rattle.collector.specs.Collected.{over}
 use Rattle.collector.specs.Inner.Stretch.{LookSays, Ends, CanStand}
 use Rattle.collector.specs.declared.stretch.Look.{Look}
@@ -41,15 +41,15 @@ resumed-in [] k = absurd (omega arith)
 resumed-in (b ∷ h) k = refl
 
 -- where nothing is unfinished, it is the same whether it would be kept
-joined-made : (keep : Bool) (g : Fate) (secs : List (List ℕ)) (l : List ℕ) → outOfHand broken g ≡ g → joined keep (all g l (made secs)) ≡ all g l (made secs)
+joined-made : (keep : Bool) (g : Fate) (secs : List (List ℕ)) (l : List ℕ) → outOfHand (done broken) g ≡ g → joined keep (all g l (made secs)) ≡ all g l (made secs)
 joined-made true g secs l e = refl
 joined-made false g secs l e = λ i. record { marks = marks-is i; sections = secs }
   where
-    marks-is : settled broken (marked delivered (flatten secs) ++ marked g l) ≡ marked delivered (flatten secs) ++ marked g l
+    marks-is : settled (done broken) (marked (done delivered) (flatten secs) ++ marked g l) ≡ marked (done delivered) (flatten secs) ++ marked g l
     marks-is =
-        settled-append broken (marked delivered (flatten secs)) (marked g l)
-        ∙ ap (λ (z : List (Mark ℕ)). z ++ settled broken (marked g l)) (settled-marked broken delivered (flatten secs))
-        ∙ ap (λ (z : List (Mark ℕ)). marked delivered (flatten secs) ++ z) (settled-marked broken g l ∙ ap (λ (f : Fate). marked f l) e)
+        settled-append (done broken) (marked (done delivered) (flatten secs)) (marked g l)
+        ∙ ap (λ (z : List (Mark ℕ)). z ++ settled (done broken) (marked g l)) (settled-marked (done broken) (done delivered) (flatten secs))
+        ∙ ap (λ (z : List (Mark ℕ)). marked (done delivered) (flatten secs) ++ z) (settled-marked (done broken) g l ∙ ap (λ (f : Fate). marked f l) e)
 
 -- ---- what the code finds
 
@@ -92,17 +92,17 @@ module _ {hold p : List ℕ} {n from m : ℕ} (x : Given hold p n from m) (out :
 
   -- the answer where all bytes have one fate
   end-one : (g : Fate) (bs : List ℕ) → joined keep (goesOn plain (holding h) l) ≡ all g bs (made []) → (hold′ : List ℕ) (r : Came) → r .sections ≡ 0 → r .bytes ≡ 0
-      → r .in_hand ≡ length (if sameFate in-hand g then bs else []) → r .broken ≡ length (if sameFate broken g then bs else [])
-      → r .filler ≡ length (if sameFate filler g then bs else []) → r .skipped ≡ length (if sameFate skipped g then bs else [])
+      → r .in_hand ≡ length (if sameFate in-hand g then bs else []) → r .broken ≡ length (if sameFate (done broken) g then bs else [])
+      → r .filler ≡ length (if sameFate (done filler) g then bs else []) → r .skipped ≡ length (if sameFate (done skipped) g then bs else [])
       → hold′ ≡ over (if sameFate in-hand g then bs else []) hold → End hold′ out r
   end-one g bs e hold′ r e₁ e₂ e₃ e₄ e₅ e₆ e₇ = ends-as (all g bs (made [])) e (ends-made g [] bs hold out 0 hold′ out r e₁ (e₂ ∙ no-bytes) e₃ e₄ e₅ e₆ e₇ out-same)
 
   pub end-none : n ≡ 0 → End hold out (answer 0 0 0 0 0 m)
   end-none e =
       let empty : h ≡ [] = ap (λ (k : ℕ). take k hold) e in
-      let is : goesOn plain (holding h) l ≡ all skipped l (made []) =
-      ap (λ (z : List ℕ). goesOn plain (holding z) l) empty ∙ ap (λ (z : Next ℕ). z .story) (pass filling skipping skipped (λ b s. refl) (holding []) l) ∙ ap (λ (z : Story ℕ). all skipped l z) nothing in
-      end-one skipped l (ap (joined keep) is ∙ joined-made keep skipped [] l refl) hold (answer 0 0 0 0 0 m) refl refl refl refl refl l-long refl
+      let is : goesOn plain (holding h) l ≡ all (done skipped) l (made []) =
+      ap (λ (z : List ℕ). goesOn plain (holding z) l) empty ∙ ap (λ (z : Next ℕ). z .story) (pass filling skipping (done skipped) (λ b s. refl) (holding []) l) ∙ ap (λ (z : Story ℕ). all (done skipped) l z) nothing in
+      end-one (done skipped) l (ap (joined keep) is ∙ joined-made keep (done skipped) [] l refl) hold (answer 0 0 0 0 0 m) refl refl refl refl refl l-long refl
 
   module _ (other : n ≡ 0 → ⊥) (r : Look) (says : LookSays (h ++ l) r) where
     some : 0 < n
@@ -139,16 +139,16 @@ module _ {hold p : List ℕ} {n from m : ℕ} (x : Given hold p n from m) (out :
 
     pub end-dropped : keep ≡ false → r ≡ Going → End hold out (answer 0 0 0 (n + m) 0 0)
     end-dropped k e =
-        end-one broken (h ++ l) (ap (λ (z : Bool). joined z (goesOn plain (holding h) l)) k ∙ ap brokenOff (going-is e) ∙ made-broken [] (h ++ l)) hold (answer 0 0 0 (n + m) 0 0) refl refl refl both-long refl refl refl
+        end-one (done broken) (h ++ l) (ap (λ (z : Bool). joined z (goesOn plain (holding h) l)) k ∙ ap brokenOff (going-is e) ∙ made-broken [] (h ++ l)) hold (answer 0 0 0 (n + m) 0 0) refl refl refl both-long refl refl refl
 
     pub end-over : r ≡ Over → End hold out (answer 0 0 0 (n + m) 0 0)
     end-over e =
         let o = has Over e in
         let o₂ = subst (LookSays (h ++ l)) e says in
         let few : length h < 3 = ⊎-elim (λ w. w) (λ w. absurd (omega (arith, x .stands .more w .0, total-prefix h l w, o₂ .1))) (lt-or-ge (length h) 3) in
-        let is : goesOn plain (holding h) l ≡ all broken (h ++ l) (made []) =
+        let is : goesOn plain (holding h) l ≡ all (done broken) (h ++ l) (made []) =
         goes ∙ ap (λ (z : Next ℕ). z .story) (law-over filling (start h) l (subst (λ (z : List ℕ). length z < 3) (sym (start-hand h)) few) (o .0) (o .1)) ∙ ap brokenOff more-hand ∙ made-broken [] (h ++ l) in
-        end-one broken (h ++ l) (ap (joined keep) is ∙ joined-made keep broken [] (h ++ l) refl) hold (answer 0 0 0 (n + m) 0 0) refl refl refl both-long refl refl refl
+        end-one (done broken) (h ++ l) (ap (joined keep) is ∙ joined-made keep (done broken) [] (h ++ l) refl) hold (answer 0 0 0 (n + m) 0 0) refl refl refl both-long refl refl refl
 
     module _ (t : ℕ) (e : r ≡ Whole t) where
       o : LookSays (h ++ l) (Whole t)
@@ -169,7 +169,7 @@ module _ {hold p : List ℕ} {n from m : ℕ} (x : Given hold p n from m) (out :
       s-long : t ≡ length s
       s-long = sym (ap length (sym (take-append-add h l k)) ∙ length-take-le (length h + k) (h ++ l) (omega (arith, h-long, o .3, whole-in)) ∙ omega (arith, h-long, whole-in))
 
-      whole-is : goesOn plain (holding h) l ≡ all filler (drop k l) (made (s ∷ []))
+      whole-is : goesOn plain (holding h) l ≡ all (done filler) (drop k l) (made (s ∷ []))
       whole-is =
           let total : totalOf (handOf (start h) ++ l) ≡ t = ap totalOf (sym run-is) ∙ sym (o .1) in
           let long : length (handOf (start h)) ≡ n = ap length (start-hand h) ∙ h-long in
@@ -177,7 +177,7 @@ module _ {hold p : List ℕ} {n from m : ℕ} (x : Given hold p n from m) (out :
           ∙ ap (λ (z : Next ℕ). z .story) (law-whole filling (start h) l k (omega (arith, total, long, whole-in)) (omega (arith, whole-in)) (omega (arith, total, o .2)) (omega (arith, whole-in, l-long)))
           ∙ ap (λ (z : Story ℕ). stretch plain filling (place filling (finished z)) (drop k l) .story) (all-append in-hand h (take k l) (made []))
           ∙ ap (λ (z : Story ℕ). stretch plain filling (place filling z) (drop k l) .story) (made-more [] s)
-          ∙ ap (λ (z : Next ℕ). z .story) (pass filling filling filler (λ b s. refl) (made (s ∷ [])) (drop k l))
+          ∙ ap (λ (z : Next ℕ). z .story) (pass filling filling (done filler) (λ b s. refl) (made (s ∷ [])) (drop k l))
 
       pub end-whole : (out′ out″ : List ℕ) → out′ ≡ paste out 0 hold n → out″ ≡ paste out′ n (drop from p) k → End hold out″ (answer 0 1 t 0 (m - k) 0)
       end-whole out′ out″ w₁ w₂ =
@@ -189,5 +189,5 @@ module _ {hold p : List ℕ} {n from m : ℕ} (x : Given hold p n from m) (out :
           w₂ ∙ ap (λ (z : List ℕ). paste z n (drop from p) k) first ∙ ap (λ (z : ℕ). paste (laid out 0 h) z (drop from p) k) zero-n
           ∙ laid-more out 0 h (drop from p) k (omega arith) (omega (arith, whole-in, x .in-packet, length-drop from p)) ∙ ap (λ (z : List ℕ). laid out 0 (h ++ z)) taken ∙ ap (laid out 0) (sym one) in
           let rest : m - k ≡ length (drop k l) = omega (arith, length-drop k l, l-long) in
-          ends-as (all filler (drop k l) (made (s ∷ []))) (ap (joined keep) whole-is ∙ joined-made keep filler (s ∷ []) (drop k l) refl)
-          (ends-made filler (s ∷ []) (drop k l) hold out 0 hold out″ (answer 0 1 t 0 (m - k) 0) refl (s-long ∙ ap length (sym one)) refl refl rest refl refl both)
+          ends-as (all (done filler) (drop k l) (made (s ∷ []))) (ap (joined keep) whole-is ∙ joined-made keep (done filler) (s ∷ []) (drop k l) refl)
+          (ends-made (done filler) (s ∷ []) (drop k l) hold out 0 hold out″ (answer 0 1 t 0 (m - k) 0) refl (s-long ∙ ap length (sym one)) refl refl rest refl refl both)

@@ -6,7 +6,7 @@ use Prim.Native.Nat.{ℕ, zero, suc}
 use lib.ListN.{take, drop, take-append-drop}
 use lib.Dec.{eqb}
 use Rattle.collector.specs.Each.{Each}
-use Rattle.collector.specs.Rules.{Fate, pointer, delivered, broken, filler, skipped, in-hand, Story, sameFate, handOf, given, brokenOff, finished, Mode, begin, inside, filling, skipping, breaking, Next, Size, going, whole, over, sizeOf, Before, follows, Carried, begun, grown, resumed, joined, byteIn, stretch, goesOn, sectionsIn, payload, takenIn}
+use Rattle.collector.specs.Rules.{Fate, pointer, delivered, broken, filler, skipped, done, in-hand, Story, sameFate, handOf, given, brokenOff, finished, Mode, begin, inside, filling, skipping, breaking, Next, Size, going, whole, over, sizeOf, Before, follows, Carried, begun, grown, resumed, joined, byteIn, stretch, goesOn, sectionsIn, payload, takenIn}
 
 module _ {A : Type 0} (P : A → Type 0) where
   pub each-append : (a c : List A) → Each P a → Each P c → Each P (a ++ c)
@@ -34,13 +34,13 @@ each-map P Q f (a ∷ l) x = (f a (x .0), each-map P Q f l (x .1))
 module _ {A : Type 0} (value : A → ℕ) where
   -- P of the bytes seen and the story; R is what is known of each byte that comes
   pub record Keeps (R : A → Type 0) (P : List A → Story A → Type 0) : Type 0 where
-    pub gives : (f : Fate) → sameFate pointer f ≡ false → sameFate delivered f ≡ false → (b : A) (l : List A) (s : Story A) → R b → P l s → P (l ++ (b ∷ [])) (given f b s)
+    pub gives : (f : Fate) → sameFate (done pointer) f ≡ false → sameFate (done delivered) f ≡ false → (b : A) (l : List A) (s : Story A) → R b → P l s → P (l ++ (b ∷ [])) (given f b s)
     pub ends : (b : A) (l : List A) (s : Story A) → R b → sizeOf (map value (handOf s ++ (b ∷ []))) ≡ whole → P l s → P (l ++ (b ∷ [])) (finished (given in-hand b s))
     pub breaks : (l : List A) (s : Story A) → P l s → P l (brokenOff s)
 
   module _ (R : A → Type 0) (P : List A → Story A → Type 0) (k : Keeps R P) where
     keep-begun : (t : Bool) (b : A) (l : List A) (s : Story A) → R b → P l s → P (l ++ (b ∷ [])) (begun t b s .story)
-    keep-begun true b l s r x = k .gives filler refl refl b l s r x
+    keep-begun true b l s r x = k .gives (done filler) refl refl b l s r x
     keep-begun false b l s r x = k .gives in-hand refl refl b l s r x
 
     keep-grown : (after : Mode) (z : Size) (b : A) (l : List A) (s : Story A) → R b → sizeOf (map value (handOf s ++ (b ∷ []))) ≡ z → P l s → P (l ++ (b ∷ [])) (grown after z (given in-hand b s) .story)
@@ -51,9 +51,9 @@ module _ {A : Type 0} (value : A → ℕ) where
     keep-byte : (after m : Mode) (b : A) (l : List A) (s : Story A) → R b → P l s → P (l ++ (b ∷ [])) (byteIn value after m b s .story)
     keep-byte after begin b l s r x = keep-begun (eqb (value b) 255) b l s r x
     keep-byte after inside b l s r x = keep-grown after (sizeOf (map value (handOf s ++ (b ∷ [])))) b l s r refl x
-    keep-byte after filling b l s r x = k .gives filler refl refl b l s r x
-    keep-byte after skipping b l s r x = k .gives skipped refl refl b l s r x
-    keep-byte after breaking b l s r x = k .gives broken refl refl b l s r x
+    keep-byte after filling b l s r x = k .gives (done filler) refl refl b l s r x
+    keep-byte after skipping b l s r x = k .gives (done skipped) refl refl b l s r x
+    keep-byte after breaking b l s r x = k .gives (done broken) refl refl b l s r x
 
     keep-stretch : (after : Mode) (l : List A) (n : Next A) (bs : List A) → Each R bs → P l (n .story) → P (l ++ bs) (stretch value after n bs .story)
     keep-stretch after l n [] r x = subst (λ (z : List A). P z (n .story)) (sym (append-nil l)) x
@@ -68,7 +68,7 @@ module _ {A : Type 0} (value : A → ℕ) where
     keep-sections l s bs r x = keep-stretch begin l (record { mode = begin; story = s }) bs r x
 
     -- and if the pointer byte keeps it, a whole packet does
-    module _ (points : (b : A) (l : List A) (s : Story A) → R b → P l s → P (l ++ (b ∷ [])) (given pointer b s)) where
+    module _ (points : (b : A) (l : List A) (s : Story A) → R b → P l s → P (l ++ (b ∷ [])) (given (done pointer) b s)) where
       pub keep-payload : (t : Bool) (l : List A) (s : Story A) (bs : List A) → Each R bs → P l s → P (l ++ bs) (payload value t s bs)
       keep-payload false l s bs r x = keep-goes l s bs r x
       keep-payload true l s [] r x = subst (λ (z : List A). P z s) (sym (append-nil l)) x
@@ -76,8 +76,8 @@ module _ {A : Type 0} (value : A → ℕ) where
           let a : List A = take (value p) bs in
           let c : List A = drop (value p) bs in
           let l₁ : List A = l ++ (p ∷ []) in
-          let y = keep-goes l₁ (given pointer p s) a (each-take R (value p) bs (r .1)) (points p l s (r .0) x) in
-          let z = keep-sections (l₁ ++ a) (brokenOff (goesOn value (given pointer p s) a)) c (each-drop R (value p) bs (r .1)) (k .breaks (l₁ ++ a) (goesOn value (given pointer p s) a) y) in
+          let y = keep-goes l₁ (given (done pointer) p s) a (each-take R (value p) bs (r .1)) (points p l s (r .0) x) in
+          let z = keep-sections (l₁ ++ a) (brokenOff (goesOn value (given (done pointer) p s) a)) c (each-drop R (value p) bs (r .1)) (k .breaks (l₁ ++ a) (goesOn value (given (done pointer) p s) a) y) in
           subst (λ (q : List A). P q (payload value true s (p ∷ bs))) (append-assoc l₁ a c ∙ ap (λ (q : List A). l₁ ++ q) (take-append-drop (value p) bs) ∙ append-assoc l (p ∷ []) bs) z
 
       keep-joined : (t : Bool) (l : List A) (s : Story A) → P l s → P l (joined t s)

@@ -10,7 +10,8 @@ use lib.Dec.{ltb, eqb}
 use borrow.Author.Tests.{ltb-false, eqb-true}
 use Rattle.wire.specs.If.{if_then_else_}
 use Rattle.collector.specs.Each.{Each}
-use Rattle.collector.specs.Rules.{Fate, pointer, delivered, broken, filler, skipped, in-hand, Mark, Story, sameFate, outOfHand, bytesOf, countOf, handOf, marked, given, settled, brokenOff, finished, holding, totalOf, going, whole, over, sizeOf}
+use Rattle.collector.specs.Rules.{Kind, pointer, delivered, broken, Fate, in-hand, done, kinds, sumIn, sumOf, Mark, Story, sameKind, sameFate, outOfHand, bytesOf, countOf, handOf, marked, given, settled, brokenOff, finished, holding, totalOf, going, whole, over, sizeOf}
+use Rattle.collector.proofs.Counters.{times, once}
 use Rattle.collector.proofs.Marks.{flatten-snoc, bytesOf-more, bytesOf-marked, settled-append, settled-marked, settled-bytes, settled-other, settled-hand, settled-twice}
 use Rattle.collector.proofs.Keeps.{each-append, Keeps}
 
@@ -30,36 +31,32 @@ module _ {A : Type 0} (value : A → ℕ) where
   pub keeps-seen : Keeps value Any Seen
   keeps-seen = record {
     gives = λ f e₁ e₂ b l s r x. seen-given f b l s x;
-    ends = λ b l s r e x. settled-bytes delivered (given in-hand b s .marks) ∙ seen-given in-hand b l s x;
-    breaks = λ l s x. settled-bytes broken (s .marks) ∙ x;
+    ends = λ b l s r e x. settled-bytes (done delivered) (given in-hand b s .marks) ∙ seen-given in-hand b l s x;
+    breaks = λ l s x. settled-bytes (done broken) (s .marks) ∙ x;
   }
 
-  pub points-seen : (b : A) (l : List A) (s : Story A) → Any b → Seen l s → Seen (l ++ (b ∷ [])) (given pointer b s)
-  points-seen b l s r x = seen-given pointer b l s x
+  pub points-seen : (b : A) (l : List A) (s : Story A) → Any b → Seen l s → Seen (l ++ (b ∷ [])) (given (done pointer) b s)
+  points-seen b l s r x = seen-given (done pointer) b l s x
 
   -- ---- delivered bytes are the sections' bytes, in order
 
   -- would-be: they would still be in order if what is in hand were delivered next
   pub record InOrder (l : List A) (s : Story A) : Type 0 where
-    pub out : bytesOf delivered (s .marks) ≡ flatten (s .sections)
-    pub would-be : bytesOf delivered (settled delivered (s .marks)) ≡ flatten (s .sections) ++ handOf s
+    pub out : bytesOf (done delivered) (s .marks) ≡ flatten (s .sections)
+    pub would-be : bytesOf (done delivered) (settled (done delivered) (s .marks)) ≡ flatten (s .sections) ++ handOf s
 
   -- a byte that is not delivered at once would be delivered exactly if it is in hand
-  would : (f : Fate) → sameFate delivered f ≡ false → sameFate delivered (outOfHand delivered f) ≡ sameFate in-hand f
-  would pointer e = refl
-  would delivered e = e
-  would broken e = refl
-  would filler e = refl
-  would skipped e = refl
+  would : (f : Fate) → sameFate (done delivered) f ≡ false → sameFate (done delivered) (outOfHand (done delivered) f) ≡ sameFate in-hand f
+  would (done k) e = e
   would in-hand e = refl
 
-  order-given : (f : Fate) → sameFate delivered f ≡ false → (b : A) (l : List A) (s : Story A) → InOrder l s → InOrder (l ++ (b ∷ [])) (given f b s)
+  order-given : (f : Fate) → sameFate (done delivered) f ≡ false → (b : A) (l : List A) (s : Story A) → InOrder l s → InOrder (l ++ (b ∷ [])) (given f b s)
   order-given f e b l s x = record {
-    out = bytesOf-more delivered f (s .marks) (b ∷ []) ∙ ap (λ (t : Bool). bytesOf delivered (s .marks) ++ (if t then b ∷ [] else [])) e ∙ append-nil _ ∙ x .out;
+    out = bytesOf-more (done delivered) f (s .marks) (b ∷ []) ∙ ap (λ (t : Bool). bytesOf (done delivered) (s .marks) ++ (if t then b ∷ [] else [])) e ∙ append-nil _ ∙ x .out;
     would-be =
-        ap (bytesOf delivered) (settled-append delivered (s .marks) (marked f (b ∷ [])))
-        ∙ bytesOf-more delivered (outOfHand delivered f) (settled delivered (s .marks)) (b ∷ [])
-        ∙ ap (λ (t : Bool). bytesOf delivered (settled delivered (s .marks)) ++ (if t then b ∷ [] else [])) (would f e)
+        ap (bytesOf (done delivered)) (settled-append (done delivered) (s .marks) (marked f (b ∷ [])))
+        ∙ bytesOf-more (done delivered) (outOfHand (done delivered) f) (settled (done delivered) (s .marks)) (b ∷ [])
+        ∙ ap (λ (t : Bool). bytesOf (done delivered) (settled (done delivered) (s .marks)) ++ (if t then b ∷ [] else [])) (would f e)
         ∙ ap (λ (z : List A). z ++ (if sameFate in-hand f then b ∷ [] else [])) (x .would-be)
         ∙ append-assoc (flatten (s .sections)) (handOf s) _
         ∙ ap (λ (z : List A). flatten (s .sections) ++ z) (sym (bytesOf-more in-hand f (s .marks) (b ∷ [])));
@@ -67,18 +64,18 @@ module _ {A : Type 0} (value : A → ℕ) where
 
   pub order-broken : (l : List A) (s : Story A) → InOrder l s → InOrder l (brokenOff s)
   order-broken l s x =
-      let none = settled-hand broken refl (s .marks) in
-      let same = settled-other broken delivered refl refl (s .marks) in record {
+      let none = settled-hand (done broken) refl (s .marks) in
+      let same = settled-other (done broken) (done delivered) refl refl (s .marks) in record {
         out = same ∙ x .out;
-        would-be = ap (bytesOf delivered) (settled-twice broken delivered refl (s .marks)) ∙ same ∙ x .out ∙ sym (append-nil (flatten (s .sections))) ∙ ap (λ (z : List A). flatten (s .sections) ++ z) (sym none);
+        would-be = ap (bytesOf (done delivered)) (settled-twice (done broken) (done delivered) refl (s .marks)) ∙ same ∙ x .out ∙ sym (append-nil (flatten (s .sections))) ∙ ap (λ (z : List A). flatten (s .sections) ++ z) (sym none);
       }
 
   order-finished : (l : List A) (s : Story A) → InOrder l s → InOrder l (finished s)
   order-finished l s x =
-      let none = settled-hand delivered refl (s .marks) in
+      let none = settled-hand (done delivered) refl (s .marks) in
       let more = flatten-snoc (s .sections) (handOf s) in record {
         out = x .would-be ∙ sym more;
-        would-be = ap (bytesOf delivered) (settled-twice delivered delivered refl (s .marks)) ∙ x .would-be ∙ sym more ∙ sym (append-nil _) ∙ ap (λ (z : List A). flatten (s .sections ++ (handOf s ∷ [])) ++ z) (sym none);
+        would-be = ap (bytesOf (done delivered)) (settled-twice (done delivered) (done delivered) refl (s .marks)) ∙ x .would-be ∙ sym more ∙ sym (append-nil _) ∙ ap (λ (z : List A). flatten (s .sections ++ (handOf s ∷ [])) ++ z) (sym none);
       }
 
   pub keeps-order : Keeps value Any InOrder
@@ -88,14 +85,14 @@ module _ {A : Type 0} (value : A → ℕ) where
     breaks = λ l s x. order-broken l s x;
   }
 
-  pub points-order : (b : A) (l : List A) (s : Story A) → Any b → InOrder l s → InOrder (l ++ (b ∷ [])) (given pointer b s)
-  points-order b l s r x = order-given pointer refl b l s x
+  pub points-order : (b : A) (l : List A) (s : Story A) → Any b → InOrder l s → InOrder (l ++ (b ∷ [])) (given (done pointer) b s)
+  points-order b l s r x = order-given (done pointer) refl b l s x
 
   pub order-holding : (bs : List A) → InOrder bs (holding bs)
   unfolding flatten
   order-holding bs = record {
-    out = bytesOf-marked delivered in-hand bs;
-    would-be = ap (bytesOf delivered) (settled-marked delivered in-hand bs) ∙ bytesOf-marked delivered delivered bs ∙ sym (bytesOf-marked in-hand in-hand bs);
+    out = bytesOf-marked (done delivered) in-hand bs;
+    would-be = ap (bytesOf (done delivered)) (settled-marked (done delivered) in-hand bs) ∙ bytesOf-marked (done delivered) (done delivered) bs ∙ sym (bytesOf-marked in-hand in-hand bs);
   }
 
 -- ---- each section is whole by its own header
@@ -132,31 +129,35 @@ module _ {A : Type 0} (value : A → ℕ) where
   -- ---- no stretch has a pointer byte
 
   abbrev pub Points : ℕ → List A → Story A → Type 0
-  Points n l s = countOf pointer (s .marks) ≡ n
+  Points n l s = countOf (done pointer) (s .marks) ≡ n
 
-  points-given : (n : ℕ) (f : Fate) → sameFate pointer f ≡ false → (b : A) (s : Story A) → countOf pointer (s .marks) ≡ n → countOf pointer (given f b s .marks) ≡ n
-  points-given n f e b s x = ap length (bytesOf-more pointer f (s .marks) (b ∷ []) ∙ ap (λ (t : Bool). bytesOf pointer (s .marks) ++ (if t then b ∷ [] else [])) e ∙ append-nil (bytesOf pointer (s .marks))) ∙ x
+  points-given : (n : ℕ) (f : Fate) → sameFate (done pointer) f ≡ false → (b : A) (s : Story A) → countOf (done pointer) (s .marks) ≡ n → countOf (done pointer) (given f b s .marks) ≡ n
+  points-given n f e b s x = ap length (bytesOf-more (done pointer) f (s .marks) (b ∷ []) ∙ ap (λ (t : Bool). bytesOf (done pointer) (s .marks) ++ (if t then b ∷ [] else [])) e ∙ append-nil (bytesOf (done pointer) (s .marks))) ∙ x
 
   pub keeps-points : (n : ℕ) → Keeps value Any (Points n)
   keeps-points n = record {
     gives = λ f e₁ e₂ b l s r x. points-given n f e₁ b s x;
-    ends = λ b l s r e x. ap length (settled-other delivered pointer refl refl (given in-hand b s .marks)) ∙ points-given n in-hand refl b s x;
-    breaks = λ l s x. ap length (settled-other broken pointer refl refl (s .marks)) ∙ x;
+    ends = λ b l s r e x. ap length (settled-other (done delivered) (done pointer) refl refl (given in-hand b s .marks)) ∙ points-given n in-hand refl b s x;
+    breaks = λ l s x. ap length (settled-other (done broken) (done pointer) refl refl (s .marks)) ∙ x;
   }
 
 -- ---- the counts of the fates make up the bytes
 
-abbrev pub sumOf : (Fate → ℕ) → ℕ
-sumOf n = n pointer + n delivered + n broken + n filler + n skipped + n in-hand
-
 module _ {A : Type 0} where
-  one-fate : (g : Fate) (b : A) (n : ℕ) (l : Fate → List A) → sumOf (λ f. length (l f)) ≡ n → sumOf (λ f. length (if sameFate f g then b ∷ l f else l f)) ≡ suc n
-  one-fate pointer b n l e = omega arith
-  one-fate delivered b n l e = omega arith
-  one-fate broken b n l e = omega arith
-  one-fate filler b n l e = omega arith
-  one-fate skipped b n l e = omega arith
+  one-more : (t : Bool) (b : A) (l : List A) → length (if t then b ∷ l else l) ≡ length l + (if t then 1 else 0)
+  one-more true b l = omega arith
+  one-more false b l = omega arith
+
+  -- a byte of one kind more, over a list of kinds
+  one-kind : (g : Kind) (b : A) (l : Kind → List A) (ks : List Kind)
+      → sumIn (λ k. length (if sameKind k g then b ∷ l k else l k)) ks ≡ sumIn (λ k. length (l k)) ks + times g ks
+  one-kind g b l [] = refl
+  one-kind g b l (k ∷ ks) = omega (arith, one-more (sameKind k g) b (l k), one-kind g b l ks)
+
+  one-fate : (g : Fate) (b : A) (n : ℕ) (l : Fate → List A) → sumOf (λ f. length (l f)) ≡ n
+      → sumOf (λ f. length (if sameFate f g then b ∷ l f else l f)) ≡ suc n
   one-fate in-hand b n l e = omega arith
+  one-fate (done k) b n l e = omega (arith, one-kind k b (λ j. l (done j)) kinds, once k)
 
   pub make-up : (ms : List (Mark A)) → sumOf (λ f. countOf f ms) ≡ length (map (λ m. m .byte) ms)
   make-up [] = refl
@@ -190,7 +191,7 @@ module _ {A : Type 0} (value : A → ℕ) where
     breaks = λ l s x. record { seen = keeps-seen value .breaks l s (x .seen); order = keeps-order value .breaks l s (x .order); whole = x .whole };
   }
 
-  pub points-kept : (b : A) (l : List A) (s : Story A) → Any b → Kept l s → Kept (l ++ (b ∷ [])) (given pointer b s)
+  pub points-kept : (b : A) (l : List A) (s : Story A) → Any b → Kept l s → Kept (l ++ (b ∷ [])) (given (done pointer) b s)
   points-kept b l s r x = record { seen = points-seen value b l s r (x .seen); order = points-order value b l s r (x .order); whole = x .whole }
 
   seen-holding : (bs : List A) → map (λ m. m .byte) (marked in-hand bs) ≡ bs
@@ -204,7 +205,7 @@ module _ {A : Type 0} (value : A → ℕ) where
   pub counts-in : (l : List A) (s : Story A) → Kept l s → sumOf (λ f. countOf f (s .marks)) ≡ length l
   counts-in l s x = make-up (s .marks) ∙ ap length (x .seen)
 
-  pub delivered-in : (l : List A) (s : Story A) → Kept l s → countOf delivered (s .marks) ≡ length (flatten (s .sections))
+  pub delivered-in : (l : List A) (s : Story A) → Kept l s → countOf (done delivered) (s .marks) ≡ length (flatten (s .sections))
   delivered-in l s x = ap length (x .order .out)
 
   pub few-in : (l : List A) (s : Story A) → Kept l s → length (s .sections) ≤ length (flatten (s .sections))

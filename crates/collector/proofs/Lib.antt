@@ -1,4 +1,5 @@
 -- Laws that several proofs cite, and those of stories that `history` rests on.
+pub mod Counters
 pub mod Marks
 pub mod Runs
 pub mod Seam

@@ -6,7 +6,7 @@ use Prim.Native.Nat.{ℕ, suc, _+_}
 use native.Mathlib.Omega.{arith}
 use lib.ListN.{length}
 use Rattle.wire.specs.If.{if_then_else_}
-use Rattle.collector.specs.Rules.{Fate, pointer, delivered, broken, filler, skipped, in-hand, Mark, sameFate, outOfHand, bytesOf, countOf, marked, settled}
+use Rattle.collector.specs.Rules.{Kind, Fate, in-hand, done, Mark, sameFate, outOfHand, bytesOf, countOf, marked, settled}
 
 -- ---- lists
 
@@ -76,27 +76,15 @@ module _ {A : Type 0} where
 
 -- a fate that is neither in hand nor what this is settled to is found where it was
 other-fate : (f g : Fate) → sameFate g f ≡ false → sameFate g in-hand ≡ false → (k : Fate) → sameFate g (outOfHand f k) ≡ sameFate g k
-other-fate f g e₁ e₂ pointer = refl
-other-fate f g e₁ e₂ delivered = refl
-other-fate f g e₁ e₂ broken = refl
-other-fate f g e₁ e₂ filler = refl
-other-fate f g e₁ e₂ skipped = refl
+other-fate f g e₁ e₂ (done k) = refl
 other-fate f g e₁ e₂ in-hand = e₁ ∙ sym e₂
 
 no-hand : (f : Fate) → sameFate in-hand f ≡ false → (k : Fate) → sameFate in-hand (outOfHand f k) ≡ false
-no-hand f e pointer = refl
-no-hand f e delivered = refl
-no-hand f e broken = refl
-no-hand f e filler = refl
-no-hand f e skipped = refl
+no-hand f e (done k) = refl
 no-hand f e in-hand = e
 
 twice-fate : (f g : Fate) → outOfHand g f ≡ f → (k : Fate) → outOfHand g (outOfHand f k) ≡ outOfHand f k
-twice-fate f g e pointer = refl
-twice-fate f g e delivered = refl
-twice-fate f g e broken = refl
-twice-fate f g e filler = refl
-twice-fate f g e skipped = refl
+twice-fate f g e (done k) = refl
 twice-fate f g e in-hand = e
 
 module _ {A : Type 0} where
@@ -122,11 +110,7 @@ module _ {A : Type 0} where
 
   gain : (f g k : Fate) → sameFate f in-hand ≡ false → (b : A) (x y z : List A) → length x ≡ length y + (if sameFate f g then length z else 0)
       → length (if sameFate f (outOfHand g k) then b ∷ x else x) ≡ length (if sameFate f k then b ∷ y else y) + (if sameFate f g then length (if sameFate in-hand k then b ∷ z else z) else 0)
-  gain f g pointer h b x y z e = gain-other (sameFate f pointer) _ b x y e
-  gain f g delivered h b x y z e = gain-other (sameFate f delivered) _ b x y e
-  gain f g broken h b x y z e = gain-other (sameFate f broken) _ b x y e
-  gain f g filler h b x y z e = gain-other (sameFate f filler) _ b x y e
-  gain f g skipped h b x y z e = gain-other (sameFate f skipped) _ b x y e
+  gain f g (done k) h b x y z e = gain-other (sameFate f (done k)) _ b x y e
   gain f g in-hand h b x y z e = gain-hand (sameFate f g) (sameFate f in-hand) h b x y z e
 
   -- what was in hand is counted with the fate that it is settled to

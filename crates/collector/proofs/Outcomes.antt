@@ -6,13 +6,14 @@ use Prim.Native.Nat.{ℕ, _+_, _-_, _%_, _^_, _≤_, _<_}
 use native.Mathlib.Nat.{zero-add, add-zero}
 use native.Mathlib.Omega.{arith}
 use lib.ListN.{length, take, drop, length-append}
-use Rattle.collector.specs.Rules.{Fate, pointer, delivered, broken, filler, skipped, in-hand, Story, bytesOf, countOf, handOf, marked, given, brokenOff, holding, joined, plain, goesOn, payload}
+use Rattle.wire.specs.If.{if_then_else_}
+use Rattle.collector.specs.Rules.{Kind, pointer, delivered, broken, filler, skipped, Fate, in-hand, done, Story, sameFate, bytesOf, countOf, handOf, marked, given, brokenOff, holding, joined, plain, goesOn, payload}
 use Rattle.collector.specs.Answer as Answer
 use Rattle.collector.specs.Answer.{came}
-use Rattle.collector.specs.Collected.{over, recordAfter, takenTo}
+use Rattle.collector.specs.Collected.{bytesCounted, recordWith, recordAfter, over, takenTo}
 use Rattle.collector.specs.Inner.Payload.{Fit, Small}
 use Rattle.collector.specs.Inner.Stretch.{Ends}
-use Rattle.collector.specs.Inner.Taking.{keptOf, pointCount, countedOf}
+use Rattle.collector.specs.Inner.Taking.{keptOf, pointCount, addedBy, countedOf}
 use Rattle.collector.specs.declared.Record.{Record}
 use Rattle.collector.specs.declared.Last.the-variants.{Counter}
 use Rattle.collector.specs.declared.Answer.the-variants.{Taken}
@@ -29,44 +30,37 @@ pub kept-payload : (start : Bool) (h bs : List ℕ) → Kept plain (h ++ bs) (pa
 kept-payload start h bs = keep-payload plain Any (Kept plain) (keeps-kept plain) (points-kept plain) start h (holding h) bs (any bs) (kept-holding plain h)
 
 -- the pointer byte is counted once
-no-point : (h : List ℕ) → countOf pointer (marked in-hand h) ≡ 0
-no-point h = ap length (bytesOf-marked pointer in-hand h)
+no-point : (h : List ℕ) → countOf (done pointer) (marked in-hand h) ≡ 0
+no-point h = ap length (bytesOf-marked (done pointer) in-hand h)
 
-points-payload : (start : Bool) (h bs : List ℕ) → 0 < length bs → countOf pointer (payload plain start (holding h) bs .marks) ≡ pointCount start
+points-payload : (start : Bool) (h bs : List ℕ) → 0 < length bs → countOf (done pointer) (payload plain start (holding h) bs .marks) ≡ pointCount start
 points-payload false h bs k = keep-goes plain Any _ (keeps-points plain 0) h (holding h) bs (any bs) (no-point h)
 points-payload true h [] k = absurd (omega arith)
 points-payload true h (p ∷ bs) k =
-    let first : countOf pointer (given pointer p (holding h) .marks) ≡ 1 = ap length (bytesOf-more pointer pointer (marked in-hand h) (p ∷ [])) ∙ length-append (bytesOf pointer (marked in-hand h)) (p ∷ []) ∙ ap (λ (n : ℕ). n + 1) (no-point h) in
-    let f : Story ℕ = goesOn plain (given pointer p (holding h)) (take p bs) in
-    let y = keep-goes plain Any _ (keeps-points plain 1) [] (given pointer p (holding h)) (take p bs) (any (take p bs)) first in
+    let first : countOf (done pointer) (given (done pointer) p (holding h) .marks) ≡ 1 = ap length (bytesOf-more (done pointer) (done pointer) (marked in-hand h) (p ∷ [])) ∙ length-append (bytesOf (done pointer) (marked in-hand h)) (p ∷ []) ∙ ap (λ (n : ℕ). n + 1) (no-point h) in
+    let f : Story ℕ = goesOn plain (given (done pointer) p (holding h)) (take p bs) in
+    let y = keep-goes plain Any _ (keeps-points plain 1) [] (given (done pointer) p (holding h)) (take p bs) (any (take p bs)) first in
     keep-sections plain Any _ (keeps-points plain 1) [] (brokenOff f) (drop p bs) (any (drop p bs)) (keeps-points plain 1 .breaks [] f y)
 
 -- ---- what a break in the counter takes stays apart from the packet
 
 -- n bytes of one fate: broken off
 abbrev lost : ℕ → Fate → ℕ
-lost n pointer = 0
-lost n delivered = 0
-lost n broken = n
-lost n filler = 0
-lost n skipped = 0
-lost n in-hand = 0
+lost n f = if sameFate f (done broken) then n else 0
 
 lost-count : (h : List ℕ) (f : Fate) → countOf f (brokenOff (holding h) .marks) ≡ lost (length h) f
-lost-count h pointer = ap (countOf pointer) (settled-marked broken in-hand h) ∙ ap length (bytesOf-marked pointer broken h)
-lost-count h delivered = ap (countOf delivered) (settled-marked broken in-hand h) ∙ ap length (bytesOf-marked delivered broken h)
-lost-count h broken = ap (countOf broken) (settled-marked broken in-hand h) ∙ ap length (bytesOf-marked broken broken h)
-lost-count h filler = ap (countOf filler) (settled-marked broken in-hand h) ∙ ap length (bytesOf-marked filler broken h)
-lost-count h skipped = ap (countOf skipped) (settled-marked broken in-hand h) ∙ ap length (bytesOf-marked skipped broken h)
-lost-count h in-hand = ap (countOf in-hand) (settled-marked broken in-hand h) ∙ ap length (bytesOf-marked in-hand broken h)
+lost-count h f = ap (countOf f) (settled-marked (done broken) in-hand h) ∙ ap length (bytesOf-marked f (done broken) h) ∙ long (sameFate f (done broken))
+  where
+    long : (t : Bool) → length (if t then h else []) ≡ (if t then length h else 0)
+    long true = refl
+    long false = refl
 
 none-lost : (f : Fate) → 0 ≡ lost 0 f
-none-lost pointer = refl
-none-lost delivered = refl
-none-lost broken = refl
-none-lost filler = refl
-none-lost skipped = refl
-none-lost in-hand = refl
+none-lost f = none (sameFate f (done broken))
+  where
+    none : (t : Bool) → _≡_ {A = ℕ} 0 (if t then 0 else 0)
+    none true = refl
+    none false = refl
 
 beside-itself : (s : Story ℕ) → Beside plain (lost 0) [] s s
 beside-itself s = record { hand = map-id (handOf s); sections = plain-sections (s .sections); counts = λ f e. sym (zero-add (countOf f (s .marks))) ∙ ap (λ (n : ℕ). n + countOf f (s .marks)) (none-lost f) }
@@ -75,7 +69,7 @@ beside-break : (start : Bool) (h bs : List ℕ) → Beside plain (lost (length h
 beside-break start h bs =
     subst (λ (z : List ℕ). Beside plain (lost (length h)) [] (payload plain start (holding []) z) (payload plain start (brokenOff (holding h)) bs)) (map-id bs)
     (beside-payload plain (lost (length h)) [] start (holding []) (brokenOff (holding h)) bs (record {
-      hand = ap (map plain) (settled-hand broken refl (marked in-hand h));
+      hand = ap (map plain) (settled-hand (done broken) refl (marked in-hand h));
       sections = refl;
       counts = λ f e. lost-count h f ∙ sym (add-zero (lost (length h) f));
     }))
@@ -89,18 +83,21 @@ module _ (r : Record) (hold out : List ℕ) (counter : ℕ) (start : Bool) (h bs
   pub small : Ends s hold out 0 hold′ out′ e → length h + length bs ≤ 5000 → Small e
   small x w = small-of (h ++ bs) s (kept-payload start h bs) (omega (arith, length-append h bs)) x
 
+  adds : Ends s hold out 0 hold′ out′ e → (n : ℕ) (S : Story ℕ) → Beside plain (lost n) [] s S → (k : Kind) → addedBy e n start k ≡ countOf (done k) (S .marks)
+  adds x n S b pointer = sym (points-payload start h bs some) ∙ sym (zero-add _) ∙ sym (b .counts (done pointer) refl)
+  adds x n S b delivered = x .bytes ∙ sym (delivered-in plain (h ++ bs) s (kept-payload start h bs)) ∙ sym (zero-add _) ∙ sym (b .counts (done delivered) refl)
+  adds x n S b broken = ap (λ (z : ℕ). n + z) (x .broken) ∙ sym (b .counts (done broken) refl)
+  adds x n S b filler = x .filler ∙ sym (zero-add _) ∙ sym (b .counts (done filler) refl)
+  adds x n S b skipped = x .skipped ∙ sym (zero-add _) ∙ sym (b .counts (done skipped) refl)
+
   taken-to : Ends s hold out 0 hold′ out′ e → (n : ℕ) (S : Story ℕ) → Beside plain (lost n) [] s S → (r′ : Record) → r′ ≡ countedOf r counter e n start → came r′ hold′ out′ (Taken (e .sections) (e .bytes)) ≡ takenTo r hold out counter S
   taken-to x n S b r′ w =
       let secs : s .sections ≡ S .sections = sym (more-sections b) in
       let bytes : flatten (s .sections) ≡ flatten (S .sections) = ap flatten secs in
       let hand : handOf s ≡ handOf S = sym (same-hand b) in
-      let point : pointCount start ≡ countOf pointer (S .marks) = sym (points-payload start h bs some) ∙ sym (zero-add _) ∙ sym (b .counts pointer refl) in
-      let given : e .bytes ≡ countOf delivered (S .marks) = x .bytes ∙ sym (delivered-in plain (h ++ bs) s (kept-payload start h bs)) ∙ sym (zero-add _) ∙ sym (b .counts delivered refl) in
-      let gone : n + e .broken ≡ countOf broken (S .marks) = ap (λ (z : ℕ). n + z) (x .broken) ∙ sym (b .counts broken refl) in
-      let fill : e .filler ≡ countOf filler (S .marks) = x .filler ∙ sym (zero-add _) ∙ sym (b .counts filler refl) in
-      let skip : e .skipped ≡ countOf skipped (S .marks) = x .skipped ∙ sym (zero-add _) ∙ sym (b .counts skipped refl) in
+      let added : (k : Kind) → addedBy e n start k ≡ countOf (done k) (S .marks) = adds x n S b in
       let the-record : r′ ≡ recordAfter r counter S =
-      w ∙ (λ i. record { pid = r .pid; last = Counter counter; in_hand = (x .in-hand ∙ ap length hand) i; pointer = (r .pointer + point i) % 2 ^ 32; delivered = (r .delivered + given i) % 2 ^ 32; broken = (r .broken + gone i) % 2 ^ 32; filler = (r .filler + fill i) % 2 ^ 32; skipped = (r .skipped + skip i) % 2 ^ 32 }) in
+      w ∙ (λ i. recordWith (r .pid) (Counter counter) ((x .in-hand ∙ ap length hand) i) (λ k. (bytesCounted (done k) r + added k i) % 2 ^ 32)) in
       let the-out : out′ ≡ over (flatten (S .sections)) out = x .the-out ∙ ap (λ (z : ℕ). flatten (s .sections) ++ drop z out) (zero-add (length (flatten (s .sections)))) ∙ ap (λ (z : List ℕ). over z out) bytes in
       λ i. record {
         rec = the-record i;

@@ -10,7 +10,7 @@ use lib.ListN.{length, take, drop, getD, length-append, length-drop}
 use lib.Seq.{take-all, take-append-seam, drop-append-add, drop-drop, drop-cons}
 use Rattle.wire.specs.If.{if_then_else_}
 use Rattle.collector.specs.Each.{Each}
-use Rattle.collector.specs.Rules.{Fate, pointer, broken, filler, skipped, in-hand, Story, sameFate, bytesOf, countOf, handOf, marked, given, brokenOff, holding, joined, plain, goesOn, sectionsIn, started, payload}
+use Rattle.collector.specs.Rules.{Fate, pointer, broken, filler, skipped, done, in-hand, Story, sameFate, bytesOf, countOf, handOf, marked, given, brokenOff, holding, joined, plain, goesOn, sectionsIn, started, payload}
 use Rattle.collector.specs.Collected.{over}
 use Rattle.collector.specs.Inner.Stretch.{Ends}
 use Rattle.collector.specs.Inner.Payload.{Fit, Small, frontOf, bothOf}
@@ -76,13 +76,13 @@ front h l = gone false h l
 
 -- the same with the pointer byte before it
 abbrev pointed : ℕ → List ℕ → List ℕ → Story ℕ
-pointed p h l = brokenOff (goesOn plain (given pointer p (holding h)) l)
+pointed p h l = brokenOff (goesOn plain (given (done pointer) p (holding h)) l)
 
 abbrev pub back : List ℕ → Story ℕ
 back l = sectionsIn plain (holding []) l
 
 abbrev one : ℕ → Fate → ℕ
-one p f = length (if sameFate f pointer then p ∷ [] else [])
+one p f = length (if sameFate f (done pointer) then p ∷ [] else [])
 
 pub kept-back : (l : List ℕ) → Kept plain l (back l)
 kept-back l = keep-sections plain Any (Kept plain) (keeps-kept plain) [] (holding []) l (any l) (kept-holding plain [])
@@ -91,10 +91,10 @@ kept-back l = keep-sections plain Any (Kept plain) (keeps-kept plain) [] (holdin
 beside-front : (p : ℕ) (h l : List ℕ) → Beside plain (one p) [] (front h l) (pointed p h l)
 beside-front p h l =
     subst (λ (z : List ℕ). Beside plain (one p) [] (front h z) (pointed p h l)) (map-id l)
-    (beside-broken plain (one p) [] (goesOn plain (holding h) (map plain l)) (goesOn plain (given pointer p (holding h)) l) (beside-goes plain (one p) [] (holding h) (given pointer p (holding h)) l (record {
-      hand = map-id _ ∙ bytesOf-more in-hand pointer (marked in-hand h) (p ∷ []) ∙ append-nil _;
+    (beside-broken plain (one p) [] (goesOn plain (holding h) (map plain l)) (goesOn plain (given (done pointer) p (holding h)) l) (beside-goes plain (one p) [] (holding h) (given (done pointer) p (holding h)) l (record {
+      hand = map-id _ ∙ bytesOf-more in-hand (done pointer) (marked in-hand h) (p ∷ []) ∙ append-nil _;
       sections = refl;
-      counts = λ f e. let more = ap length (bytesOf-more f pointer (marked in-hand h) (p ∷ [])) ∙ length-append (bytesOf f (marked in-hand h)) _ in omega (arith, more);
+      counts = λ f e. let more = ap length (bytesOf-more f (done pointer) (marked in-hand h) (p ∷ [])) ∙ length-append (bytesOf f (marked in-hand h)) _ in omega (arith, more);
     })))
 
 abbrev whole : ℕ → List ℕ → List ℕ → List ℕ → Story ℕ
@@ -104,7 +104,7 @@ whole p h l l₂ = sectionsIn plain (pointed p h l) l₂
 beside-back : (p : ℕ) (h l l₂ : List ℕ) → Beside plain (λ f. countOf f (pointed p h l .marks)) (pointed p h l .sections) (back l₂) (whole p h l l₂)
 beside-back p h l l₂ =
     subst (λ (z : List ℕ). Beside plain (λ f. countOf f (pointed p h l .marks)) (pointed p h l .sections) (back z) (whole p h l l₂)) (map-id l₂)
-    (beside-sections plain _ _ (holding []) (pointed p h l) l₂ (beside-nothing (pointed p h l) (settled-hand broken refl (goesOn plain (given pointer p (holding h)) l .marks))))
+    (beside-sections plain _ _ (holding []) (pointed p h l) l₂ (beside-nothing (pointed p h l) (settled-hand (done broken) refl (goesOn plain (given (done pointer) p (holding h)) l .marks))))
 
 module _ (p : ℕ) (h l l₂ : List ℕ) where
   sections-both : whole p h l l₂ .sections ≡ front h l .sections ++ back l₂ .sections
@@ -122,7 +122,7 @@ module _ (p : ℕ) (h l l₂ : List ℕ) where
       let g : List ℕ = flatten (back l₂ .sections) in
       let d : List ℕ = drop (0 + length f) out in
       let hand : handOf (whole p h l l₂) ≡ handOf (back l₂) = same-hand (beside-back p h l l₂) in
-      let none : handOf (front h l) ≡ [] = settled-hand broken refl (goesOn plain (holding h) l .marks) in
+      let none : handOf (front h l) ≡ [] = settled-hand (done broken) refl (goesOn plain (holding h) l .marks) in
       let kept : hold₁ ≡ hold = x .the-hold ∙ ap (λ (z : List ℕ). over z hold) none in
       let long = ap length bytes-both ∙ length-append f g in
       let cut : take (a .bytes) out₁ ≡ f = ap (λ (z : List ℕ). take (a .bytes) z) (x .the-out) ∙ ap (λ (z : ℕ). take z (f ++ d)) (x .bytes) ∙ take-append-seam f d in
@@ -133,9 +133,9 @@ module _ (p : ℕ) (h l l₂ : List ℕ) where
         in-hand = y .in-hand ∙ ap length (sym hand);
         sections = omega (arith, x .sections, y .sections, ap length sections-both, length-append (front h l .sections) (back l₂ .sections));
         bytes = omega (arith, x .bytes, y .bytes, long);
-        broken = omega (arith, x .broken, y .broken, count-both broken refl);
-        filler = omega (arith, x .filler, y .filler, count-both filler refl);
-        skipped = omega (arith, x .skipped, y .skipped, count-both skipped refl);
+        broken = omega (arith, x .broken, y .broken, count-both (done broken) refl);
+        filler = omega (arith, x .filler, y .filler, count-both (done filler) refl);
+        skipped = omega (arith, x .skipped, y .skipped, count-both (done skipped) refl);
         the-hold = y .the-hold ∙ ap (λ (z : List ℕ). over (handOf (back l₂)) z) kept ∙ ap (λ (z : List ℕ). over z hold) (sym hand);
         the-out = y .the-out ∙ ap (λ (z : List ℕ). z ++ (g ++ drop (a .bytes + length g) out₁)) cut ∙ ap (λ (z : List ℕ). f ++ (g ++ z)) tail ∙ sym (append-assoc f g (drop (0 + length (f ++ g)) out)) ∙ ap (λ (z : List ℕ). z ++ drop (0 + length z) out) (sym bytes-both);
       }

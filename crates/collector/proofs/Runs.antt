@@ -9,7 +9,7 @@ use lib.ListN.{length, take, drop, getD, length-append, length-take, List·getD-
 use lib.Seq.{split-at, take-suc}
 use lib.Dec.{ltb}
 use borrow.Author.Tests.{ltb-true, ltb-false, lt-ltb, le-ltb, eq-eqb, ne-eqb}
-use Rattle.collector.specs.Rules.{Fate, broken, in-hand, Mark, Story, handOf, marked, given, settled, brokenOff, finished, Mode, inside, breaking, Next, totalOf, Size, going, whole, over, sizeOf, grown, plain, byteIn, stretch}
+use Rattle.collector.specs.Rules.{Fate, broken, done, in-hand, Mark, Story, handOf, marked, given, settled, brokenOff, finished, Mode, inside, breaking, Next, totalOf, Size, going, whole, over, sizeOf, grown, plain, byteIn, stretch}
 use Rattle.collector.proofs.Marks.{bytesOf-more, marked-append, settled-append, settled-marked}
 
 lt-at : (a b : ℕ) (t : Bool) → ltb a b ≡ t → (a < b) ⊎ (b ≤ a)
@@ -138,14 +138,14 @@ settles after s l j z k f e =
     ∙ ap (λ (x : Story ℕ). stretch plain after (grown after z x) (drop (suc j) l)) (all-append in-hand a (b ∷ []) s ∙ ap (λ (x : List ℕ). all in-hand x s) (sym (take-suc l j 0 k)))
 
 -- a section that declares too much takes the rest of its stretch with it
-broken-more : (a c : List ℕ) (s : Story ℕ) → all broken c (brokenOff (all in-hand a s)) ≡ brokenOff (all in-hand (a ++ c) s)
+broken-more : (a c : List ℕ) (s : Story ℕ) → all (done broken) c (brokenOff (all in-hand a s)) ≡ brokenOff (all in-hand (a ++ c) s)
 broken-more a c s = λ i. record { marks = e i; sections = s .sections }
   where
-    e : settled broken (s .marks ++ marked in-hand a) ++ marked broken c ≡ settled broken (s .marks ++ marked in-hand (a ++ c))
+    e : settled (done broken) (s .marks ++ marked in-hand a) ++ marked (done broken) c ≡ settled (done broken) (s .marks ++ marked in-hand (a ++ c))
     e =
-        ap (λ (l : List (Mark ℕ)). settled broken (s .marks ++ marked in-hand a) ++ l) (sym (settled-marked broken in-hand c))
-        ∙ sym (settled-append broken (s .marks ++ marked in-hand a) (marked in-hand c))
-        ∙ ap (settled broken) (append-assoc (s .marks) (marked in-hand a) (marked in-hand c) ∙ ap (λ (l : List (Mark ℕ)). s .marks ++ l) (sym (marked-append in-hand a c)))
+        ap (λ (l : List (Mark ℕ)). settled (done broken) (s .marks ++ marked in-hand a) ++ l) (sym (settled-marked (done broken) in-hand c))
+        ∙ sym (settled-append (done broken) (s .marks ++ marked in-hand a) (marked in-hand c))
+        ∙ ap (settled (done broken)) (append-assoc (s .marks) (marked in-hand a) (marked in-hand c) ∙ ap (λ (l : List (Mark ℕ)). s .marks ++ l) (sym (marked-append in-hand a c)))
 
 pub law-over : (after : Mode) (s : Story ℕ) (l : List ℕ) → length (handOf s) < 3 → 3 ≤ length (handOf s ++ l) → 4096 < totalOf (handOf s ++ l) → stretch plain after (place inside s) l ≡ place breaking (brokenOff (all in-hand l s))
 law-over after s l k w o =
@@ -157,7 +157,7 @@ law-over after s l k w o =
     settles after s l j over below
     (λ a c e. size-short (h ++ a) (omega (arith, length-append h a, length-append a c, ap length e, length-take j l)))
     (size-over _ (omega (arith, long)) (subst (λ (m : ℕ). 4096 < m) (sym (cut-total h l j below (omega arith))) o))
-    ∙ pass after breaking broken (λ b x. refl) (brokenOff (all in-hand (take (suc j) l) s)) (drop (suc j) l)
+    ∙ pass after breaking (done broken) (λ b x. refl) (brokenOff (all in-hand (take (suc j) l) s)) (drop (suc j) l)
     ∙ ap (place breaking) (broken-more (take (suc j) l) (drop (suc j) l) s ∙ ap (λ (x : List ℕ). brokenOff (all in-hand x s)) (take-append-drop (suc j) l))
 
 pub law-whole : (after : Mode) (s : Story ℕ) (l : List ℕ) (k : ℕ) → length (handOf s) + k ≡ totalOf (handOf s ++ l) → 0 < k → totalOf (handOf s ++ l) ≤ 4096 → k ≤ length l

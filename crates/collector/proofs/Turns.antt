@@ -10,7 +10,7 @@ use lib.Seq.{paste, length-paste, drop-drop, drop-cons, length-take-le, take-all
 use lib.Dec.{eqb}
 use borrow.Author.Tests.{eq-eqb, ne-eqb}
 use Rattle.wire.specs.If.{if_then_else_}
-use Rattle.collector.specs.Rules.{Fate, delivered, broken, filler, skipped, in-hand, Mark, Story, sameFate, bytesOf, handOf, marked, given, settled, brokenOff, finished, holding, begin, inside, filling, Next, totalOf, begun, plain, stretch, sectionsIn}
+use Rattle.collector.specs.Rules.{Fate, delivered, broken, filler, skipped, done, in-hand, Mark, Story, sameFate, bytesOf, handOf, marked, given, settled, brokenOff, finished, holding, begin, inside, filling, Next, totalOf, begun, plain, stretch, sectionsIn}
 use Rattle.collector.specs.Collected.{over}
 use Rattle.collector.specs.Inner.Stretch.{LookSays, Ends}
 use Rattle.collector.specs.declared.stretch.Look.{Look}
@@ -23,51 +23,51 @@ use Rattle.collector.proofs.Rooms.{laid, laid-none, laid-more, ends-as}
 -- ---- the story of a stretch of which only whole sections have come, with bytes of one more fate after them
 
 abbrev pub made : List (List ℕ) → Story ℕ
-made secs = record { marks = marked delivered (flatten secs); sections = secs }
+made secs = record { marks = marked (done delivered) (flatten secs); sections = secs }
 
 -- one section more
 pub made-more : (secs : List (List ℕ)) (s : List ℕ) → finished (all in-hand s (made secs)) ≡ made (secs ++ (s ∷ []))
 made-more secs s = λ i. record { marks = marks-is i; sections = secs ++ (hand-is i ∷ []) }
   where
     hand-is : handOf (all in-hand s (made secs)) ≡ s
-    hand-is = hand-all s (made secs) ∙ ap (λ (l : List ℕ). l ++ s) (bytesOf-marked in-hand delivered (flatten secs))
+    hand-is = hand-all s (made secs) ∙ ap (λ (l : List ℕ). l ++ s) (bytesOf-marked in-hand (done delivered) (flatten secs))
 
-    marks-is : settled delivered (marked delivered (flatten secs) ++ marked in-hand s) ≡ marked delivered (flatten (secs ++ (s ∷ [])))
+    marks-is : settled (done delivered) (marked (done delivered) (flatten secs) ++ marked in-hand s) ≡ marked (done delivered) (flatten (secs ++ (s ∷ [])))
     marks-is =
-        settled-append delivered (marked delivered (flatten secs)) (marked in-hand s)
-        ∙ ap (λ (l : List (Mark ℕ)). l ++ settled delivered (marked in-hand s)) (settled-marked delivered delivered (flatten secs))
-        ∙ ap (λ (l : List (Mark ℕ)). marked delivered (flatten secs) ++ l) (settled-marked delivered in-hand s)
-        ∙ sym (marked-append delivered (flatten secs) s)
-        ∙ ap (marked delivered) (sym (flatten-snoc secs s))
+        settled-append (done delivered) (marked (done delivered) (flatten secs)) (marked in-hand s)
+        ∙ ap (λ (l : List (Mark ℕ)). l ++ settled (done delivered) (marked in-hand s)) (settled-marked (done delivered) (done delivered) (flatten secs))
+        ∙ ap (λ (l : List (Mark ℕ)). marked (done delivered) (flatten secs) ++ l) (settled-marked (done delivered) in-hand s)
+        ∙ sym (marked-append (done delivered) (flatten secs) s)
+        ∙ ap (marked (done delivered)) (sym (flatten-snoc secs s))
 
 -- a section that declares too much, behind whole ones
-pub made-broken : (secs : List (List ℕ)) (l : List ℕ) → brokenOff (all in-hand l (made secs)) ≡ all broken l (made secs)
+pub made-broken : (secs : List (List ℕ)) (l : List ℕ) → brokenOff (all in-hand l (made secs)) ≡ all (done broken) l (made secs)
 made-broken secs l = λ i. record { marks = marks-is i; sections = secs }
   where
-    marks-is : settled broken (marked delivered (flatten secs) ++ marked in-hand l) ≡ marked delivered (flatten secs) ++ marked broken l
+    marks-is : settled (done broken) (marked (done delivered) (flatten secs) ++ marked in-hand l) ≡ marked (done delivered) (flatten secs) ++ marked (done broken) l
     marks-is =
-        settled-append broken (marked delivered (flatten secs)) (marked in-hand l)
-        ∙ ap (λ (x : List (Mark ℕ)). x ++ settled broken (marked in-hand l)) (settled-marked broken delivered (flatten secs))
-        ∙ ap (λ (x : List (Mark ℕ)). marked delivered (flatten secs) ++ x) (settled-marked broken in-hand l)
+        settled-append (done broken) (marked (done delivered) (flatten secs)) (marked in-hand l)
+        ∙ ap (λ (x : List (Mark ℕ)). x ++ settled (done broken) (marked in-hand l)) (settled-marked (done broken) (done delivered) (flatten secs))
+        ∙ ap (λ (x : List (Mark ℕ)). marked (done delivered) (flatten secs) ++ x) (settled-marked (done broken) in-hand l)
 
 -- the bytes of a fate other than delivered are all behind the sections
-pub rest-of : (f g : Fate) (secs : List (List ℕ)) (l : List ℕ) → sameFate f delivered ≡ false → bytesOf f (all g l (made secs) .marks) ≡ (if sameFate f g then l else [])
+pub rest-of : (f g : Fate) (secs : List (List ℕ)) (l : List ℕ) → sameFate f (done delivered) ≡ false → bytesOf f (all g l (made secs) .marks) ≡ (if sameFate f g then l else [])
 rest-of f g secs l e =
-    bytesOf-more f g (marked delivered (flatten secs)) l
-    ∙ ap (λ (x : List ℕ). x ++ (if sameFate f g then l else [])) (bytesOf-marked f delivered (flatten secs) ∙ ap (λ (t : Bool). if t then flatten secs else []) e)
+    bytesOf-more f g (marked (done delivered) (flatten secs)) l
+    ∙ ap (λ (x : List ℕ). x ++ (if sameFate f g then l else [])) (bytesOf-marked f (done delivered) (flatten secs) ∙ ap (λ (t : Bool). if t then flatten secs else []) e)
 
 -- the answer where the bytes l behind the sections have the fate g
 pub ends-made : (g : Fate) (secs : List (List ℕ)) (l hold out : List ℕ) (at : ℕ) (hold′ out′ : List ℕ) (r : Came) → r .sections ≡ length secs → r .bytes ≡ length (flatten secs)
-    → r .in_hand ≡ length (if sameFate in-hand g then l else []) → r .broken ≡ length (if sameFate broken g then l else [])
-    → r .filler ≡ length (if sameFate filler g then l else []) → r .skipped ≡ length (if sameFate skipped g then l else [])
+    → r .in_hand ≡ length (if sameFate in-hand g then l else []) → r .broken ≡ length (if sameFate (done broken) g then l else [])
+    → r .filler ≡ length (if sameFate (done filler) g then l else []) → r .skipped ≡ length (if sameFate (done skipped) g then l else [])
     → hold′ ≡ over (if sameFate in-hand g then l else []) hold → out′ ≡ laid out at (flatten secs) → Ends (all g l (made secs)) hold out at hold′ out′ r
 ends-made g secs l hold out at hold′ out′ r n b h k f s eh eo = record {
   in-hand = h ∙ ap length (sym (rest-of in-hand g secs l refl));
   sections = n;
   bytes = b;
-  broken = k ∙ ap length (sym (rest-of broken g secs l refl));
-  filler = f ∙ ap length (sym (rest-of filler g secs l refl));
-  skipped = s ∙ ap length (sym (rest-of skipped g secs l refl));
+  broken = k ∙ ap length (sym (rest-of (done broken) g secs l refl));
+  filler = f ∙ ap length (sym (rest-of (done filler) g secs l refl));
+  skipped = s ∙ ap length (sym (rest-of (done skipped) g secs l refl));
   the-hold = eh ∙ ap (λ (x : List ℕ). over x hold) (sym (rest-of in-hand g secs l refl));
   the-out = eo;
 }
@@ -86,13 +86,13 @@ module _ (secs : List (List ℕ)) where
 
   -- the byte of a section's beginning, and the bytes behind it
   first-more : (b : ℕ) (l : List ℕ) → all in-hand l (first b) ≡ all in-hand (b ∷ l) (made secs)
-  first-more b l = λ i. record { marks = append-assoc (marked delivered (flatten secs)) (marked in-hand (b ∷ [])) (marked in-hand l) i; sections = secs }
+  first-more b l = λ i. record { marks = append-assoc (marked (done delivered) (flatten secs)) (marked in-hand (b ∷ [])) (marked in-hand l) i; sections = secs }
 
-  turn-filler : (b : ℕ) (l : List ℕ) → eqb b 255 ≡ true → from (b ∷ l) ≡ all filler (b ∷ l) (made secs)
+  turn-filler : (b : ℕ) (l : List ℕ) → eqb b 255 ≡ true → from (b ∷ l) ≡ all (done filler) (b ∷ l) (made secs)
   turn-filler b l e =
       ap (λ (t : Bool). stretch plain begin (begun t b (made secs)) l .story) e
-      ∙ ap (λ (n : Next ℕ). n .story) (pass begin filling filler (λ c s. refl) (given filler b (made secs)) l)
-      ∙ (λ i. record { marks = append-assoc (marked delivered (flatten secs)) (marked filler (b ∷ [])) (marked filler l) i; sections = secs })
+      ∙ ap (λ (n : Next ℕ). n .story) (pass begin filling (done filler) (λ c s. refl) (given (done filler) b (made secs)) l)
+      ∙ (λ i. record { marks = append-assoc (marked (done delivered) (flatten secs)) (marked (done filler) (b ∷ [])) (marked (done filler) l) i; sections = secs })
 
   turn-first : (b : ℕ) (l : List ℕ) → eqb b 255 ≡ false → from (b ∷ l) ≡ stretch plain begin (place inside (first b)) l .story
   turn-first b l e = ap (λ (t : Bool). stretch plain begin (begun t b (made secs)) l .story) e
@@ -110,7 +110,7 @@ module _ (secs : List (List ℕ)) where
       (λ w. grow-going begin (first b) l (subst (λ (x : List ℕ). totalOf x ≤ 4096) v (w .1)) (subst (λ (x : List ℕ). length x < totalOf x) v (w .2))) says)
       ∙ first-more b l
 
-  turn-over : (b : ℕ) (l : List ℕ) → eqb b 255 ≡ false → LookSays (b ∷ l) Over → from (b ∷ l) ≡ all broken (b ∷ l) (made secs)
+  turn-over : (b : ℕ) (l : List ℕ) → eqb b 255 ≡ false → LookSays (b ∷ l) Over → from (b ∷ l) ≡ all (done broken) (b ∷ l) (made secs)
   turn-over b l e says =
       let v = sym (here b l) in
       turn-first b l e
@@ -167,8 +167,8 @@ module _ {p : List ℕ} {from : ℕ} {hold₀ out₀ : List ℕ} {at : ℕ} {hol
 
   pub end-all : length p ≤ i → End hold (answer 0 0 0)
   end-all k =
-      ends-as (all filler [] (made (x .secs))) (x .so-far ∙ ap (sectionsIn plain (made (x .secs))) (drop-of-length-le p k) ∙ sym (all-none filler (made (x .secs))))
-      (ends-made filler (x .secs) [] hold₀ out₀ at hold out (answer 0 0 0) (x .number) bytes-long refl refl refl refl (x .the-hold) (x .the-out))
+      ends-as (all (done filler) [] (made (x .secs))) (x .so-far ∙ ap (sectionsIn plain (made (x .secs))) (drop-of-length-le p k) ∙ sym (all-none (done filler) (made (x .secs))))
+      (ends-made (done filler) (x .secs) [] hold₀ out₀ at hold out (answer 0 0 0) (x .number) bytes-long refl refl refl refl (x .the-hold) (x .the-out))
 
   module _ (k : i < length p) where
     abbrev b : ℕ
@@ -188,14 +188,14 @@ module _ {p : List ℕ} {from : ℕ} {hold₀ out₀ : List ℕ} {at : ℕ} {hol
 
     pub end-filler : b ≡ 255 → End hold (answer 0 0 (length p - i))
     end-filler e =
-        ends-as (all filler (b ∷ rest) (made (x .secs))) (now-here ∙ turn-filler (x .secs) b rest (eq-eqb b 255 e))
-        (ends-made filler (x .secs) (b ∷ rest) hold₀ out₀ at hold out (answer 0 0 (length p - i)) (x .number) bytes-long refl refl long-here refl (x .the-hold) (x .the-out))
+        ends-as (all (done filler) (b ∷ rest) (made (x .secs))) (now-here ∙ turn-filler (x .secs) b rest (eq-eqb b 255 e))
+        (ends-made (done filler) (x .secs) (b ∷ rest) hold₀ out₀ at hold out (answer 0 0 (length p - i)) (x .number) bytes-long refl refl long-here refl (x .the-hold) (x .the-out))
 
     module _ (other : b ≡ 255 → ⊥) (r : Look) (says : LookSays (take (length p - i) (drop i p)) r) where
       pub end-over : r ≡ Over → End hold (answer 0 (length p - i) 0)
       end-over e =
-          ends-as (all broken (b ∷ rest) (made (x .secs))) (now-here ∙ turn-over (x .secs) b rest (ne-eqb b 255 other) (look-here p i r Over k says e))
-          (ends-made broken (x .secs) (b ∷ rest) hold₀ out₀ at hold out (answer 0 (length p - i) 0) (x .number) bytes-long refl long-here refl refl (x .the-hold) (x .the-out))
+          ends-as (all (done broken) (b ∷ rest) (made (x .secs))) (now-here ∙ turn-over (x .secs) b rest (ne-eqb b 255 other) (look-here p i r Over k says e))
+          (ends-made (done broken) (x .secs) (b ∷ rest) hold₀ out₀ at hold out (answer 0 (length p - i) 0) (x .number) bytes-long refl long-here refl refl (x .the-hold) (x .the-out))
 
       pub end-going : r ≡ Going → (hold′ : List ℕ) → hold′ ≡ paste hold 0 (drop i p) (length p - i) → End hold′ (answer (length p - i) 0 0)
       end-going e hold′ w =

@@ -2,16 +2,39 @@
 use mathlib.Core.List.{List, _++_, flatten}
 use Prim.Native.Nat.{ℕ, _+_, _%_, _^_}
 use lib.ListN.{length, take, drop}
-use Rattle.collector.specs.Rules.{pointer, delivered, broken, filler, skipped, Story, countOf, handOf, holding, plain, takenIn}
+use Rattle.collector.specs.Rules.{Kind, pointer, delivered, broken, filler, skipped, Fate, in-hand, done, Story, countOf, handOf, holding, plain, takenIn}
 use Rattle.collector.specs.Refusals.{beforeOf, cannotStand, Ruling, refused, repeated, bare, takes, ruling}
 use Rattle.collector.specs.Answer as Answer
 use Rattle.collector.specs.Answer.{Told, Outcome}
 use Rattle.collector.specs.declared.Record.{Record}
+use Rattle.collector.specs.declared.Last.{Last}
 use Rattle.collector.specs.declared.Last.the-variants.{None, Counter}
+
+-- the bytes that a record counts of each fate
+abbrev pub bytesCounted : Fate → Record → ℕ
+bytesCounted in-hand r = r .in_hand
+bytesCounted (done pointer) r = r .pointer
+bytesCounted (done delivered) r = r .delivered
+bytesCounted (done broken) r = r .broken
+bytesCounted (done filler) r = r .filler
+bytesCounted (done skipped) r = r .skipped
+
+-- a record by its PID, its last counter or none, the bytes in hand, and its counter of each kind
+abbrev pub recordWith : ℕ → Last → ℕ → (Kind → ℕ) → Record
+recordWith pid last held n = record {
+  pid = pid;
+  last = last;
+  in_hand = held;
+  pointer = n pointer;
+  delivered = n delivered;
+  broken = n broken;
+  filler = n filler;
+  skipped = n skipped;
+}
 
 -- "A fresh one: no counter, nothing in hand, zeros."
 abbrev pub freshRecord : ℕ → Record
-freshRecord pid = record { pid = pid; last = None; in_hand = 0; pointer = 0; delivered = 0; broken = 0; filler = 0; skipped = 0 }
+freshRecord pid = recordWith pid None 0 (λ k. 0)
 
 -- "the record and all lent room unaltered"
 abbrev pub unaltered : Record → List ℕ → List ℕ → Told → Outcome
@@ -19,16 +42,9 @@ unaltered r hold out said = record { rec = r; hold = hold; out = out; said = sai
 
 -- "the counter then becomes the last"; "five 32-bit counters that run round past 4,294,967,295 to 0"
 abbrev pub recordAfter : Record → ℕ → Story ℕ → Record
-recordAfter r counter s = record {
-  pid = r .pid;
-  last = Counter counter;
-  in_hand = length (handOf s);
-  pointer = (r .pointer + countOf pointer (s .marks)) % 2 ^ 32;
-  delivered = (r .delivered + countOf delivered (s .marks)) % 2 ^ 32;
-  broken = (r .broken + countOf broken (s .marks)) % 2 ^ 32;
-  filler = (r .filler + countOf filler (s .marks)) % 2 ^ 32;
-  skipped = (r .skipped + countOf skipped (s .marks)) % 2 ^ 32;
-}
+recordAfter r counter s =
+    recordWith (r .pid) (Counter counter) (length (handOf s))
+    (λ k. (bytesCounted (done k) r + countOf (done k) (s .marks)) % 2 ^ 32)
 
 -- bytes at a room's start; "Bytes of either beyond that stay."
 abbrev pub over : List ℕ → List ℕ → List ℕ

@@ -10,14 +10,17 @@ use lib.Dec.{ltb, eqb}
 use Rattle.wire.specs.If.{if_then_else_}
 use Rattle.wire.specs.Bytes.{len12At}
 
--- "one fate ..: pointer, delivered, broken off, filler, skipped, or in hand"
+-- "one fate ..: pointer, delivered, broken off, filler, skipped, or in hand": of what kind a byte is once it is done with
+pub data Kind : Type 0 where
+  pointer : Kind
+  delivered : Kind
+  broken : Kind
+  filler : Kind
+  skipped : Kind
+
 pub data Fate : Type 0 where
-  pointer : Fate
-  delivered : Fate
-  broken : Fate
-  filler : Fate
-  skipped : Fate
   in-hand : Fate
+  done : Kind → Fate
 
 pub record Mark (A : Type 0) : Type 0 where
   pub byte : A
@@ -30,25 +33,38 @@ pub record Story (A : Type 0) : Type 0 where
 
 -- ---- what the marks say
 
-abbrev pub fateNumber : Fate → ℕ
-fateNumber pointer = 0
-fateNumber delivered = 1
-fateNumber broken = 2
-fateNumber filler = 3
-fateNumber skipped = 4
-fateNumber in-hand = 5
+abbrev pub kindNumber : Kind → ℕ
+kindNumber pointer = 0
+kindNumber delivered = 1
+kindNumber broken = 2
+kindNumber filler = 3
+kindNumber skipped = 4
+
+abbrev pub sameKind : Kind → Kind → Bool
+sameKind j k = eqb (kindNumber j) (kindNumber k)
 
 abbrev pub sameFate : Fate → Fate → Bool
-sameFate f g = eqb (fateNumber f) (fateNumber g)
+sameFate in-hand in-hand = true
+sameFate in-hand (done k) = false
+sameFate (done j) in-hand = false
+sameFate (done j) (done k) = sameKind j k
 
 -- a byte's fate, once what was in hand has the fate f
 abbrev pub outOfHand : Fate → Fate → Fate
-outOfHand f pointer = pointer
-outOfHand f delivered = delivered
-outOfHand f broken = broken
-outOfHand f filler = filler
-outOfHand f skipped = skipped
 outOfHand f in-hand = f
+outOfHand f (done k) = done k
+
+-- each kind, once
+abbrev pub kinds : List Kind
+kinds = pointer ∷ delivered ∷ broken ∷ filler ∷ skipped ∷ []
+
+abbrev pub sumIn : (Kind → ℕ) → List Kind → ℕ
+sumIn n [] = 0
+sumIn n (k ∷ ks) = n k + sumIn n ks
+
+-- a number for each fate, all of them together
+abbrev pub sumOf : (Fate → ℕ) → ℕ
+sumOf n = sumIn (λ k. n (done k)) kinds + n in-hand
 
 module _ {A : Type 0} where
   -- the bytes of one fate, in order
@@ -82,11 +98,11 @@ module _ {A : Type 0} where
 
   -- what is in hand is broken off
   abbrev pub brokenOff : Story A → Story A
-  brokenOff s = record { marks = settled broken (s .marks); sections = s .sections }
+  brokenOff s = record { marks = settled (done broken) (s .marks); sections = s .sections }
 
   -- what is in hand is a section, and is delivered
   abbrev pub finished : Story A → Story A
-  finished s = record { marks = settled delivered (s .marks); sections = s .sections ++ (handOf s ∷ []) }
+  finished s = record { marks = settled (done delivered) (s .marks); sections = s .sections ++ (handOf s ∷ []) }
 
 -- ---- one byte
 
@@ -150,7 +166,7 @@ module _ {A : Type 0} where
 
   -- "until 0xFF stands where one would begin (the rest is filler)"
   abbrev pub begun : Bool → A → Story A → Next A
-  begun true b s = record { mode = filling; story = given filler b s }
+  begun true b s = record { mode = filling; story = given (done filler) b s }
   begun false b s = record { mode = inside; story = given in-hand b s }
 
   -- after is the mode that a section's end leads to. "the section and the rest of its stretch .. are broken off"
@@ -172,9 +188,9 @@ module _ {A : Type 0} (value : A → ℕ) where
   abbrev pub byteIn : Mode → Mode → A → Story A → Next A
   byteIn after begin b s = begun (eqb (value b) 255) b s
   byteIn after inside b s = grown after (sizeOf (map value (handOf s ++ (b ∷ [])))) (given in-hand b s)
-  byteIn after filling b s = record { mode = filling; story = given filler b s }
-  byteIn after skipping b s = record { mode = skipping; story = given skipped b s }
-  byteIn after breaking b s = record { mode = breaking; story = given broken b s }
+  byteIn after filling b s = record { mode = filling; story = given (done filler) b s }
+  byteIn after skipping b s = record { mode = skipping; story = given (done skipped) b s }
+  byteIn after breaking b s = record { mode = breaking; story = given (done broken) b s }
 
   -- ---- a stretch of payload
 
@@ -195,7 +211,7 @@ module _ {A : Type 0} (value : A → ℕ) where
   -- "Start flag: one pointer byte p. The next p bytes go as above; a section still unfinished after them is broken off."
   abbrev pub started : Story A → List A → Story A
   started s [] = s
-  started s (p ∷ bs) = sectionsIn (brokenOff (goesOn (given pointer p s) (take (value p) bs))) (drop (value p) bs)
+  started s (p ∷ bs) = sectionsIn (brokenOff (goesOn (given (done pointer) p s) (take (value p) bs))) (drop (value p) bs)
 
   abbrev pub payload : Bool → Story A → List A → Story A
   payload true s bs = started s bs

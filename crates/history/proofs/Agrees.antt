@@ -12,12 +12,14 @@ use lib.Dec.{ltb}
 use borrow.Author.Tests.{ltb-false}
 use Rattle.wire.specs.If.{if_then_else_}
 use Rattle.collector.specs.Each.{Each}
-use Rattle.collector.specs.Rules.{Fate, pointer, delivered, broken, filler, skipped, in-hand, Story, sameFate, countOf, handOf, marked, holding, totalOf, Before, plain, Carried, takenIn}
+use Rattle.collector.specs.Rules.{Fate, in-hand, done, Story, sameFate, countOf, handOf, marked, holding, totalOf, Before, plain, Carried, takenIn}
 use Rattle.collector.specs.Refusals.{beforeOf, cannotStand, Judged, refuse, carries, judged, repeats, Ruling, repeated, takes, carriedIn, ruledBy, ruling}
 use Rattle.collector.specs.Refusals as Refusals
 use Rattle.collector.specs.Answer.{Outcome}
-use Rattle.collector.specs.Collected.{freshRecord, recordAfter, over, takenTo, outcomeOf}
+use Rattle.collector.specs.Collected.{bytesCounted, freshRecord, recordAfter, over, takenTo, outcomeOf}
 use Rattle.collector.specs.declared.Record.{Record}
+use Rattle.collector.specs.declared.Last.the-variants.{None, Counter}
+use Rattle.collector.proofs.Counters.{counts-with}
 use Rattle.collector.proofs.Marks.{bytesOf-marked}
 use Rattle.collector.proofs.Runs.{total-prefix}
 use Rattle.collector.proofs.Beside.{Beside, beside-taken}
@@ -105,11 +107,7 @@ agrees-fresh pid hold = record {
   before-is = refl;
   stand-is = or-none (ltb 8191 pid);
   counted = record {
-    pointer-is = refl;
-    delivered-is = refl;
-    broken-is = refl;
-    filler-is = refl;
-    skipped-is = refl;
+    counters-are = counts-with pid None 0 (λ k. 0);
     in-hand-is = refl;
     hold-is = refl;
   };
@@ -189,21 +187,11 @@ module _ {pid size : ℕ} {r : Record} {hold : List ℕ} {h : History} (g : Agre
               (drop (length (handOf s)) hold)
               ∙ ap (ltb 8191) (g .pid-is);
           counted = record {
-            pointer-is =
-                runs-round (r .pointer) (base pointer) (countOf pointer (s .marks)) _ (g .counted .pointer-is)
-                (b .counts pointer refl);
-            delivered-is =
-                runs-round (r .delivered) (base delivered) (countOf delivered (s .marks)) _ (g .counted .delivered-is)
-                (b .counts delivered refl);
-            broken-is =
-                runs-round (r .broken) (base broken) (countOf broken (s .marks)) _ (g .counted .broken-is)
-                (b .counts broken refl);
-            filler-is =
-                runs-round (r .filler) (base filler) (countOf filler (s .marks)) _ (g .counted .filler-is)
-                (b .counts filler refl);
-            skipped-is =
-                runs-round (r .skipped) (base skipped) (countOf skipped (s .marks)) _ (g .counted .skipped-is)
-                (b .counts skipped refl);
+            counters-are = λ k.
+                counts-with (r .pid) (Counter (q .counter)) (length (handOf s))
+                (λ j. (bytesCounted (done j) r + countOf (done j) (s .marks)) % 2 ^ 32) k
+                ∙ runs-round (bytesCounted (done k) r) (base (done k)) (countOf (done k) (s .marks)) _
+                (g .counted .counters-are k) (b .counts (done k) refl);
             in-hand-is = ap length (sym (b .hand)) ∙ map-long (handOf (after h q .story));
             hold-is = take-append-seam (handOf s) (drop (length (handOf s)) hold) ∙ sym (b .hand);
           };

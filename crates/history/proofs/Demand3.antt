@@ -11,13 +11,13 @@ use borrow.Author.Tests.{le-ltb}
 use Rattle.wire.specs.If.{if_then_else_}
 use Rattle.wire.proofs.IfLaws.{true-not-false}
 use Rattle.collector.specs.Each.{Each}
-use Rattle.collector.specs.Rules.{Fate, pointer, delivered, broken, filler, skipped, Mark, Story, sameFate, bytesOf, countOf, Before, noneBefore, Carried}
+use Rattle.collector.specs.Rules.{Kind, delivered, Fate, done, kinds, sumIn, sumOf, Mark, Story, sameFate, bytesOf, countOf, Before, noneBefore, Carried}
 use Rattle.collector.specs.Refusals.{_when_, refusals}
 use Rattle.collector.specs.Answer.{refused}
-use Rattle.collector.specs.Collected.{freshRecord}
+use Rattle.collector.specs.Collected.{bytesCounted, freshRecord}
 use Rattle.collector.specs.declared.Record.{Record}
 use Rattle.collector.proofs.Keeps.{each-of, keep-taken}
-use Rattle.collector.proofs.Kept.{Any, Kept, keeps-kept, points-kept, kept-holding, counts-in, sumOf}
+use Rattle.collector.proofs.Kept.{Any, Kept, keeps-kept, points-kept, kept-holding, counts-in}
 use Rattle.history.specs.History.{Byte, valueOf, numbered, History, unbegun, numberedIn, after, historyFrom, historyOf, payloadsFrom, Among, none-left, left-out, had}
 use Rattle.history.specs.Run.{Promised, Call, Run, Fare, taken, fareOf, takenOf, lentOf, rulingOn, beforeAfter, faresFrom, NotRefused, NotRepeated, handed}
 use Rattle.history.specs.Demand1.{First}
@@ -84,17 +84,19 @@ add-round a b n m e w = omega arith
 round : (a n : ℕ) → a ≡ n % 2 ^ 32 → a % 2 ^ 32 ≡ n % 2 ^ 32
 round a n e = omega arith
 
+sums-round : (a n : Kind → ℕ) → ((k : Kind) → a k % 2 ^ 32 ≡ n k % 2 ^ 32) → (ks : List Kind)
+    → sumIn a ks % 2 ^ 32 ≡ sumIn n ks % 2 ^ 32
+sums-round a n e [] = refl
+sums-round a n e (k ∷ ks) = add-round (a k) (sumIn a ks) (n k) (sumIn n ks) (e k) (sums-round a n e ks)
+
 pub counters-make-up : CountersMakeUp Promised
 counters-make-up pid hold calls r hold′ x =
     let s : Story Byte = storyBy pid hold calls in
     let c = counted pid hold calls r hold′ x in
-    let two = add-round (r .pointer) (r .delivered) _ _ (round _ (countOf pointer (s .marks)) (c .pointer-is))
-    (round _ (countOf delivered (s .marks)) (c .delivered-is)) in
-    let three = add-round _ (r .broken) _ _ two (round _ (countOf broken (s .marks)) (c .broken-is)) in
-    let four = add-round _ (r .filler) _ _ three (round _ (countOf filler (s .marks)) (c .filler-is)) in
-    let five = add-round _ (r .skipped) _ _ four (round _ (countOf skipped (s .marks)) (c .skipped-is)) in
-    let six = add-round _ (r .in_hand) _ _ five (ap (λ (n : ℕ). n % 2 ^ 32) (c .in-hand-is)) in
-    six ∙ ap (λ (n : ℕ). n % 2 ^ 32)
+    let counters = sums-round (λ k. bytesCounted (done k) r) (λ k. countOf (done k) (s .marks))
+    (λ k. round (bytesCounted (done k) r) (countOf (done k) (s .marks)) (c .counters-are k)) kinds in
+    add-round _ (r .in_hand) _ _ counters (ap (λ (n : ℕ). n % 2 ^ 32) (c .in-hand-is))
+    ∙ ap (λ (n : ℕ). n % 2 ^ 32)
     (counts-in valueOf (payloadsFrom 0 (takenBy pid hold calls)) s (kept-history (takenBy pid hold calls)))
     ∙ ap (λ (qs : List (Carried ℕ)). length (payloadsFrom 0 qs) % 2 ^ 32) (sym (taken-by pid hold calls r hold′ x))
 
@@ -137,7 +139,7 @@ no-section-spans pid hold calls r hold′ x =
     let out = delivered-in-order pid hold calls r hold′ x in
     let among : Among (flatten (s .sections)) (payloadsFrom 0 qs) =
     subst (λ (l : List Byte). Among l (payloadsFrom 0 qs)) (out .delivered-are)
-    (subst (Among (bytesOf delivered (s .marks))) (kept-history qs .seen) (fate-among delivered (s .marks))) in
+    (subst (Among (bytesOf (done delivered) (s .marks))) (kept-history qs .seen) (fate-among (done delivered) (s .marks))) in
     subst (λ (z : List (Carried ℕ)). MadeUnbroken z (handed calls)) (sym (taken-by pid hold calls r hold′ x))
     (record {
       made-of = s .sections;

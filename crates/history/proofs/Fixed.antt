@@ -9,11 +9,11 @@ use lib.ListN.{length, take, drop, take-append-drop}
 use lib.Seq.{drop-append-seam}
 use lib.Dec.{ltb}
 use Rattle.collector.specs.Each.{Each}
-use Rattle.collector.specs.Rules.{pointer, delivered, broken, filler, skipped, in-hand, Story, countOf, handOf, holding, totalOf, Before, noneBefore, plain, takenIn}
+use Rattle.collector.specs.Rules.{in-hand, done, Story, countOf, handOf, holding, totalOf, Before, noneBefore, plain, takenIn}
 use Rattle.collector.specs.Refusals.{lastOf, beforeOf, cannotStand, Ruling, takes, ruling}
 use Rattle.collector.specs.Refusals as Refusals
 use Rattle.collector.specs.Answer.{Told, refused, repeated, taken, Outcome}
-use Rattle.collector.specs.Collected.{freshRecord, over, outcomeOf, collected}
+use Rattle.collector.specs.Collected.{recordWith, freshRecord, over, outcomeOf, collected}
 use Rattle.collector.specs.declared.Record.{Record}
 use Rattle.collector.specs.declared.Last.{Last}
 use Rattle.collector.specs.declared.Last.the-variants.{None, Counter}
@@ -66,16 +66,9 @@ last-in None = refl
 last-in (Counter c) = refl
 
 abbrev recordIn : ℕ → History → Record
-recordIn pid h = record {
-  pid = pid;
-  last = lastIn (h .before .last);
-  in_hand = countOf in-hand (h .story .marks);
-  pointer = countOf pointer (h .story .marks) % 2 ^ 32;
-  delivered = countOf delivered (h .story .marks) % 2 ^ 32;
-  broken = countOf broken (h .story .marks) % 2 ^ 32;
-  filler = countOf filler (h .story .marks) % 2 ^ 32;
-  skipped = countOf skipped (h .story .marks) % 2 ^ 32;
-}
+recordIn pid h =
+    recordWith pid (lastIn (h .before .last)) (countOf in-hand (h .story .marks))
+    (λ k. countOf (done k) (h .story .marks) % 2 ^ 32)
 
 record Shown (pid : ℕ) (hold : List ℕ) (xs : List Lent) (ks : List Call) (r : Record) (hold′ : List ℕ) : Type 0 where
   fares-are : map (λ k. fareOf (k .said)) ks ≡ faresFrom pid (length hold) noneBefore xs
@@ -94,16 +87,7 @@ shown C a pid hold ks r hold′ x =
       fares-are =
           fares-by pid (length hold) noneBefore ks (a .refused-if pid hold ks r hold′ x) (a .taken-if pid hold ks r hold′ x);
       sections-are = a .delivered pid hold ks r hold′ x .sections-are;
-      record-is = λ i. record {
-        pid = t .0 i;
-        last = last i;
-        in_hand = c .in-hand-is i;
-        pointer = c .pointer-is i;
-        delivered = c .delivered-is i;
-        broken = c .broken-is i;
-        filler = c .filler-is i;
-        skipped = c .skipped-is i;
-      };
+      record-is = λ i. recordWith (t .0 i) (last i) (c .in-hand-is i) (λ k. c .counters-are k i);
       hand-is = c .hold-is;
     }
 

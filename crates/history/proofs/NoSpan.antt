@@ -12,7 +12,7 @@ use lib.Seq.{getD-at}
 use borrow.Author.Tests.{eqb-true}
 use Rattle.wire.specs.If.{if_then_else_}
 use Rattle.collector.specs.Each.{Each}
-use Rattle.collector.specs.Rules.{Fate, pointer, delivered, broken, in-hand, Story, sameFate, handOf, given, settled, Before, nextTo, follows, joined, Carried}
+use Rattle.collector.specs.Rules.{Fate, pointer, delivered, broken, done, in-hand, Story, sameFate, handOf, given, settled, Before, nextTo, follows, joined, Carried}
 use Rattle.collector.proofs.Marks.{bytesOf-more, settled-hand}
 use Rattle.collector.proofs.Runs.{lt-or-ge}
 use Rattle.collector.proofs.Keeps.{each-append, each-map, Keeps, keep-payload}
@@ -64,11 +64,11 @@ module _ (qs : List (Carried ℕ)) where
     ends = λ b l s r e x.
         let y = linking-given n in-hand b l s r x in
         record {
-          hand = no-hand n delivered refl (given in-hand b s);
+          hand = no-hand n (done delivered) refl (given in-hand b s);
           sections = each-append (Unbroken qs) (s .sections) (handOf (given in-hand b s) ∷ []) (x .sections)
               (linked-section n (handOf (given in-hand b s)) (y .hand), tt);
         };
-    breaks = λ l s x. record { hand = no-hand n broken refl s; sections = x .sections };
+    breaks = λ l s x. record { hand = no-hand n (done broken) refl s; sections = x .sections };
   }
 
   -- ---- from packet to packet
@@ -103,7 +103,7 @@ module _ (qs : List (Carried ℕ)) where
     sections = x .sections;
   }
   linked-joined false h c l k e f x = record {
-    hand = no-hand (h .packets + 1) broken refl (h .story);
+    hand = no-hand (h .packets + 1) (done broken) refl (h .story);
     sections = x .sections;
   }
 
@@ -117,7 +117,7 @@ module _ (qs : List (Carried ℕ)) where
       → Linking (h .packets + 1) (l ++ numbered (h .packets) (q .bytes)) (after h q .story)
   linked-after h q l k e x =
       keep-payload valueOf (Linked (h .packets + 1)) (Linking (h .packets + 1)) (keeps-linking (h .packets + 1))
-      (λ b m s r y. linking-given (h .packets + 1) pointer b m s r y) (q .start) l
+      (λ b m s r y. linking-given (h .packets + 1) (done pointer) b m s r y) (q .start) l
       (joined (follows (h .before) (q .counter)) (h .story)) (numbered (h .packets) (q .bytes))
       (linked-new (h .packets) (q .bytes))
       (linked-joined (follows (h .before) (q .counter)) h (q .counter) l k e refl x)

@@ -8,7 +8,7 @@ use lib.ListN.{length, take, drop, replicate, length-append, length-take, length
 use lib.Dec.{eqb}
 use Rattle.wire.specs.If.{if_then_else_}
 use Rattle.collector.specs.Each.{Each}
-use Rattle.collector.specs.Rules.{pointer, broken, in-hand, Story, bytesOf, countOf, handOf, marked, given, brokenOff, finished, holding, Mode, begin, inside, filling, skipping, breaking, Next, Size, going, whole, over, sizeOf, Before, follows, plain, Carried, begun, grown, resumed, joined, byteIn, stretch, goesOn, sectionsIn, payload, takenIn}
+use Rattle.collector.specs.Rules.{pointer, broken, done, in-hand, Story, bytesOf, countOf, handOf, marked, given, brokenOff, finished, holding, Mode, begin, inside, filling, skipping, breaking, Next, Size, going, whole, over, sizeOf, Before, follows, plain, Carried, begun, grown, resumed, joined, byteIn, stretch, goesOn, sectionsIn, payload, takenIn}
 use Rattle.collector.specs.Refusals.{beforeOf, cannotStand, Judged, refuse, carries, judged, repeats, repeated, takes, carriedIn, ruledBy}
 use Rattle.collector.specs.Refusals as Refusals
 use Rattle.collector.specs.Answer.{Outcome}
@@ -26,22 +26,22 @@ use Rattle.history.proofs.Agrees.{whole-taken}
 
 -- ---- with the start flag: the pointer byte is not handed out
 
-no-pointer : (t : Bool) (h : List ℕ) → countOf pointer (joined t (holding h) .marks) ≡ 0
-no-pointer true h = ap length (bytesOf-marked pointer in-hand h)
+no-pointer : (t : Bool) (h : List ℕ) → countOf (done pointer) (joined t (holding h) .marks) ≡ 0
+no-pointer true h = ap length (bytesOf-marked (done pointer) in-hand h)
 no-pointer false h =
-    ap length (settled-other broken pointer refl refl (marked in-hand h) ∙ bytesOf-marked pointer in-hand h)
+    ap length (settled-other (done broken) (done pointer) refl refl (marked in-hand h) ∙ bytesOf-marked (done pointer) in-hand h)
 
-one-pointer : (s : Story ℕ) (p : ℕ) (bs : List ℕ) → countOf pointer (s .marks) ≡ 0
-    → countOf pointer (payload plain true s (p ∷ bs) .marks) ≡ 1
+one-pointer : (s : Story ℕ) (p : ℕ) (bs : List ℕ) → countOf (done pointer) (s .marks) ≡ 0
+    → countOf (done pointer) (payload plain true s (p ∷ bs) .marks) ≡ 1
 one-pointer s p bs e =
-    let first : countOf pointer (given pointer p s .marks) ≡ 1 =
+    let first : countOf (done pointer) (given (done pointer) p s .marks) ≡ 1 =
     omega (
       arith,
-      ap length (bytesOf-more pointer pointer (s .marks) (p ∷ [])),
-      length-append (bytesOf pointer (s .marks)) (p ∷ []),
+      ap length (bytesOf-more (done pointer) (done pointer) (s .marks) (p ∷ [])),
+      length-append (bytesOf (done pointer) (s .marks)) (p ∷ []),
     ) in
-    let f : Story ℕ = goesOn plain (given pointer p s) (take p bs) in
-    let y = keep-goes plain Any _ (keeps-points plain 1) [] (given pointer p s) (take p bs) (any (take p bs)) first in
+    let f : Story ℕ = goesOn plain (given (done pointer) p s) (take p bs) in
+    let y = keep-goes plain Any _ (keeps-points plain 1) [] (given (done pointer) p s) (take p bs) (any (take p bs)) first in
     keep-sections plain Any _ (keeps-points plain 1) [] (brokenOff f) (drop p bs) (any (drop p bs))
     (keeps-points plain 1 .breaks [] f y)
 
@@ -120,7 +120,7 @@ most-in before h q true (p ∷ bs) e w few some long =
     let s : Story ℕ = takenIn plain before (holding h) q in
     let kept = keep-taken plain Any (Kept plain) (keeps-kept plain) (points-kept plain) before h (holding h) q
     (any (q .bytes)) (kept-holding plain h) in
-    let point : countOf pointer (s .marks) ≡ 1 =
+    let point : countOf (done pointer) (s .marks) ≡ 1 =
     rw (e, w)
     (one-pointer (joined (follows before (q .counter)) (holding h)) p bs
     (no-pointer (follows before (q .counter)) h)) in
@@ -168,11 +168,11 @@ module _ (h : List ℕ) (b c : ℕ) (tail : List ℕ) (e : sizeOf (c ∷ h ++ (b
   hand = c ∷ h
 
   abbrev pointed : Story ℕ
-  pointed = given pointer 1 (holding hand)
+  pointed = given (done pointer) 1 (holding hand)
 
   hand-is : handOf pointed ≡ hand
   hand-is =
-      bytesOf-more in-hand pointer (marked in-hand hand) (1 ∷ [])
+      bytesOf-more in-hand (done pointer) (marked in-hand hand) (1 ∷ [])
       ∙ append-nil (handOf (holding hand))
       ∙ bytesOf-marked in-hand in-hand hand
 
@@ -197,7 +197,7 @@ module _ (h : List ℕ) (b c : ℕ) (tail : List ℕ) (e : sizeOf (c ∷ h ++ (b
       (sectionsIn plain (holding []) l) (sectionsIn plain settled-story tail))
       (map-id tail)
       (beside-sections plain _ _ (holding []) settled-story tail
-      (beside-nothing settled-story (settled-hand broken refl (finished (given in-hand b pointed) .marks))))
+      (beside-nothing settled-story (settled-hand (done broken) refl (finished (given in-hand b pointed) .marks))))
 
   all-out : payload plain true (holding hand) (1 ∷ b ∷ tail) .sections
       ≡ (hand ++ (b ∷ [])) ∷ sectionsIn plain (holding []) tail .sections

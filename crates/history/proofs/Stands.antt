@@ -10,7 +10,7 @@ use lib.ListN.{length, take, drop, getD, length-append, List·getD-append}
 use lib.Dec.{ltb, leb, eqb}
 use borrow.Author.Tests.{ltb-true, ltb-false, leb-true, eqb-false, lt-ltb, le-ltb, lt-leb, ne-eqb}
 use Rattle.wire.specs.If.{if_then_else_}
-use Rattle.collector.specs.Rules.{Fate, pointer, broken, delivered, filler, skipped, in-hand, Story, sameFate, handOf, given, brokenOff, finished, holding, Mode, begin, inside, filling, skipping, breaking, Next, totalOf, Size, going, whole, over, sizeOf, Before, follows, plain, Carried, begun, grown, resumed, joined, byteIn, stretch, goesOn, sectionsIn, payload, takenIn}
+use Rattle.collector.specs.Rules.{Fate, pointer, broken, delivered, filler, skipped, done, in-hand, Story, sameFate, handOf, given, brokenOff, finished, holding, Mode, begin, inside, filling, skipping, breaking, Next, totalOf, Size, going, whole, over, sizeOf, Before, follows, plain, Carried, begun, grown, resumed, joined, byteIn, stretch, goesOn, sectionsIn, payload, takenIn}
 use Rattle.collector.specs.Refusals.{isNone, counterPast, heldUnfit, cannotStand}
 use Rattle.collector.specs.declared.Record.{Record}
 use Rattle.collector.specs.declared.Last.{Last}
@@ -80,7 +80,7 @@ other-hand f e b s x =
 
 in-begun : (t : Bool) (b : ℕ) (s : Story ℕ) → eqb b 255 ≡ t → handOf s ≡ []
     → In (begun t b s .mode) (begun t b s .story)
-in-begun true b s e x = other-hand filler refl b s x
+in-begun true b s e x = other-hand (done filler) refl b s x
 in-begun false b s e x =
     let hand : handOf (given in-hand b s) ≡ b ∷ [] = hand-given in-hand b s ∙ ap (λ (h : List ℕ). h ++ (b ∷ [])) x in (
       omega (arith, ap length hand),
@@ -95,17 +95,17 @@ module _ (after : Mode) (ends : (s : Story ℕ) → handOf s ≡ [] → In after
         omega (arith, ap length hand, length-append (handOf s) (b ∷ [])),
         subst Standing (sym hand) (grows (handOf s) b (x .0) (x .1) e),
       )
-  in-grown whole b s e x = ends (finished (given in-hand b s)) (settled-hand delivered refl (given in-hand b s .marks))
-  in-grown over b s e x = settled-hand broken refl (given in-hand b s .marks)
+  in-grown whole b s e x = ends (finished (given in-hand b s)) (settled-hand (done delivered) refl (given in-hand b s .marks))
+  in-grown over b s e x = settled-hand (done broken) refl (given in-hand b s .marks)
 
   in-byte : (m : Mode) (b : ℕ) (s : Story ℕ) → In m s
       → In (byteIn plain after m b s .mode) (byteIn plain after m b s .story)
   in-byte begin b s x = in-begun (eqb b 255) b s refl x
   in-byte inside b s x =
       in-grown (sizeOf (map plain (handOf s ++ (b ∷ [])))) b s (ap sizeOf (sym (map-id (handOf s ++ (b ∷ []))))) x
-  in-byte filling b s x = other-hand filler refl b s x
-  in-byte skipping b s x = other-hand skipped refl b s x
-  in-byte breaking b s x = other-hand broken refl b s x
+  in-byte filling b s x = other-hand (done filler) refl b s x
+  in-byte skipping b s x = other-hand (done skipped) refl b s x
+  in-byte breaking b s x = other-hand (done broken) refl b s x
 
   in-stretch : (n : Next ℕ) (bs : List ℕ) → In (n .mode) (n .story)
       → In (stretch plain after n bs .mode) (stretch plain after n bs .story)
@@ -134,12 +134,12 @@ stands-payload : (t : Bool) (s : Story ℕ) (bs : List ℕ) → Standing (handOf
 stands-payload false s bs x = stands-goes s bs x
 stands-payload true s [] x = x
 stands-payload true s (p ∷ bs) x =
-    let y : Story ℕ = goesOn plain (given pointer p s) (take p bs) in
-    stands-sections (brokenOff y) (drop p bs) (settled-hand broken refl (y .marks))
+    let y : Story ℕ = goesOn plain (given (done pointer) p s) (take p bs) in
+    stands-sections (brokenOff y) (drop p bs) (settled-hand (done broken) refl (y .marks))
 
 stands-joined : (t : Bool) (s : Story ℕ) → Standing (handOf s) → Standing (handOf (joined t s))
 stands-joined true s x = x
-stands-joined false s x = subst Standing (sym (settled-hand broken refl (s .marks))) standing-none
+stands-joined false s x = subst Standing (sym (settled-hand (done broken) refl (s .marks))) standing-none
 
 pub stands-taken : (before : Before) (h : List ℕ) (q : Carried ℕ) → Standing h
     → Standing (handOf (takenIn plain before (holding h) q))

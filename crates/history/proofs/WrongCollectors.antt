@@ -7,7 +7,7 @@ use Prim.Native.Nat.{ℕ}
 use native.Mathlib.Omega.{arith}
 use lib.ListN.{length}
 use Rattle.collector.specs.Each.{Each}
-use Rattle.collector.specs.Rules.{sizeOf, noneBefore, follows, Carried}
+use Rattle.collector.specs.Rules.{filler, sizeOf, noneBefore, follows, Carried}
 use Rattle.collector.specs.Refusals.{cannotStand, judged, repeats}
 use Rattle.collector.specs.Answer.{Outcome, refused, repeated, taken}
 use Rattle.collector.specs.Collected.{freshRecord, collected}
@@ -74,7 +74,7 @@ unfolding judged sizeOf follows repeats cannotStand
 invents-counters-shut-out h =
     let o : Outcome = collected (freshRecord 20) hold₀ out₀ (worked 0) in
     let x = h 20 hold₀ (callOf (worked 0) o ∷ []) (invented (o .rec)) (o .hold) (one-call refl no-call) in
-    let z : _≡_ {A = ℕ} 176 175 = x .filler-is in
+    let z : _≡_ {A = ℕ} 176 175 = x .counters-are filler in
     omega arith
 
 -- eight bytes were delivered, and what stands in the out room is cut as a section of three

@@ -73,7 +73,8 @@ toldOf s = record { answers = map (λ t. t .answer) (s .steps); bytes = map (λ 
 
 -- ---- records and packets of PID 20
 
--- a record by its PID, last counter, bytes in hand, and the bytes of pointer, delivered, broken, filler and skipped
+-- a record by its PID, last counter, bytes in hand, and the bytes of pointer, delivered, broken, filler and skipped:
+-- field by field, so that a counter that stands under the name of another is seen
 abbrev pub recordOf : ℕ → Last → ℕ → ℕ → ℕ → ℕ → ℕ → ℕ → Record
 recordOf pid last in-hand pointer delivered broken filler skipped = record {
   pid = pid;

@@ -2,14 +2,14 @@
 use mathlib.Core.Path.{_≡_}
 use mathlib.Core.Logic.{_↔_}
 use mathlib.Core.List.{List, [], _∷_, map, flatten}
-use Prim.Native.Nat.{ℕ, _+_, _%_, _^_, _≤_}
+use Prim.Native.Nat.{ℕ, _%_, _^_, _≤_}
 use lib.ListN.{length, take}
 use lib.Dec.{ltb}
 use Rattle.collector.specs.Each.{Each}
-use Rattle.collector.specs.Rules.{pointer, delivered, broken, filler, skipped, in-hand, Mark, Story, bytesOf, countOf, handOf, Before, noneBefore, Carried}
+use Rattle.collector.specs.Rules.{Kind, delivered, in-hand, done, sumOf, Mark, Story, bytesOf, countOf, handOf, Before, noneBefore, Carried}
 use Rattle.collector.specs.Refusals.{refusals}
 use Rattle.collector.specs.Answer.{refused}
-use Rattle.collector.specs.Collected.{freshRecord}
+use Rattle.collector.specs.Collected.{bytesCounted, freshRecord}
 use Rattle.collector.specs.declared.Record.{Record}
 use Rattle.history.specs.History.{Byte, valueOf, historyOf, payloadsFrom, Unbroken, Among}
 use Rattle.history.specs.Run.{Collector, Call, Run, taken, fareOf, takenOf, lentOf, rulingOn, beforeAfter, faresFrom, takenFrom, NotRefused, NotRepeated, handedBy, handed, bytesBy, toldBy}
@@ -38,11 +38,7 @@ storyBy pid hold calls = historyOf (takenBy pid hold calls) .story
 -- "Modulo 2^32 the five counters equal the bytes of each fate"; the bytes in hand are those whose fate this is, at the
 -- start of the hold
 pub record Counted (r : Record) (hold : List ℕ) (s : Story Byte) : Type 0 where
-  pub pointer-is : r .pointer ≡ countOf pointer (s .marks) % 2 ^ 32
-  pub delivered-is : r .delivered ≡ countOf delivered (s .marks) % 2 ^ 32
-  pub broken-is : r .broken ≡ countOf broken (s .marks) % 2 ^ 32
-  pub filler-is : r .filler ≡ countOf filler (s .marks) % 2 ^ 32
-  pub skipped-is : r .skipped ≡ countOf skipped (s .marks) % 2 ^ 32
+  pub counters-are : (k : Kind) → bytesCounted (done k) r ≡ countOf (done k) (s .marks) % 2 ^ 32
   pub in-hand-is : r .in_hand ≡ countOf in-hand (s .marks)
   pub hold-is : take (r .in_hand) hold ≡ map valueOf (handOf s)
 
@@ -50,7 +46,7 @@ pub record Counted (r : Record) (hold : List ℕ) (s : Story Byte) : Type 0 wher
 -- bytes handed out, and those in hand stand in the hold
 pub record Fated (calls : List Call) (r : Record) (hold : List ℕ) (marks : List (Mark Byte)) : Type 0 where
   pub one-each : map (λ m. m .byte) marks ≡ payloadsFrom 0 (takenOf calls)
-  pub handed-are : flatten (handed calls) ≡ map valueOf (bytesOf delivered marks)
+  pub handed-are : flatten (handed calls) ≡ map valueOf (bytesOf (done delivered) marks)
   pub held-are : take (r .in_hand) hold ≡ map valueOf (bytesOf in-hand marks)
 
 -- "Delivered bytes come out once, in order": what the calls hand out, cut at the sections' own headers, are the
@@ -59,7 +55,7 @@ pub record HandedOut (calls : List Call) (s : Story Byte) : Type 0 where
   pub sections-are : handed calls ≡ map (map valueOf) (s .sections)
   pub bytes-are : Each (λ k. flatten (handedBy (k .said) (k .out′)) ≡ bytesBy (k .said) (k .out′)) calls
   pub told-are : Each (λ k. length (flatten (handedBy (k .said) (k .out′))) ≡ toldBy (k .said)) calls
-  pub delivered-are : bytesOf delivered (s .marks) ≡ flatten (s .sections)
+  pub delivered-are : bytesOf (done delivered) (s .marks) ≡ flatten (s .sections)
 
 -- "no delivered section spans a break": sections that are made of payload bytes of these packets, each byte once and in
 -- order, and no two bytes of one section have a break between them
@@ -104,8 +100,7 @@ module _ (C : Collector) where
   -- "and with those in hand they make up the payload taken"
   abbrev pub CountersMakeUp : Type 0
   CountersMakeUp = OverRuns (λ pid hold calls r hold′.
-      (r .pointer + r .delivered + r .broken + r .filler + r .skipped + r .in_hand) % 2 ^ 32
-      ≡ length (payloadsFrom 0 (takenOf calls)) % 2 ^ 32)
+      sumOf (λ f. bytesCounted f r) % 2 ^ 32 ≡ length (payloadsFrom 0 (takenOf calls)) % 2 ^ 32)
 
   abbrev pub DeliveredInOrder : Type 0
   DeliveredInOrder = OverRuns (λ pid hold calls r hold′. HandedOut calls (storyBy pid hold calls))

@@ -6,7 +6,7 @@ use mathlib.Core.List.{List, _∷_}
 use Prim.Native.Nat.{ℕ, _≤_}
 use lib.ListN.{replicate}
 use Rattle.collector.specs.Answer.{Outcome}
-use Rattle.collector.specs.Collected.{collected}
+use Rattle.collector.specs.Collected.{recordWith, collected}
 use Rattle.collector.specs.declared.Record.{Record}
 use Rattle.collector.specs.declared.Last.the-variants.{Counter}
 use Rattle.history.specs.Run.{Collector, toldBy}
@@ -18,16 +18,7 @@ AtMost n C = (r : Record) (hold out packet : List ℕ) (o : Outcome) → C r hol
 -- a call that hands out so many: a section of 4,096 bytes, of which 4,095 are in hand, ends in front of the pointer's
 -- target, and one of 182 bytes fills the rest
 abbrev pub before : Record
-before = record {
-  pid = 20;
-  last = Counter 0;
-  in_hand = 4095;
-  pointer = 0;
-  delivered = 0;
-  broken = 0;
-  filler = 0;
-  skipped = 0;
-}
+before = recordWith 20 (Counter 0) 4095 (λ k. 0)
 
 abbrev pub full : List ℕ
 full = 0x70 ∷ 0x7F ∷ 0xFD ∷ replicate 4093 0

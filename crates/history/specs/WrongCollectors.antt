@@ -3,9 +3,11 @@ use mathlib.Core.Path.{_≡_}
 use mathlib.Core.List.{List, [], _∷_, _++_}
 use Prim.Native.Nat.{ℕ, _+_, _%_, _^_}
 use lib.ListN.{replicate}
+use Rattle.wire.specs.If.{if_then_else_}
 use Rattle.collector.specs.Packet.{counterOf}
+use Rattle.collector.specs.Rules.{filler, done, sameKind}
 use Rattle.collector.specs.Answer.{Outcome, refused, repeated, taken}
-use Rattle.collector.specs.Collected.{unaltered, collected}
+use Rattle.collector.specs.Collected.{bytesCounted, recordWith, unaltered, collected}
 use Rattle.collector.specs.declared.Record.{Record}
 use Rattle.collector.specs.declared.Last.{Last}
 use Rattle.collector.specs.declared.Last.the-variants.{None, Counter}
@@ -34,16 +36,9 @@ Pretends r hold out packet o = o ≡ pretended (r .last) r hold out packet
 
 -- "one with invented counters": here one more byte of filler than there was
 abbrev pub invented : Record → Record
-invented r = record {
-  pid = r .pid;
-  last = r .last;
-  in_hand = r .in_hand;
-  pointer = r .pointer;
-  delivered = r .delivered;
-  broken = r .broken;
-  filler = (r .filler + 1) % 2 ^ 32;
-  skipped = r .skipped;
-}
+invented r =
+    recordWith (r .pid) (r .last) (r .in_hand)
+    (λ k. if sameKind k filler then (bytesCounted (done k) r + 1) % 2 ^ 32 else bytesCounted (done k) r)
 
 abbrev pub InventsCounters : Collector
 InventsCounters r hold out packet o = o ≡ record {
@@ -64,16 +59,8 @@ HandsOutOther r hold out packet o = o ≡ record {
 
 -- one that takes no notice of a break: each packet is taken as if it followed the one before
 abbrev pub followed : Record → List ℕ → Record
-followed r packet = record {
-  pid = r .pid;
-  last = Counter ((counterOf packet + 15) % 16);
-  in_hand = r .in_hand;
-  pointer = r .pointer;
-  delivered = r .delivered;
-  broken = r .broken;
-  filler = r .filler;
-  skipped = r .skipped;
-}
+followed r packet =
+    recordWith (r .pid) (Counter ((counterOf packet + 15) % 16)) (r .in_hand) (λ k. bytesCounted (done k) r)
 
 abbrev pub JoinsOverBreaks : Collector
 JoinsOverBreaks r hold out packet o = o ≡ collected (followed r packet) hold out packet

@@ -4,7 +4,7 @@ use mathlib.Core.Logic.{_⊎_}
 use mathlib.Core.List.{List, _++_, flatten}
 use Prim.Native.Nat.{ℕ, _+_, _≤_, _<_}
 use lib.ListN.{length, take, drop}
-use Rattle.collector.specs.Rules.{broken, filler, skipped, Story, countOf, handOf, totalOf}
+use Rattle.collector.specs.Rules.{broken, filler, skipped, done, Story, countOf, handOf, totalOf}
 use Rattle.collector.specs.Collected.{over}
 use Rattle.collector.specs.declared.stretch.Look.{Look}
 use Rattle.collector.specs.declared.stretch.Look.the-variants.{Going, Over, Whole}
@@ -26,8 +26,8 @@ pub record Ends (s : Story ℕ) (hold out : List ℕ) (at : ℕ) (hold′ out′
   pub in-hand : r .in_hand ≡ length (handOf s)
   pub sections : r .sections ≡ length (s .sections)
   pub bytes : r .bytes ≡ length (flatten (s .sections))
-  pub broken : r .broken ≡ countOf broken (s .marks)
-  pub filler : r .filler ≡ countOf filler (s .marks)
-  pub skipped : r .skipped ≡ countOf skipped (s .marks)
+  pub broken : r .broken ≡ countOf (done broken) (s .marks)
+  pub filler : r .filler ≡ countOf (done filler) (s .marks)
+  pub skipped : r .skipped ≡ countOf (done skipped) (s .marks)
   pub the-hold : hold′ ≡ over (handOf s) hold
   pub the-out : out′ ≡ take at out ++ (flatten (s .sections) ++ drop (at + length (flatten (s .sections))) out)

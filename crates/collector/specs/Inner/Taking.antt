@@ -1,6 +1,8 @@
 -- What the functions of taking.rt say of their arguments and answers.
 use mathlib.Core.Bool.{Bool, true, false}
 use Prim.Native.Nat.{ℕ, _+_, _%_, _^_}
+use Rattle.collector.specs.Rules.{Kind, pointer, delivered, broken, filler, skipped, done}
+use Rattle.collector.specs.Collected.{bytesCounted, recordWith}
 use Rattle.collector.specs.declared.Record.{Record}
 use Rattle.collector.specs.declared.Last.the-variants.{Counter}
 use Rattle.collector.specs.declared.stretch.Came.{Came}
@@ -14,14 +16,14 @@ abbrev pub pointCount : Bool → ℕ
 pointCount true = 1
 pointCount false = 0
 
+-- the bytes of each kind that a packet adds, of which a break in the counter took some from hand
+abbrev pub addedBy : Came → ℕ → Bool → Kind → ℕ
+addedBy e lost start pointer = pointCount start
+addedBy e lost start delivered = e .bytes
+addedBy e lost start broken = lost + e .broken
+addedBy e lost start filler = e .filler
+addedBy e lost start skipped = e .skipped
+
 abbrev pub countedOf : Record → ℕ → Came → ℕ → Bool → Record
-countedOf r counter e lost start = record {
-  pid = r .pid;
-  last = Counter counter;
-  in_hand = e .in_hand;
-  pointer = (r .pointer + pointCount start) % 2 ^ 32;
-  delivered = (r .delivered + e .bytes) % 2 ^ 32;
-  broken = (r .broken + (lost + e .broken)) % 2 ^ 32;
-  filler = (r .filler + e .filler) % 2 ^ 32;
-  skipped = (r .skipped + e .skipped) % 2 ^ 32;
-}
+countedOf r counter e lost start =
+    recordWith (r .pid) (Counter counter) (e .in_hand) (λ k. (bytesCounted (done k) r + addedBy e lost start k) % 2 ^ 32)
