@@ -18,7 +18,7 @@ use Rattle.collector.proofs.Marks.{flatten-one, settled-append, settled
 use Rattle.collector.proofs.Runs.{place, all, all-append, lt-or-ge, total-prefix, pass, grow-short, grow-going, law-over, law-whole}
 use Rattle.collector.proofs.Seam.{seam-length}
 use Rattle.collector.proofs.Rooms.{laid, laid-none, laid-more, ends-as}
-use Rattle.collector.proofs.Turns.{made, made-more, made-broken, rest-of, ends-made}
+use Rattle.collector.proofs.Turns.{answerOf, made, made-more, made-broken, rest-of, ends-made}
 
 -- ---- the story of a stretch that begins with bytes in hand
 
@@ -69,9 +69,6 @@ module _ {hold p : List ℕ} {n from m : ℕ} (x : Given hold p n from m) (out :
   abbrev End : List ℕ → List ℕ → Came → Type 0
   End hold′ out′ r = Ends (joined keep (goesOn plain (holding h) l)) hold out 0 hold′ out′ r
 
-  abbrev answer : ℕ → ℕ → ℕ → ℕ → ℕ → ℕ → Came
-  answer h s b k f m = record { in_hand = h; sections = s; bytes = b; broken = k; filler = f; skipped = m }
-
   h-long : length h ≡ n
   h-long = length-take-le n hold (x .in-hold)
 
@@ -91,18 +88,18 @@ module _ {hold p : List ℕ} {n from m : ℕ} (x : Given hold p n from m) (out :
   no-bytes = refl
 
   -- the answer where all bytes have one fate
-  end-one : (g : Fate) (bs : List ℕ) → joined keep (goesOn plain (holding h) l) ≡ all g bs (made []) → (hold′ : List ℕ) (r : Came) → r .sections ≡ 0 → r .bytes ≡ 0
-      → r .in_hand ≡ length (if sameFate in-hand g then bs else []) → r .broken ≡ length (if sameFate (done broken) g then bs else [])
-      → r .filler ≡ length (if sameFate (done filler) g then bs else []) → r .skipped ≡ length (if sameFate (done skipped) g then bs else [])
-      → hold′ ≡ over (if sameFate in-hand g then bs else []) hold → End hold′ out r
-  end-one g bs e hold′ r e₁ e₂ e₃ e₄ e₅ e₆ e₇ = ends-as (all g bs (made [])) e (ends-made g [] bs hold out 0 hold′ out r e₁ (e₂ ∙ no-bytes) e₃ e₄ e₅ e₆ e₇ out-same)
+  end-one : (g : Fate) (bs : List ℕ) → joined keep (goesOn plain (holding h) l) ≡ all g bs (made []) → (hold′ : List ℕ) (j : ℕ)
+      → j ≡ length bs
+      → hold′ ≡ over (if sameFate in-hand g then bs else []) hold → End hold′ out (answerOf g 0 0 j)
+  end-one g bs e hold′ j long eh =
+      ends-as (all g bs (made [])) e (ends-made g [] bs hold out 0 hold′ out 0 0 j refl no-bytes long eh out-same)
 
-  pub end-none : n ≡ 0 → End hold out (answer 0 0 0 0 0 m)
+  pub end-none : n ≡ 0 → End hold out (answerOf (done skipped) 0 0 m)
   end-none e =
       let empty : h ≡ [] = ap (λ (k : ℕ). take k hold) e in
       let is : goesOn plain (holding h) l ≡ all (done skipped) l (made []) =
       ap (λ (z : List ℕ). goesOn plain (holding z) l) empty ∙ ap (λ (z : Next ℕ). z .story) (pass filling skipping (done skipped) (λ b s. refl) (holding []) l) ∙ ap (λ (z : Story ℕ). all (done skipped) l z) nothing in
-      end-one (done skipped) l (ap (joined keep) is ∙ joined-made keep (done skipped) [] l refl) hold (answer 0 0 0 0 0 m) refl refl refl refl refl l-long refl
+      end-one (done skipped) l (ap (joined keep) is ∙ joined-made keep (done skipped) [] l refl) hold m l-long refl
 
   module _ (other : n ≡ 0 → ⊥) (r : Look) (says : LookSays (h ++ l) r) where
     some : 0 < n
@@ -132,23 +129,23 @@ module _ {hold p : List ℕ} {n from m : ℕ} (x : Given hold p n from m) (out :
     pub going-in : r ≡ Going → n + m < 4096
     going-in e = ⊎-elim (λ w. omega (arith, both-long)) (λ w. omega (arith, both-long, w .1, w .2)) (subst (LookSays (h ++ l)) e says)
 
-    pub end-kept : keep ≡ true → r ≡ Going → (hold′ : List ℕ) → hold′ ≡ paste hold n (drop from p) m → End hold′ out (answer (n + m) 0 0 0 0 0)
+    pub end-kept : keep ≡ true → r ≡ Going → (hold′ : List ℕ) → hold′ ≡ paste hold n (drop from p) m → End hold′ out (answerOf in-hand 0 0 (n + m))
     end-kept k e hold′ w =
-        end-one in-hand (h ++ l) (ap (λ (z : Bool). joined z (goesOn plain (holding h) l)) k ∙ going-is e) hold′ (answer (n + m) 0 0 0 0 0) refl refl both-long refl refl refl
+        end-one in-hand (h ++ l) (ap (λ (z : Bool). joined z (goesOn plain (holding h) l)) k ∙ going-is e) hold′ (n + m) both-long
         (w ∙ ap (λ (z : ℕ). (h ++ l) ++ drop z hold) both-long)
 
-    pub end-dropped : keep ≡ false → r ≡ Going → End hold out (answer 0 0 0 (n + m) 0 0)
+    pub end-dropped : keep ≡ false → r ≡ Going → End hold out (answerOf (done broken) 0 0 (n + m))
     end-dropped k e =
-        end-one (done broken) (h ++ l) (ap (λ (z : Bool). joined z (goesOn plain (holding h) l)) k ∙ ap brokenOff (going-is e) ∙ made-broken [] (h ++ l)) hold (answer 0 0 0 (n + m) 0 0) refl refl refl both-long refl refl refl
+        end-one (done broken) (h ++ l) (ap (λ (z : Bool). joined z (goesOn plain (holding h) l)) k ∙ ap brokenOff (going-is e) ∙ made-broken [] (h ++ l)) hold (n + m) both-long refl
 
-    pub end-over : r ≡ Over → End hold out (answer 0 0 0 (n + m) 0 0)
+    pub end-over : r ≡ Over → End hold out (answerOf (done broken) 0 0 (n + m))
     end-over e =
         let o = has Over e in
         let o₂ = subst (LookSays (h ++ l)) e says in
         let few : length h < 3 = ⊎-elim (λ w. w) (λ w. absurd (omega (arith, x .stands .more w .0, total-prefix h l w, o₂ .1))) (lt-or-ge (length h) 3) in
         let is : goesOn plain (holding h) l ≡ all (done broken) (h ++ l) (made []) =
         goes ∙ ap (λ (z : Next ℕ). z .story) (law-over filling (start h) l (subst (λ (z : List ℕ). length z < 3) (sym (start-hand h)) few) (o .0) (o .1)) ∙ ap brokenOff more-hand ∙ made-broken [] (h ++ l) in
-        end-one (done broken) (h ++ l) (ap (joined keep) is ∙ joined-made keep (done broken) [] (h ++ l) refl) hold (answer 0 0 0 (n + m) 0 0) refl refl refl both-long refl refl refl
+        end-one (done broken) (h ++ l) (ap (joined keep) is ∙ joined-made keep (done broken) [] (h ++ l) refl) hold (n + m) both-long refl
 
     module _ (t : ℕ) (e : r ≡ Whole t) where
       o : LookSays (h ++ l) (Whole t)
@@ -179,7 +176,7 @@ module _ {hold p : List ℕ} {n from m : ℕ} (x : Given hold p n from m) (out :
           ∙ ap (λ (z : Story ℕ). stretch plain filling (place filling z) (drop k l) .story) (made-more [] s)
           ∙ ap (λ (z : Next ℕ). z .story) (pass filling filling (done filler) (λ b s. refl) (made (s ∷ [])) (drop k l))
 
-      pub end-whole : (out′ out″ : List ℕ) → out′ ≡ paste out 0 hold n → out″ ≡ paste out′ n (drop from p) k → End hold out″ (answer 0 1 t 0 (m - k) 0)
+      pub end-whole : (out′ out″ : List ℕ) → out′ ≡ paste out 0 hold n → out″ ≡ paste out′ n (drop from p) k → End hold out″ (answerOf (done filler) 1 t (m - k))
       end-whole out′ out″ w₁ w₂ =
           let first : out′ ≡ laid out 0 h = w₁ ∙ ap (λ (z : List ℕ). paste z 0 hold n) (laid-none out 0) ∙ laid-more out 0 [] hold n (omega arith) (x .in-hold) in
           let zero-n : n ≡ 0 + length h = omega (arith, h-long) in
@@ -190,4 +187,4 @@ module _ {hold p : List ℕ} {n from m : ℕ} (x : Given hold p n from m) (out :
           ∙ laid-more out 0 h (drop from p) k (omega arith) (omega (arith, whole-in, x .in-packet, length-drop from p)) ∙ ap (λ (z : List ℕ). laid out 0 (h ++ z)) taken ∙ ap (laid out 0) (sym one) in
           let rest : m - k ≡ length (drop k l) = omega (arith, length-drop k l, l-long) in
           ends-as (all (done filler) (drop k l) (made (s ∷ []))) (ap (joined keep) whole-is ∙ joined-made keep (done filler) (s ∷ []) (drop k l) refl)
-          (ends-made (done filler) (s ∷ []) (drop k l) hold out 0 hold out″ (answer 0 1 t 0 (m - k) 0) refl (s-long ∙ ap length (sym one)) refl refl rest refl refl both)
+          (ends-made (done filler) (s ∷ []) (drop k l) hold out 0 hold out″ 1 t (m - k) refl (s-long ∙ ap length (sym one)) rest refl both)

@@ -6,7 +6,7 @@ use Prim.Native.Nat.{ℕ, suc, _+_}
 use native.Mathlib.Omega.{arith}
 use lib.ListN.{length}
 use Rattle.wire.specs.If.{if_then_else_}
-use Rattle.collector.specs.Rules.{Kind, Fate, in-hand, done, Mark, sameFate, outOfHand, bytesOf, countOf, marked, settled}
+use Rattle.collector.specs.Rules.{Fate, in-hand, done, Mark, sameFate, outOfHand, bytesOf, countOf, marked, settled}
 
 -- ---- lists
 

@@ -49,7 +49,10 @@ abbrev lost : ℕ → Fate → ℕ
 lost n f = if sameFate f (done broken) then n else 0
 
 lost-count : (h : List ℕ) (f : Fate) → countOf f (brokenOff (holding h) .marks) ≡ lost (length h) f
-lost-count h f = ap (countOf f) (settled-marked (done broken) in-hand h) ∙ ap length (bytesOf-marked f (done broken) h) ∙ long (sameFate f (done broken))
+lost-count h f =
+    ap (countOf f) (settled-marked (done broken) in-hand h)
+    ∙ ap length (bytesOf-marked f (done broken) h)
+    ∙ long (sameFate f (done broken))
   where
     long : (t : Bool) → length (if t then h else []) ≡ (if t then length h else 0)
     long true = refl
@@ -83,12 +86,15 @@ module _ (r : Record) (hold out : List ℕ) (counter : ℕ) (start : Bool) (h bs
   pub small : Ends s hold out 0 hold′ out′ e → length h + length bs ≤ 5000 → Small e
   small x w = small-of (h ++ bs) s (kept-payload start h bs) (omega (arith, length-append h bs)) x
 
-  adds : Ends s hold out 0 hold′ out′ e → (n : ℕ) (S : Story ℕ) → Beside plain (lost n) [] s S → (k : Kind) → addedBy e n start k ≡ countOf (done k) (S .marks)
+  -- the bytes of each kind that the packet adds are those of its story, and those that a break took
+  adds : Ends s hold out 0 hold′ out′ e → (n : ℕ) (S : Story ℕ) → Beside plain (lost n) [] s S → (k : Kind)
+      → addedBy e n start k ≡ countOf (done k) (S .marks)
   adds x n S b pointer = sym (points-payload start h bs some) ∙ sym (zero-add _) ∙ sym (b .counts (done pointer) refl)
-  adds x n S b delivered = x .bytes ∙ sym (delivered-in plain (h ++ bs) s (kept-payload start h bs)) ∙ sym (zero-add _) ∙ sym (b .counts (done delivered) refl)
-  adds x n S b broken = ap (λ (z : ℕ). n + z) (x .broken) ∙ sym (b .counts (done broken) refl)
-  adds x n S b filler = x .filler ∙ sym (zero-add _) ∙ sym (b .counts (done filler) refl)
-  adds x n S b skipped = x .skipped ∙ sym (zero-add _) ∙ sym (b .counts (done skipped) refl)
+  adds x n S b delivered =
+      x .bytes ∙ sym (delivered-in plain (h ++ bs) s (kept-payload start h bs)) ∙ sym (zero-add _) ∙ sym (b .counts (done delivered) refl)
+  adds x n S b broken = ap (λ (z : ℕ). n + z) (x .counts broken refl refl) ∙ sym (b .counts (done broken) refl)
+  adds x n S b filler = x .counts filler refl refl ∙ sym (zero-add _) ∙ sym (b .counts (done filler) refl)
+  adds x n S b skipped = x .counts skipped refl refl ∙ sym (zero-add _) ∙ sym (b .counts (done skipped) refl)
 
   taken-to : Ends s hold out 0 hold′ out′ e → (n : ℕ) (S : Story ℕ) → Beside plain (lost n) [] s S → (r′ : Record) → r′ ≡ countedOf r counter e n start → came r′ hold′ out′ (Taken (e .sections) (e .bytes)) ≡ takenTo r hold out counter S
   taken-to x n S b r′ w =
@@ -97,7 +103,9 @@ module _ (r : Record) (hold out : List ℕ) (counter : ℕ) (start : Bool) (h bs
       let hand : handOf s ≡ handOf S = sym (same-hand b) in
       let added : (k : Kind) → addedBy e n start k ≡ countOf (done k) (S .marks) = adds x n S b in
       let the-record : r′ ≡ recordAfter r counter S =
-      w ∙ (λ i. recordWith (r .pid) (Counter counter) ((x .in-hand ∙ ap length hand) i) (λ k. (bytesCounted (done k) r + added k i) % 2 ^ 32)) in
+      w
+      ∙ (λ i. recordWith (r .pid) (Counter counter) ((x .in-hand ∙ ap length hand) i)
+      (λ k. (bytesCounted (done k) r + added k i) % 2 ^ 32)) in
       let the-out : out′ ≡ over (flatten (S .sections)) out = x .the-out ∙ ap (λ (z : ℕ). flatten (s .sections) ++ drop z out) (zero-add (length (flatten (s .sections)))) ∙ ap (λ (z : List ℕ). over z out) bytes in
       λ i. record {
         rec = the-record i;

@@ -12,10 +12,11 @@ use Rattle.wire.specs.If.{if_then_else_}
 use Rattle.collector.specs.Each.{Each}
 use Rattle.collector.specs.Rules.{Fate, pointer, broken, filler, skipped, done, in-hand, Story, sameFate, bytesOf, countOf, handOf, marked, given, brokenOff, holding, joined, plain, goesOn, sectionsIn, started, payload}
 use Rattle.collector.specs.Collected.{over}
-use Rattle.collector.specs.Inner.Stretch.{Ends}
+use Rattle.collector.specs.Inner.Stretch.{cameOf, Ends}
 use Rattle.collector.specs.Inner.Payload.{Fit, Small, frontOf, bothOf}
 use Rattle.collector.specs.declared.stretch.Came.{Came}
 use Rattle.collector.specs.declared.payload.Front.{Front}
+use Rattle.collector.proofs.Counters.{came-with}
 use Rattle.collector.proofs.Marks.{flatten-append, bytesOf-more, settled-hand}
 use Rattle.collector.proofs.Rooms.{ends-as}
 use Rattle.collector.proofs.Beside.{Beside, beside-broken, beside-goes, beside-sections}
@@ -49,7 +50,7 @@ small-of l s k w e =
     let sum = counts-in plain l s k in
     let d = delivered-in plain l s k in
     let f = few-in plain l s k in
-    record { sections = omega (arith, e .sections); bytes = omega (arith, e .bytes); broken = omega (arith, e .broken); filler = omega (arith, e .filler); skipped = omega (arith, e .skipped) }
+    record { sections = omega (arith, e .sections); bytes = omega (arith, e .bytes); broken = omega (arith, e .counts broken refl refl); filler = omega (arith, e .counts filler refl refl); skipped = omega (arith, e .counts skipped refl refl) }
 
 -- ---- the stretch that goes to the section in hand
 
@@ -133,9 +134,10 @@ module _ (p : ℕ) (h l l₂ : List ℕ) where
         in-hand = y .in-hand ∙ ap length (sym hand);
         sections = omega (arith, x .sections, y .sections, ap length sections-both, length-append (front h l .sections) (back l₂ .sections));
         bytes = omega (arith, x .bytes, y .bytes, long);
-        broken = omega (arith, x .broken, y .broken, count-both (done broken) refl);
-        filler = omega (arith, x .filler, y .filler, count-both (done filler) refl);
-        skipped = omega (arith, x .skipped, y .skipped, count-both (done skipped) refl);
+        counts = λ k q d.
+            let apart : one p (done k) ≡ 0 = ap (λ (t : Bool). length (if t then p ∷ [] else [])) q in
+            came-with (b .in_hand) (a .sections + b .sections) (a .bytes + b .bytes) (λ j. cameOf a j + cameOf b j) k q d
+            ∙ omega (arith, x .counts k q d, y .counts k q d, count-both (done k) refl, apart);
         the-hold = y .the-hold ∙ ap (λ (z : List ℕ). over (handOf (back l₂)) z) kept ∙ ap (λ (z : List ℕ). over z hold) (sym hand);
         the-out = y .the-out ∙ ap (λ (z : List ℕ). z ++ (g ++ drop (a .bytes + length g) out₁)) cut ∙ ap (λ (z : List ℕ). f ++ (g ++ z)) tail ∙ sym (append-assoc f g (drop (0 + length (f ++ g)) out)) ∙ ap (λ (z : List ℕ). z ++ drop (0 + length z) out) (sym bytes-both);
       }

@@ -10,12 +10,13 @@ use lib.Seq.{paste, length-paste, drop-drop, drop-cons, length-take-le, take-all
 use lib.Dec.{eqb}
 use borrow.Author.Tests.{eq-eqb, ne-eqb}
 use Rattle.wire.specs.If.{if_then_else_}
-use Rattle.collector.specs.Rules.{Fate, delivered, broken, filler, skipped, done, in-hand, Mark, Story, sameFate, bytesOf, handOf, marked, given, settled, brokenOff, finished, holding, begin, inside, filling, Next, totalOf, begun, plain, stretch, sectionsIn}
+use Rattle.collector.specs.Rules.{Fate, delivered, broken, filler, done, in-hand, Mark, Story, sameFate, bytesOf, handOf, marked, given, settled, brokenOff, finished, holding, begin, inside, filling, Next, totalOf, begun, plain, stretch, sectionsIn}
 use Rattle.collector.specs.Collected.{over}
-use Rattle.collector.specs.Inner.Stretch.{LookSays, Ends}
+use Rattle.collector.specs.Inner.Stretch.{LookSays, cameWith, Ends}
 use Rattle.collector.specs.declared.stretch.Look.{Look}
 use Rattle.collector.specs.declared.stretch.Look.the-variants.{Going, Over, Whole}
 use Rattle.collector.specs.declared.stretch.Came.{Came}
+use Rattle.collector.proofs.Counters.{came-with}
 use Rattle.collector.proofs.Marks.{flatten-snoc, bytesOf-more, bytesOf-marked, marked-append, settled-append, settled-marked}
 use Rattle.collector.proofs.Runs.{place, all, all-none, hand-all, pass, grow-short, grow-going, law-over, law-whole}
 use Rattle.collector.proofs.Rooms.{laid, laid-none, laid-more, ends-as}
@@ -56,18 +57,27 @@ rest-of f g secs l e =
     bytesOf-more f g (marked (done delivered) (flatten secs)) l
     ∙ ap (λ (x : List ℕ). x ++ (if sameFate f g then l else [])) (bytesOf-marked f (done delivered) (flatten secs) ∙ ap (λ (t : Bool). if t then flatten secs else []) e)
 
--- the answer where the bytes l behind the sections have the fate g
-pub ends-made : (g : Fate) (secs : List (List ℕ)) (l hold out : List ℕ) (at : ℕ) (hold′ out′ : List ℕ) (r : Came) → r .sections ≡ length secs → r .bytes ≡ length (flatten secs)
-    → r .in_hand ≡ length (if sameFate in-hand g then l else []) → r .broken ≡ length (if sameFate (done broken) g then l else [])
-    → r .filler ≡ length (if sameFate (done filler) g then l else []) → r .skipped ≡ length (if sameFate (done skipped) g then l else [])
-    → hold′ ≡ over (if sameFate in-hand g then l else []) hold → out′ ≡ laid out at (flatten secs) → Ends (all g l (made secs)) hold out at hold′ out′ r
-ends-made g secs l hold out at hold′ out′ r n b h k f s eh eo = record {
-  in-hand = h ∙ ap length (sym (rest-of in-hand g secs l refl));
-  sections = n;
-  bytes = b;
-  broken = k ∙ ap length (sym (rest-of (done broken) g secs l refl));
-  filler = f ∙ ap length (sym (rest-of (done filler) g secs l refl));
-  skipped = s ∙ ap length (sym (rest-of (done skipped) g secs l refl));
+-- the answer where m bytes have the fate g, behind so many sections with so many bytes
+abbrev pub answerOf : Fate → ℕ → ℕ → ℕ → Came
+answerOf g sections bytes m =
+    cameWith (if sameFate in-hand g then m else 0) sections bytes (λ k. if sameFate (done k) g then m else 0)
+
+if-long : (t : Bool) (l : List ℕ) (m : ℕ) → m ≡ length l → (if t then m else 0) ≡ length (if t then l else [])
+if-long true l m e = e
+if-long false l m e = refl
+
+pub ends-made : (g : Fate) (secs : List (List ℕ)) (l hold out : List ℕ) (at : ℕ) (hold′ out′ : List ℕ) (n b m : ℕ)
+    → n ≡ length secs → b ≡ length (flatten secs) → m ≡ length l
+    → hold′ ≡ over (if sameFate in-hand g then l else []) hold → out′ ≡ laid out at (flatten secs)
+    → Ends (all g l (made secs)) hold out at hold′ out′ (answerOf g n b m)
+ends-made g secs l hold out at hold′ out′ n b m number bytes long eh eo = record {
+  in-hand = if-long (sameFate in-hand g) l m long ∙ ap length (sym (rest-of in-hand g secs l refl));
+  sections = number;
+  bytes = bytes;
+  counts = λ k p d.
+      came-with (if sameFate in-hand g then m else 0) n b (λ j. if sameFate (done j) g then m else 0) k p d
+      ∙ if-long (sameFate (done k) g) l m long
+      ∙ ap length (sym (rest-of (done k) g secs l d));
   the-hold = eh ∙ ap (λ (x : List ℕ). over x hold) (sym (rest-of in-hand g secs l refl));
   the-out = eo;
 }
@@ -158,17 +168,17 @@ module _ {p : List ℕ} {from : ℕ} {hold₀ out₀ : List ℕ} {at : ℕ} {hol
   abbrev End : List ℕ → Came → Type 0
   End hold′ r = Ends (sectionsIn plain (holding []) (drop from p)) hold₀ out₀ at hold′ out r
 
-  -- the answer where the bytes in hand, broken off and filler are as given
-  abbrev answer : ℕ → ℕ → ℕ → Came
-  answer h k f = record { in_hand = h; sections = n; bytes = o - at; broken = k; filler = f; skipped = 0 }
+  -- the answer where so many bytes behind the sections have the fate g
+  abbrev answer : Fate → ℕ → Came
+  answer g m = answerOf g n (o - at) m
 
   bytes-long : o - at ≡ length (flatten (x .secs))
   bytes-long = omega (arith, x .place)
 
-  pub end-all : length p ≤ i → End hold (answer 0 0 0)
+  pub end-all : length p ≤ i → End hold (answer (done filler) 0)
   end-all k =
       ends-as (all (done filler) [] (made (x .secs))) (x .so-far ∙ ap (sectionsIn plain (made (x .secs))) (drop-of-length-le p k) ∙ sym (all-none (done filler) (made (x .secs))))
-      (ends-made (done filler) (x .secs) [] hold₀ out₀ at hold out (answer 0 0 0) (x .number) bytes-long refl refl refl refl (x .the-hold) (x .the-out))
+      (ends-made (done filler) (x .secs) [] hold₀ out₀ at hold out n (o - at) 0 (x .number) bytes-long refl (x .the-hold) (x .the-out))
 
   module _ (k : i < length p) where
     abbrev b : ℕ
@@ -186,25 +196,25 @@ module _ {p : List ℕ} {from : ℕ} {hold₀ out₀ : List ℕ} {at : ℕ} {hol
     long-here : length p - i ≡ length (b ∷ rest)
     long-here = omega (arith, length-drop (suc i) p)
 
-    pub end-filler : b ≡ 255 → End hold (answer 0 0 (length p - i))
+    pub end-filler : b ≡ 255 → End hold (answer (done filler) (length p - i))
     end-filler e =
         ends-as (all (done filler) (b ∷ rest) (made (x .secs))) (now-here ∙ turn-filler (x .secs) b rest (eq-eqb b 255 e))
-        (ends-made (done filler) (x .secs) (b ∷ rest) hold₀ out₀ at hold out (answer 0 0 (length p - i)) (x .number) bytes-long refl refl long-here refl (x .the-hold) (x .the-out))
+        (ends-made (done filler) (x .secs) (b ∷ rest) hold₀ out₀ at hold out n (o - at) (length p - i) (x .number) bytes-long long-here (x .the-hold) (x .the-out))
 
     module _ (other : b ≡ 255 → ⊥) (r : Look) (says : LookSays (take (length p - i) (drop i p)) r) where
-      pub end-over : r ≡ Over → End hold (answer 0 (length p - i) 0)
+      pub end-over : r ≡ Over → End hold (answer (done broken) (length p - i))
       end-over e =
           ends-as (all (done broken) (b ∷ rest) (made (x .secs))) (now-here ∙ turn-over (x .secs) b rest (ne-eqb b 255 other) (look-here p i r Over k says e))
-          (ends-made (done broken) (x .secs) (b ∷ rest) hold₀ out₀ at hold out (answer 0 (length p - i) 0) (x .number) bytes-long refl long-here refl refl (x .the-hold) (x .the-out))
+          (ends-made (done broken) (x .secs) (b ∷ rest) hold₀ out₀ at hold out n (o - at) (length p - i) (x .number) bytes-long long-here (x .the-hold) (x .the-out))
 
-      pub end-going : r ≡ Going → (hold′ : List ℕ) → hold′ ≡ paste hold 0 (drop i p) (length p - i) → End hold′ (answer (length p - i) 0 0)
+      pub end-going : r ≡ Going → (hold′ : List ℕ) → hold′ ≡ paste hold 0 (drop i p) (length p - i) → End hold′ (answer in-hand (length p - i))
       end-going e hold′ w =
           let l : List ℕ = b ∷ rest in
           let taken : take (length p - i) (drop i p) ≡ l = take-all (length p - i) (drop i p) (omega (arith, length-drop i p)) ∙ cons in
           let from-zero : 0 + (length p - i) ≡ length l = omega (arith, long-here) in
           let kept : hold′ ≡ over l hold₀ = w ∙ ap (λ (z : List ℕ). z ++ drop (0 + (length p - i)) hold) taken ∙ ap (λ (m : ℕ). l ++ drop m hold) from-zero ∙ ap (λ (z : List ℕ). over l z) (x .the-hold) in
           ends-as (all in-hand l (made (x .secs))) (now-here ∙ turn-going (x .secs) b rest (ne-eqb b 255 other) (look-here p i r Going k says e))
-          (ends-made in-hand (x .secs) l hold₀ out₀ at hold′ out (answer (length p - i) 0 0) (x .number) bytes-long long-here refl refl refl kept (x .the-out))
+          (ends-made in-hand (x .secs) l hold₀ out₀ at hold′ out n (o - at) (length p - i) (x .number) bytes-long long-here kept (x .the-out))
 
       module _ (t : ℕ) (e : r ≡ Whole t) where
         said : LookSays (b ∷ rest) (Whole t)

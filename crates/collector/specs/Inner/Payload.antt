@@ -6,7 +6,7 @@ use Prim.Native.Nat.{ℕ, _+_, _-_, _≤_, _<_}
 use lib.ListN.{length, take, getD}
 use Rattle.collector.specs.declared.stretch.Came.{Came}
 use Rattle.collector.specs.declared.payload.Front.{Front}
-use Rattle.collector.specs.Inner.Stretch.{CanStand}
+use Rattle.collector.specs.Inner.Stretch.{CanStand, cameOf, cameWith}
 
 -- what is known once a packet is judged to carry payload, with n bytes in hand: the rooms are large enough, the payload is there from index from
 -- on, what is in hand can stand, and the pointer leads to a byte of the packet
@@ -27,14 +27,8 @@ frontOf false packet from = record { from = from; bytes = length packet - from }
 
 -- one stretch after another
 abbrev pub bothOf : Came → Came → Came
-bothOf a b = record {
-  in_hand = b .in_hand;
-  sections = a .sections + b .sections;
-  bytes = a .bytes + b .bytes;
-  broken = a .broken + b .broken;
-  filler = a .filler + b .filler;
-  skipped = a .skipped + b .skipped;
-}
+bothOf a b =
+    cameWith (b .in_hand) (a .sections + b .sections) (a .bytes + b .bytes) (λ k. cameOf a k + cameOf b k)
 
 -- numbers that can be added with room to spare
 pub record Small (a : Came) : Type 0 where

@@ -1,10 +1,11 @@
 -- What the functions of stretch.rt say of their arguments and answers.
 use mathlib.Core.Path.{_≡_}
+use mathlib.Core.Bool.{false}
 use mathlib.Core.Logic.{_⊎_}
 use mathlib.Core.List.{List, _++_, flatten}
 use Prim.Native.Nat.{ℕ, _+_, _≤_, _<_}
 use lib.ListN.{length, take, drop}
-use Rattle.collector.specs.Rules.{broken, filler, skipped, done, Story, countOf, handOf, totalOf}
+use Rattle.collector.specs.Rules.{Kind, pointer, delivered, broken, filler, skipped, done, sameKind, Story, countOf, handOf, totalOf}
 use Rattle.collector.specs.Collected.{over}
 use Rattle.collector.specs.declared.stretch.Look.{Look}
 use Rattle.collector.specs.declared.stretch.Look.the-variants.{Going, Over, Whole}
@@ -20,14 +21,25 @@ LookSays bs (Whole t) = (3 ≤ length bs) × (t ≡ totalOf bs) × (t ≤ 4096) 
 pub record CanStand (h : List ℕ) : Type 0 where
   pub more : 3 ≤ length h → (totalOf h ≤ 4096) × (length h < totalOf h)
 
+-- an answer's bytes of each kind; the pointer byte is in none
+abbrev pub cameOf : Came → Kind → ℕ
+cameOf r pointer = 0
+cameOf r delivered = r .bytes
+cameOf r broken = r .broken
+cameOf r filler = r .filler
+cameOf r skipped = r .skipped
+
+-- an answer by the bytes in hand, the finished sections' number and bytes, and the bytes of each other kind
+abbrev pub cameWith : ℕ → ℕ → ℕ → (Kind → ℕ) → Came
+cameWith held sections bytes n =
+    record { in_hand = held; sections = sections; bytes = bytes; broken = n broken; filler = n filler; skipped = n skipped }
+
 -- the code's numbers and rooms are those of a story: hold begins with what is in hand, out has the finished sections from index at on, and the
 -- rest of both is as it was
 pub record Ends (s : Story ℕ) (hold out : List ℕ) (at : ℕ) (hold′ out′ : List ℕ) (r : Came) : Type 0 where
   pub in-hand : r .in_hand ≡ length (handOf s)
   pub sections : r .sections ≡ length (s .sections)
   pub bytes : r .bytes ≡ length (flatten (s .sections))
-  pub broken : r .broken ≡ countOf (done broken) (s .marks)
-  pub filler : r .filler ≡ countOf (done filler) (s .marks)
-  pub skipped : r .skipped ≡ countOf (done skipped) (s .marks)
+  pub counts : (k : Kind) → sameKind k pointer ≡ false → sameKind k delivered ≡ false → cameOf r k ≡ countOf (done k) (s .marks)
   pub the-hold : hold′ ≡ over (handOf s) hold
   pub the-out : out′ ≡ take at out ++ (flatten (s .sections) ++ drop (at + length (flatten (s .sections))) out)
