@@ -39,7 +39,7 @@ use Rattle.turn.proofs.SectionLaws.{numbers-of, first-byte}
 use Rattle.turn.proofs.Held.{held}
 use Rattle.turn.proofs.SheetSize.{sheet-fits}
 use Rattle.turn.proofs.RoundTrips.{of-accepted, to-section, to-sheet}
-use Rattle.turn.proofs.EntriesLaws.{number-put}
+use Rattle.turn.proofs.PieceLaws.{number-put}
 use Rattle.forms.specs.declared.Place.{Place}
 
 -- ---- the frame
