@@ -16,42 +16,6 @@ returns c =
     let f = section-no-room (length o) (args .sheet .now) (c .if1 .taken) in
     (ap answer (sym f), ap (roomAfter o) (sym f))
 
-judge-requires : tie.Need-judge-requires
-judge-requires c κs = search needs
-
-enum-known-judged : tie.Need-enum-known-judged
-enum-known-judged c = search needs
-
-byte-at-requires : tie.Need-byte-at-requires
-byte-at-requires c κs = search needs
-
-row-of-requires : tie.Need-row-of-requires
-row-of-requires c κs = search needs
-
-write-section-requires : tie.Need-write-section-requires
-write-section-requires c κs = search needs
-
-past-requires : tie.Need-past-requires
-past-requires c κs = search needs
-
-enum-told : tie.Need-enum-told
-enum-told c = search needs
-
-enum-told-2 : tie.Need-enum-told-2
-enum-told-2 c = search needs
-
-enum-told-3 : tie.Need-enum-told-3
-enum-told-3 c = search needs
-
-enum-told-4 : tie.Need-enum-told-4
-enum-told-4 c = search needs
-
-enum-told-5 : tie.Need-enum-told-5
-enum-told-5 c = search needs
-
-same-length : tie.Need-same-length
-same-length c = search needs
-
 returns-2 : tie.Need-returns-2
 returns-2 c =
     let write-section = c .before .before .before .write-section in
@@ -118,6 +82,7 @@ returns-7 c =
 
 pub to-section-spec : {M : Type 1} → statement M
 to-section-spec =
-    tie.close (tie.spec returns judge-requires enum-known-judged byte-at-requires row-of-requires write-section-requires
-    past-requires enum-told enum-told-2 enum-told-3 enum-told-4 enum-told-5 same-length returns-2 returns-3 returns-4
+    tie.close (tie.spec returns (λ c κs. search needs) (λ c. search needs) (λ c κs. search needs)
+    (λ c κs. search needs) (λ c κs. search needs) (λ c κs. search needs) (λ c. search needs) (λ c. search needs)
+    (λ c. search needs) (λ c. search needs) (λ c. search needs) (λ c. search needs) returns-2 returns-3 returns-4
     returns-5 returns-6 returns-7)

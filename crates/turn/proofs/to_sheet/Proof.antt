@@ -16,18 +16,6 @@ returns c =
     let f = sheet-no-room (length o) (args .section .now) (c .if1 .taken) in
     (ap answer (sym f), ap (roomAfter o) (sym f))
 
-judge-requires : tie.Need-judge-requires
-judge-requires c κs = search needs
-
-is-accepted-requires : tie.Need-is-accepted-requires
-is-accepted-requires c κs = search needs
-
-write-accepted-requires : tie.Need-write-accepted-requires
-write-accepted-requires c κs = search needs
-
-same-length : tie.Need-same-length
-same-length c = search needs
-
 returns-2 : tie.Need-returns-2
 returns-2 c =
     let write-accepted = c .before .before .before .write-accepted in
@@ -41,9 +29,6 @@ returns-2 c =
     let m = sheet-made (length o) (args .section .now) (λ k. shared-slice-known .given k .fits) (if1 .left) a in
     let x = write-accepted .ensures .written (c .if2 .taken) .written (m .content) a (m .reads) (m .row) (if1 .left) in
     (ap wrote (x .1) ∙ ap answer (sym (m .gives)), x .0 ∙ ap (roomAfter o) (sym (m .gives)))
-
-same-length-2 : tie.Need-same-length-2
-same-length-2 c = search needs
 
 returns-3 : tie.Need-returns-3
 returns-3 c =
@@ -59,5 +44,5 @@ returns-3 c =
 
 pub to-sheet-spec : {M : Type 1} → statement M
 to-sheet-spec =
-    tie.close (tie.spec returns judge-requires is-accepted-requires write-accepted-requires same-length returns-2
-    same-length-2 returns-3)
+    tie.close (tie.spec returns (λ c κs. search needs) (λ c κs. search needs) (λ c κs. search needs)
+    (λ c. search needs) returns-2 (λ c. search needs) returns-3)

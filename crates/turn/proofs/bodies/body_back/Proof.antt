@@ -9,21 +9,6 @@ use borrow.Author.Needs.{needs}
 use Rattle.turn.proofs.bodies.body_back.Statement.{statement}
 use Rattle.turn.proofs.bodies.body_back.Tie as tie
 
-row-at-requires : tie.Need-row-at-requires
-row-at-requires c κs = search needs
-
-is-one-requires : tie.Need-is-one-requires
-is-one-requires c κs = search needs
-
-head-requires : tie.Need-head-requires
-head-requires c κs = search needs
-
-top-loop-requires : tie.Need-top-loop-requires
-top-loop-requires c κs = search needs
-
-same-length : tie.Need-same-length
-same-length c = search needs
-
 returns : tie.Need-returns
 returns c =
     let top-loop = c .before .before .before .top-loop in
@@ -47,9 +32,6 @@ entries-back-requires c κs =
           (λ e. c .before .if1 .left (ap (λ (r : Row). r .fixed) (row-at .ensures) ∙ e));
     }
 
-same-length-2 : tie.Need-same-length-2
-same-length-2 c = search needs
-
 returns-2 : tie.Need-returns-2
 returns-2 c =
     let if1 = c .before .before .before .before .if1 in
@@ -65,5 +47,5 @@ returns-2 c =
 
 pub body-back-spec : {M : Type 1} → statement M
 body-back-spec =
-    tie.close (tie.spec row-at-requires is-one-requires head-requires top-loop-requires same-length returns
-    entries-back-requires same-length-2 returns-2)
+    tie.close (tie.spec (λ c κs. search needs) (λ c κs. search needs) (λ c κs. search needs) (λ c κs. search needs)
+    (λ c. search needs) returns entries-back-requires (λ c. search needs) returns-2)

@@ -9,21 +9,6 @@ use borrow.Author.Needs.{needs}
 use Rattle.turn.proofs.bodies.body_forth.Statement.{statement}
 use Rattle.turn.proofs.bodies.body_forth.Tie as tie
 
-row-at-requires : tie.Need-row-at-requires
-row-at-requires c κs = search needs
-
-is-one-requires : tie.Need-is-one-requires
-is-one-requires c κs = search needs
-
-head-requires : tie.Need-head-requires
-head-requires c κs = search needs
-
-top-loop-requires : tie.Need-top-loop-requires
-top-loop-requires c κs = search needs
-
-same-length : tie.Need-same-length
-same-length c = search needs
-
 returns : tie.Need-returns
 returns c =
     let top-loop = c .before .before .before .before .top-loop in
@@ -35,12 +20,6 @@ returns c =
     (is-one .ensures ∙ ap (λ (r : Row). eqb (r .top) 1) (row-at .ensures)) (args .end)
     (eq-eqb (rowAt (args .number) .fixed) 0 (ap (λ (r : Row). r .fixed) (sym (row-at .ensures)) ∙ c .if1 .taken))
     (head .ensures) (top-loop .ensures)
-
-entries-forth-requires : tie.Need-entries-forth-requires
-entries-forth-requires c κs = search needs
-
-same-length-2 : tie.Need-same-length-2
-same-length-2 c = search needs
 
 returns-2 : tie.Need-returns-2
 returns-2 c =
@@ -57,5 +36,5 @@ returns-2 c =
 
 pub body-forth-spec : {M : Type 1} → statement M
 body-forth-spec =
-    tie.close (tie.spec row-at-requires is-one-requires head-requires top-loop-requires same-length returns
-    entries-forth-requires same-length-2 returns-2)
+    tie.close (tie.spec (λ c κs. search needs) (λ c κs. search needs) (λ c κs. search needs) (λ c κs. search needs)
+    (λ c. search needs) returns (λ c κs. search needs) (λ c. search needs) returns-2)

@@ -26,17 +26,8 @@ loop-holds c = (omega arith, count-begins descriptor descriptor-full (c .before 
 add-byte-at : tie.Need-add-byte-at Inv-loop μ-loop
 add-byte-at c = omega arith
 
-byte-at-requires : tie.Need-byte-at-requires Inv-loop μ-loop
-byte-at-requires c κs = search needs
-
-wide-requires : tie.Need-wide-requires Inv-loop μ-loop
-wide-requires c κs = search needs
-
 add-past : tie.Need-add-past Inv-loop μ-loop
 add-past c = omega (arith, c .wide .ensures .small)
-
-past-requires : tie.Need-past-requires Inv-loop μ-loop
-past-requires c κs = search needs
 
 add-k : tie.Need-add-k Inv-loop μ-loop
 add-k c =
@@ -81,17 +72,5 @@ returns c =
 
 pub descriptors-in-spec : {M : Type 1} → statement M
 descriptors-in-spec =
-    tie.close
-    (tie.spec
-    Inv-loop
-    μ-loop
-    loop-holds
-    add-byte-at
-    byte-at-requires
-    wide-requires
-    add-past
-    past-requires
-    add-k
-    loop-less
-    loop-again
-    returns)
+    tie.close (tie.spec Inv-loop μ-loop loop-holds add-byte-at (λ c κs. search needs) (λ c κs. search needs) add-past
+    (λ c κs. search needs) add-k loop-less loop-again returns)

@@ -15,31 +15,13 @@ Inv-loop s at left₀ n₀ left n = Sizing s at n left
 abbrev μ-loop : tie.MeasureT-loop
 μ-loop s at left₀ n₀ left n = left
 
-number16-at-requires : tie.Need-number16-at-requires Inv-loop μ-loop
-number16-at-requires c κs = search needs
-
 loop-holds : tie.Need-loop-holds Inv-loop μ-loop
 loop-holds c =
     let args = c .before .before .args in
     subst (Sizing (args .s .now) (args .at) 0) (sym (c .number16-at .ensures)) (size-begins (args .s .now) (args .at))
 
-past-requires : tie.Need-past-requires Inv-loop μ-loop
-past-requires c κs = search needs
-
-past-requires-2 : tie.Need-past-requires-2 Inv-loop μ-loop
-past-requires-2 c κs = search needs
-
-byte-at-requires : tie.Need-byte-at-requires Inv-loop μ-loop
-byte-at-requires c κs = search needs
-
-wide-requires : tie.Need-wide-requires Inv-loop μ-loop
-wide-requires c κs = search needs
-
 add-past : tie.Need-add-past Inv-loop μ-loop
 add-past c = omega (arith, c .wide .ensures .small)
-
-past-requires-3 : tie.Need-past-requires-3 Inv-loop μ-loop
-past-requires-3 c κs = search needs
 
 sub-left : tie.Need-sub-left Inv-loop μ-loop
 sub-left c = omega (arith, c .before .before .before .before .before .loop-test .taken)
@@ -78,19 +60,6 @@ returns c =
 
 pub descriptors-size-spec : {M : Type 1} → statement M
 descriptors-size-spec =
-    tie.close
-    (tie.spec
-    Inv-loop
-    μ-loop
-    number16-at-requires
-    loop-holds
-    past-requires
-    past-requires-2
-    byte-at-requires
-    wide-requires
-    add-past
-    past-requires-3
-    sub-left
-    loop-less
-    loop-again
-    returns)
+    tie.close (tie.spec Inv-loop μ-loop (λ c κs. search needs) loop-holds (λ c κs. search needs)
+    (λ c κs. search needs) (λ c κs. search needs) (λ c κs. search needs) add-past (λ c κs. search needs) sub-left
+    loop-less loop-again returns)

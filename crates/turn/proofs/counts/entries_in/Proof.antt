@@ -35,19 +35,10 @@ sub-past c =
     let args = c .before .before .before .args in
     omega (arith, fixed-small (args .fixed) (args .row) (c .before .before .before .pre))
 
-past-requires : tie.Need-past-requires Inv-loop μ-loop
-past-requires c κs = search needs
-
-length12-at-requires : tie.Need-length12-at-requires Inv-loop μ-loop
-length12-at-requires c κs = search needs
-
 add-size : tie.Need-add-size Inv-loop μ-loop
 add-size c =
     let p = c .before .before .before .before .before in let args = p .args in let pre = p .pre in
     omega (arith, c .length12-at .ensures .small, fixed-small (args .fixed) (args .row) pre)
-
-past-requires-2 : tie.Need-past-requires-2 Inv-loop μ-loop
-past-requires-2 c κs = search needs
 
 add-k : tie.Need-add-k Inv-loop μ-loop
 add-k c =
@@ -98,17 +89,5 @@ returns c =
 
 pub entries-in-spec : {M : Type 1} → statement M
 entries-in-spec =
-    tie.close
-    (tie.spec
-    Inv-loop
-    μ-loop
-    loop-holds
-    sub-past
-    past-requires
-    length12-at-requires
-    add-size
-    past-requires-2
-    add-k
-    loop-less
-    loop-again
-    returns)
+    tie.close (tie.spec Inv-loop μ-loop loop-holds sub-past (λ c κs. search needs) (λ c κs. search needs) add-size
+    (λ c κs. search needs) add-k loop-less loop-again returns)

@@ -17,9 +17,6 @@ abbrev μ-loop : tie.MeasureT-loop
 loop-holds : tie.Need-loop-holds Inv-loop μ-loop
 loop-holds c = ((λ r o t. t), refl)
 
-entry-requires : tie.Need-entry-requires Inv-loop μ-loop
-entry-requires c κs = search needs
-
 sub-left : tie.Need-sub-left Inv-loop μ-loop
 sub-left c = omega (arith, c .before .before .before .before .loop-test .taken)
 
@@ -38,9 +35,6 @@ loop-again c =
       search needs,
     )
 
-same-length : tie.Need-same-length Inv-loop μ-loop
-same-length c = search needs
-
 returns : tie.Need-returns Inv-loop μ-loop
 returns c =
     let args = c .before .before .before .before .args in
@@ -50,4 +44,6 @@ returns c =
     (c .before .loop .left) e (c .before .loop .inv .0)
 
 pub entries-spec : {M : Type 1} → statement M
-entries-spec = tie.close (tie.spec Inv-loop μ-loop loop-holds entry-requires sub-left loop-less loop-again same-length returns)
+entries-spec =
+    tie.close (tie.spec Inv-loop μ-loop loop-holds (λ c κs. search needs) sub-left loop-less loop-again
+    (λ c. search needs) returns)

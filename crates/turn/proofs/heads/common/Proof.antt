@@ -8,21 +8,6 @@ use borrow.Author.Needs.{needs}
 use Rattle.turn.proofs.heads.common.Statement.{statement}
 use Rattle.turn.proofs.heads.common.Tie as tie
 
-plain-requires : tie.Need-plain-requires
-plain-requires c κs = search needs
-
-packed-requires : tie.Need-packed-requires
-packed-requires c κs = search needs
-
-plain-requires-2 : tie.Need-plain-requires-2
-plain-requires-2 c κs = search needs
-
-ids-requires : tie.Need-ids-requires
-ids-requires c κs = search needs
-
-same-length : tie.Need-same-length
-same-length c = search needs
-
 returns : tie.Need-returns
 returns c =
     let p = c .before .before .before .before .before .before in let plain2 = p .plain2 in
@@ -38,5 +23,5 @@ returns c =
 
 pub common-spec : {M : Type 1} → statement M
 common-spec =
-    tie.close
-    (tie.spec plain-requires packed-requires plain-requires-2 ids-requires same-length returns)
+    tie.close (tie.spec (λ c κs. search needs) (λ c κs. search needs) (λ c κs. search needs) (λ c κs. search needs)
+    (λ c. search needs) returns)

@@ -6,25 +6,10 @@ use borrow.Author.Needs.{needs}
 use Rattle.turn.proofs.heads.head.Statement.{statement}
 use Rattle.turn.proofs.heads.head.Tie as tie
 
-is-numbered-requires : tie.Need-is-numbered-requires
-is-numbered-requires c κs = search needs
-
 common-requires : tie.Need-common-requires
 common-requires c κs =
     let numbered = c .before .before in
     numbered-below (numbered .before .before .before .args .row) (numbered .is-numbered .ensures) (c .before .if1 .taken)
-
-same-length : tie.Need-same-length
-same-length c = search needs
-
-returns : tie.Need-returns
-returns c = search needs
-
-plain-requires : tie.Need-plain-requires
-plain-requires c κs = search needs
-
-same-length-2 : tie.Need-same-length-2
-same-length-2 c = search needs
 
 returns-2 : tie.Need-returns-2
 returns-2 c =
@@ -38,4 +23,5 @@ returns-2 c =
 
 pub head-spec : {M : Type 1} → statement M
 head-spec =
-    tie.close (tie.spec is-numbered-requires common-requires same-length returns plain-requires same-length-2 returns-2)
+    tie.close (tie.spec (λ c κs. search needs) common-requires (λ c. search needs) (λ c. search needs)
+    (λ c κs. search needs) (λ c. search needs) returns-2)

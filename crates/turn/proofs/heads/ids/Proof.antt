@@ -7,15 +7,6 @@ use borrow.Author.Needs.{needs}
 use Rattle.turn.proofs.heads.ids.Statement.{statement}
 use Rattle.turn.proofs.heads.ids.Tie as tie
 
-plain-requires : tie.Need-plain-requires
-plain-requires c κs = search needs
-
-packed-requires : tie.Need-packed-requires
-packed-requires c κs = search needs
-
-same-length : tie.Need-same-length
-same-length c = search needs
-
 returns : tie.Need-returns
 returns c =
     let p = c .before .before .before .before .before .before in let the-plain = p .plain in
@@ -24,12 +15,6 @@ returns c =
     as-items (args .forth) (sdt-ids (args .row) (if1 .taken))
     (an-item (args .forth) (plain 2) (filler ∷ []) (plain-item (args .forth) 2 (the-plain .ensures))
     (last-item (args .forth) filler (c .before .before .packed .ensures .turned filled)))
-
-plain-requires-2 : tie.Need-plain-requires-2
-plain-requires-2 c κs = search needs
-
-same-length-2 : tie.Need-same-length-2
-same-length-2 c = search needs
 
 returns-2 : tie.Need-returns-2
 returns-2 c =
@@ -45,13 +30,5 @@ returns-3 c =
 
 pub ids-spec : {M : Type 1} → statement M
 ids-spec =
-    tie.close
-    (tie.spec
-    plain-requires
-    packed-requires
-    same-length
-    returns
-    plain-requires-2
-    same-length-2
-    returns-2
-    returns-3)
+    tie.close (tie.spec (λ c κs. search needs) (λ c κs. search needs) (λ c. search needs) returns
+    (λ c κs. search needs) (λ c. search needs) returns-2 returns-3)

@@ -6,18 +6,6 @@ use borrow.Author.Needs.{needs}
 use Rattle.turn.proofs.whole.write_accepted.Statement.{statement}
 use Rattle.turn.proofs.whole.write_accepted.Tie as tie
 
-byte-at-requires : tie.Need-byte-at-requires
-byte-at-requires c κs = search needs
-
-row-of-requires : tie.Need-row-of-requires
-row-of-requires c κs = search needs
-
-write-sheet-requires : tie.Need-write-sheet-requires
-write-sheet-requires c κs = search needs
-
-same-length : tie.Need-same-length
-same-length c = search needs
-
 returns : tie.Need-returns
 returns c =
     let row-of = c .before .before .before .before .row-of in
@@ -33,4 +21,6 @@ returns-2 c =
     refused-kept (args .accepted) (args .section .now) (c .if1 .left)
 
 pub write-accepted-spec : {M : Type 1} → statement M
-write-accepted-spec = tie.close (tie.spec byte-at-requires row-of-requires write-sheet-requires same-length returns returns-2)
+write-accepted-spec =
+    tie.close (tie.spec (λ c κs. search needs) (λ c κs. search needs) (λ c κs. search needs) (λ c. search needs)
+    returns returns-2)

@@ -19,47 +19,11 @@ returns c =
     written-never (args .sheet .now) (args .room .now) (args .n) (args .number)
     (λ k. c .before .before .shared-slice-known .given k .fits) (omega arith)
 
-row-at-requires : tie.Need-row-at-requires
-row-at-requires c κs = search needs
-
-past-requires : tie.Need-past-requires
-past-requires c κs = search needs
-
-crc-size-requires : tie.Need-crc-size-requires
-crc-size-requires c κs = search needs
-
-less-requires : tie.Need-less-requires
-less-requires c κs = search needs
-
-byte-at-requires : tie.Need-byte-at-requires
-byte-at-requires c κs = search needs
-
-put-byte-requires : tie.Need-put-byte-requires
-put-byte-requires c κs = search needs
-
-leading-requires : tie.Need-leading-requires
-leading-requires c κs = search needs
-
-past-requires-2 : tie.Need-past-requires-2
-past-requires-2 c κs = search needs
-
-put-number-requires : tie.Need-put-number-requires
-put-number-requires c κs = search needs
-
 body-forth-requires : tie.Need-body-forth-requires
 body-forth-requires c κs =
     let p = c .before .before .before .before .before .before .before .before .before .before .before .before in
     let p = p .before .before .before .before in let if1 = p .if1 in
     omega (arith, if1 .left)
-
-is-one-requires : tie.Need-is-one-requires
-is-one-requires c κs = search needs
-
-seal-requires : tie.Need-seal-requires
-seal-requires c κs = search needs
-
-same-length : tie.Need-same-length
-same-length c = search needs
 
 returns-2 : tie.Need-returns-2
 returns-2 c =
@@ -92,9 +56,6 @@ returns-2 c =
     (ap (λ (r : Row). eqb (r .crc) 1) (sym (row-at .ensures)) ∙ sym (is-one .ensures) ∙ if2 .taken)
     (c .before .before .seal .ensures)
 
-same-length-2 : tie.Need-same-length-2
-same-length-2 c = search needs
-
 returns-3 : tie.Need-returns-3
 returns-3 c =
     let body-forth = c .before .before .before .before .body-forth in
@@ -125,6 +86,7 @@ returns-3 c =
 
 pub write-section-spec : {M : Type 1} → statement M
 write-section-spec =
-    tie.close (tie.spec returns row-at-requires past-requires crc-size-requires less-requires byte-at-requires
-    put-byte-requires leading-requires past-requires-2 put-number-requires body-forth-requires is-one-requires
-    seal-requires same-length returns-2 same-length-2 returns-3)
+    tie.close (tie.spec returns (λ c κs. search needs) (λ c κs. search needs) (λ c κs. search needs)
+    (λ c κs. search needs) (λ c κs. search needs) (λ c κs. search needs) (λ c κs. search needs) (λ c κs. search needs)
+    (λ c κs. search needs) body-forth-requires (λ c κs. search needs) (λ c κs. search needs) (λ c. search needs)
+    returns-2 (λ c. search needs) returns-3)

@@ -19,26 +19,8 @@ returns c =
     sheet-never (args .section .now) (args .room .now) (args .number)
     (λ k. c .before .before .shared-slice-known .given k .fits) (omega arith)
 
-row-at-requires : tie.Need-row-at-requires
-row-at-requires c κs = search needs
-
-crc-size-requires : tie.Need-crc-size-requires
-crc-size-requires c κs = search needs
-
-less-requires : tie.Need-less-requires
-less-requires c κs = search needs
-
-byte-at-requires : tie.Need-byte-at-requires
-byte-at-requires c κs = search needs
-
-put-byte-requires : tie.Need-put-byte-requires
-put-byte-requires c κs = search needs
-
 body-back-requires : tie.Need-body-back-requires
 body-back-requires c κs = omega (arith, c .before .before .before .before .before .before .before .before .before .if1 .left)
-
-same-length : tie.Need-same-length
-same-length c = search needs
 
 returns-2 : tie.Need-returns-2
 returns-2 c =
@@ -60,5 +42,5 @@ returns-2 c =
 
 pub write-sheet-spec : {M : Type 1} → statement M
 write-sheet-spec =
-    tie.close (tie.spec returns row-at-requires crc-size-requires less-requires byte-at-requires put-byte-requires
-    body-back-requires same-length returns-2)
+    tie.close (tie.spec returns (λ c κs. search needs) (λ c κs. search needs) (λ c κs. search needs)
+    (λ c κs. search needs) (λ c κs. search needs) body-back-requires (λ c. search needs) returns-2)
