@@ -5,11 +5,9 @@ use Rattle.turn.proofs.descriptors.put_number.Tie as tie
 
 returns : tie.Need-returns
 returns c =
-    cc (
-      c .before .before .put-byte2 .ensures,
-      c .before .before .before .before .before .before .before .put-byte .ensures,
-      c .before .before .before .past .ensures,
-    )
+    let low = c .before .before in let behind = low .before in let room = behind .before .before .before in
+    let high = room .before in
+    cc (low .put-byte2 .ensures, high .put-byte .ensures, behind .past .ensures)
 
 pub put-number-spec : {M : Type 1} → statement M
 put-number-spec =
