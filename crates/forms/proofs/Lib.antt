@@ -1,4 +1,5 @@
 pub mod Puts
+pub mod Outcomes
 pub mod Lawful
 pub mod FieldLaws
 pub mod ListLaws

@@ -1,11 +1,10 @@
 -- Fields of some bits each, packed into a byte or half a byte as a section has them, and in a byte each as a sheet has them.
-use Prim.Native.Nat.{ℕ, zero, suc, _+_, _-_, _*_, _/_, _%_, _^_, _<_}
-use mathlib.Core.Path.{_≡_}
+use Prim.Native.Nat.{ℕ, _+_, _-_, _*_, _/_, _%_, _^_, _<_}
 use mathlib.Core.List.{List, [], _∷_}
 use lib.ListN.{getD}
 use lib.Dec.{ltb}
 use Rattle.wire.specs.If.{if_then_else_}
-use Rattle.wire.specs.Reading.{Reading, value, refused, _>>=_}
+use Rattle.wire.specs.Reading.{value, refused, _>>=_}
 use Rattle.forms.specs.Form.{Front, Form, mute, rawRead, each, EachOk}
 
 -- a field of so many bits; a reserved one is in no sheet

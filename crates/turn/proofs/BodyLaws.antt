@@ -143,7 +143,8 @@ module _ (row : ℕ) (e : Entries) where
       record { beside = no-fields (e .0) (o .0); entries = both-ok row (e .1) (o .1 .1) (u .1 .1); few = o .1 .0 }
 
   -- no entries are no bytes
-  none-shown-of : (no-entries top : Bool) → no-entries ≡ true → (sheetsOf no-entries top .show e ≡ []) × (sectionsOf no-entries top 0 .show e ≡ [])
+  none-shown-of : (no-entries top : Bool) → no-entries ≡ true
+      → (sheetsOf no-entries top .show e ≡ []) × (sectionsOf no-entries top 0 .show e ≡ [])
   none-shown-of true top h = (refl, refl)
   none-shown-of false top h = absurd (true-not-false (sym h))
 
@@ -217,7 +218,8 @@ module _ (number : ℕ) {row : Row} (hr : row ≡ rowAt number) {top : Bool} (ht
   forth-parts h u b ok sok w e f g =
       three (eachShow sheetItem (headOf number) (b .0)) (sheetTop number .show (b .1 .0)) (sheetEntries number .show (b .1 .1))
       (eachShow sectionItem (headOf number) (b .0)) (sectionTop number .show (b .1 .0)) (sectionEntries number 0 .show (b .1 .1))
-      w (subst (λ n. n ≤ length o) (sym e) f) (h .turned (b .0) (ok .0)) (top-forth number (is-top number hr ht) (b .1 .0) u (ok .1 .0) (sok .1 .0))
+      w (subst (λ n. n ≤ length o) (sym e) f) (h .turned (b .0) (ok .0))
+      (top-forth number (is-top number hr ht) (b .1 .0) u (ok .1 .0) (sok .1 .0))
       (λ wz _ _ j l. g wz (j ∙ e) (subst (λ n. end ≤ n) (sym l) f))
 
   back-parts : Turned (itemsFrom false (headOf number)) (itemsTo false (headOf number)) s p o q o₁
@@ -232,7 +234,8 @@ module _ (number : ℕ) {row : Row} (hr : row ≡ rowAt number) {top : Bool} (ht
       three (eachShow sectionItem (headOf number) (b .0)) (sectionTop number .show (b .1 .0)) (sectionEntries number 0 .show (b .1 .1))
       (eachShow sheetItem (headOf number) (b .0)) (sheetTop number .show (b .1 .0)) (sheetEntries number .show (b .1 .1))
       w f (h .turned (b .0) (sok .0)) (top-back number (is-top number hr ht) (b .1 .0) u (sok .1 .0))
-      (λ wz m i j l. g wz m (i ∙ e) (subst (λ n. n ≤ length o₂) (sym j) (subst (λ n. p .to + length (sheetBody number .show b) ≤ n) (sym l) f)))
+      (λ wz m i j l. g wz m (i ∙ e)
+      (subst (λ n. n ≤ length o₂) (sym j) (subst (λ n. p .to + length (sheetBody number .show b) ≤ n) (sym l) f)))
 
   pub body-forth : (row .fixed ≡ 0 → ⊥) → Turned (itemsFrom true (headOf number)) (itemsTo true (headOf number)) s p o q o₁
       → Turned (topIf true top) (topIf false top) s q o₁ r o₂ → EntriesForth top number s r end o₂ v o₃ → BodyForth number s p end o v o₃

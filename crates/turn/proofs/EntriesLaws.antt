@@ -12,7 +12,7 @@ use Rattle.wire.proofs.PartLaws.{part-second, part-taken}
 use Rattle.tables.specs.Tables.{cell}
 use Rattle.forms.specs.Form.{EachOk}
 use Rattle.forms.specs.Fields.{room, pack, sheetFields}
-use Rattle.forms.specs.Lists.{all, All, times, countedShow, loopShow}
+use Rattle.forms.specs.Lists.{all, times, countedShow, loopShow}
 use Rattle.forms.specs.Room.{put, sum}
 use Rattle.forms.specs.Inner.Turning.{Turned}
 use Rattle.forms.proofs.Puts.{sum-fits, put-put, length-put}

@@ -6,7 +6,6 @@ use mathlib.Core.Bool.{Bool, true, false}
 use native.Mathlib.Omega.{arith}
 use borrow.Author.Tests.{eqb-true, lt-ltb, le-ltb}
 use lib.ListN.{length, getD, take, drop, length-append}
-use lib.Seq.{take-at}
 use lib.Dec.{eqb, ltb, lit<}
 use Prim.{tt}
 use Rattle.wire.specs.If.{if_then_else_}
@@ -25,7 +24,8 @@ use Rattle.section.specs.Reading.{judged}
 use Rattle.forms.specs.Form.{eachShow, EachOk}
 use Rattle.forms.specs.Fields.{Fit, room, pack, sheetFields}
 use Rattle.forms.specs.Room.{put, sum}
-use Rattle.forms.proofs.Puts.{sum-fits, put-fits, put-put, length-put}
+use Rattle.forms.proofs.Puts.{sum-fits, put-put, length-put}
+pub use Rattle.forms.proofs.Outcomes.{take-put}
 use Rattle.sheet.specs.Content.{Content, frame, tableOf, frameOf, bodyOf, rowIn}
 use Rattle.sheet.specs.Sheet.{sheetBody, sheetOf, SheetOk}
 use Rattle.sheet.specs.Section.{bodyBytes, sectionLength, front, seal, sectionOf, contentOf, readSheet}
@@ -86,10 +86,6 @@ crc-bytes : (x : ℕ) → x ≤ 1 → crcSize x ≡ 4 * x
 crc-bytes zero h = refl
 crc-bytes (suc zero) h = refl
 crc-bytes (suc (suc x)) h = absurd (omega arith)
-
--- the first bytes of a room in which something was put
-pub take-put : (o l : List ℕ) → length l ≤ length o → take (length l) (put o 0 l) ≡ l
-take-put o l h = ap (take (length l)) (put-fits o 0 l (omega arith)) ∙ take-at l (drop (0 + length l) o) (length l) refl
 
 -- four bytes of a CRC_32, put as two numbers
 four-put : (o : List ℕ) (to v : ℕ) → v < 2 ^ 32 → length o < 2 ^ 64 → to + 4 ≤ length o

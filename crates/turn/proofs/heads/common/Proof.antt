@@ -1,5 +1,5 @@
 -- `turn::heads::common` meets its contract.
-use mathlib.Core.List.{[], _∷_}
+use mathlib.Core.List.{_∷_}
 use lib.ListN.{drop}
 use Rattle.sheet.specs.Content.{plain, numbers, version, headOf}
 use Rattle.turn.specs.Inner.Fields.{versioned}

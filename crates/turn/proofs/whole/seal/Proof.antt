@@ -11,7 +11,13 @@ returns c =
     let if1 = summed .before .before .before in let tested = if1 .before in
     let e = sym (tested .is-one .ensures) ∙ summed .before .before .before .if1 .taken in
     rw e
-    (cc (low .put-number2 .ensures, high .put-number .ensures, low .before .past .ensures, summed .crc32 .ensures, summed .before .part .ensures))
+    (cc (
+      low .put-number2 .ensures,
+      high .put-number .ensures,
+      low .before .past .ensures,
+      summed .crc32 .ensures,
+      summed .before .part .ensures,
+    ))
 
 returns-2 : tie.Need-returns-2
 returns-2 c =
