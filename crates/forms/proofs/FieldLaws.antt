@@ -9,7 +9,7 @@ use borrow.Author.Tests.{ltb-true, lt-ltb}
 use lib.Pow.{pow-pos}
 use lib.ListN.{getD}
 use lib.Dec.{ltb}
-use Rattle.wire.specs.Reading.{value, _>>=_}
+use Rattle.wire.specs.Reading.{value}
 use Rattle.wire.proofs.ReadingLaws.{value-is, never, through}
 use Rattle.wire.proofs.IfLaws.{if-case}
 use Rattle.forms.specs.Form.{Front, rawRead, EachOk}

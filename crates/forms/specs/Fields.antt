@@ -17,6 +17,11 @@ abbrev pub width : Field → ℕ
 width (kept w) = w
 width (reserved w) = w
 
+-- the bits of all fields
+abbrev pub bits : List Field → ℕ
+bits [] = 0
+bits (f ∷ fs) = width f + bits fs
+
 -- ---- in a sheet
 
 -- a byte that has to be below n. "24 version above 31, current, flag or free_CA_mode above 1, running_status above 7"
