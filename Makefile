@@ -47,7 +47,7 @@ $(out)/lohitunga.pc: include/lohitunga.h Makefile
 		'Cflags: -I$${includedir}' 'Libs: -L$${libdir} -llohitunga' >$@
 
 install: all
-	mkdir -p $(to)/include $(to)/lib/pkgconfig $(to)/share/doc/lohitunga/docs $(to)/share/doc/lohitunga/examples
+	mkdir -p $(to)/include $(to)/lib/pkgconfig $(to)/share/doc/lohitunga/docs/maintainers $(to)/share/doc/lohitunga/examples
 	install -m 644 include/lohitunga.h include/lohitunga_text.h $(to)/include
 	install -m 644 $(out)/liblohitunga.a $(to)/lib
 	install -m 755 $(out)/$(shared) $(to)/lib
@@ -55,6 +55,7 @@ install: all
 	install -m 644 $(out)/lohitunga.pc $(to)/lib/pkgconfig
 	install -m 644 README.md LICENSE CHANGELOG.md $(to)/share/doc/lohitunga
 	install -m 644 docs/*.md $(to)/share/doc/lohitunga/docs
+	install -m 644 docs/maintainers/*.md $(to)/share/doc/lohitunga/docs/maintainers
 	install -m 644 examples/services.c $(to)/share/doc/lohitunga/examples
 
 dist: all
