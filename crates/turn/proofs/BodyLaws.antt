@@ -23,7 +23,7 @@ use Rattle.sheet.specs.Sheet.{sheetItem, sheetLoop, sheetEntry, sheetTop, sheet
 use Rattle.sheet.specs.Section.{sectionItem, sectionLoop, sectionEntry, sectionTop, sectionEntries, sectionBody}
 use Rattle.turn.specs.Inner.Ways.{itemsFrom, itemsTo, loopFrom, entryFrom, topIf, entriesShown, BesideOk, BesideFit, EntriesForth, EntriesBack, EntrySizes}
 use Rattle.turn.specs.Inner.Bodies.{SectionOk, BodyForth, BodyBack}
-use Rattle.turn.proofs.Held.{no-fields}
+use Rattle.contents.proofs.Held.{no-fields}
 use Rattle.forms.specs.declared.Place.{Place}
 
 -- ---- rows

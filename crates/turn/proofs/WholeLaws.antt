@@ -34,11 +34,12 @@ use Rattle.turn.specs.Inner.Bodies.{BodyForth, BodyBack, SectionWritten,
 use Rattle.turn.specs.Turn as turn
 use Rattle.turn.specs.Answers.{toldRefusal}
 use Rattle.sheet.proofs.SectionSize.{front-is, front-length, second, section-length, seal-length}
-use Rattle.turn.specs.Holds.{Holds}
-use Rattle.turn.proofs.SectionLaws.{numbers-of, first-byte, frame-lt}
-use Rattle.turn.proofs.Held.{Held, held}
-use Rattle.turn.proofs.SheetSize.{sheet-fits}
-use Rattle.turn.proofs.RoundTrips.{FromSection, of-accepted, to-section, to-sheet}
+use Rattle.contents.specs.Holds.{Holds}
+use Rattle.contents.proofs.SectionLaws.{numbers-of, first-byte, frame-lt}
+use Rattle.contents.proofs.Held.{Held, held}
+use Rattle.contents.proofs.SheetSize.{sheet-fits}
+use Rattle.contents.proofs.ReadBack.{OfSection, of-accepted}
+use Rattle.turn.proofs.TurnLaws.{to-section, to-sheet}
 use Rattle.turn.proofs.EntriesLaws.{number-put}
 use Rattle.forms.specs.declared.Place.{Place}
 

@@ -6,7 +6,7 @@ use lib.ListN.{length, getD}
 use Rattle.forms.specs.Room.{sum}
 use Rattle.sheet.specs.Sheet.{descriptor}
 use borrow.Author.Needs.{needs}
-use Rattle.turn.proofs.SectionLaws.{descriptor-full}
+use Rattle.contents.proofs.SectionLaws.{descriptor-full}
 use Rattle.turn.proofs.CountLaws.{sum-more, Counting, count-begins, count-on, count-ends, descriptor-size}
 use Rattle.turn.proofs.counts.descriptors_in.Statement.{statement}
 use Rattle.turn.proofs.counts.descriptors_in.Tie as tie

@@ -8,7 +8,7 @@ use Rattle.forms.specs.Room.{sum}
 use Rattle.sheet.specs.Section.{sectionEntry}
 use Rattle.turn.specs.Inner.Ways.{EntrySizes}
 use borrow.Author.Needs.{needs}
-use Rattle.turn.proofs.SectionLaws.{entry-full}
+use Rattle.contents.proofs.SectionLaws.{entry-full}
 use Rattle.turn.proofs.CountLaws.{sum-more, Counting, count-begins, count-on, count-ends}
 use Rattle.turn.proofs.EntryLaws.{fixed-small, entry-size}
 use Rattle.turn.proofs.counts.entries_in.Statement.{statement}

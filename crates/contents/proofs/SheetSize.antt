@@ -16,8 +16,8 @@ use Rattle.sheet.specs.Content.{Item, plain, numbers, packed, bare, frame, head
 use Rattle.sheet.specs.Sheet.{descriptor, sheetItem, sheetLoop, sheetEntry, sheetTop, sheetEntries, sheetOf}
 use Rattle.sheet.specs.Section.{sectionItem, sectionLoop, sectionEntry, sectionTop, sectionEntries, sectionLength, sectionOf, bodyBytes}
 use Rattle.sheet.proofs.SectionSize.{section-length}
-use Rattle.turn.specs.Holds.{Holds, entriesBytes}
-use Rattle.turn.proofs.SectionLaws.{sizes, items-size, numbers-of, Numbers, body-length, shown-alike}
+use Rattle.contents.specs.Holds.{Holds, entriesBytes}
+use Rattle.contents.proofs.SectionLaws.{sizes, items-size, numbers-of, Numbers, body-length, shown-alike}
 
 -- ---- the bytes of a sheet's parts
 

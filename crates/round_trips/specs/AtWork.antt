@@ -5,8 +5,8 @@ use mathlib.Core.Path.{_≡_}
 use mathlib.Core.List.{List, [], _∷_}
 use Rattle.verdict.specs.Verdict.{accepted}
 use Rattle.section.specs.Reading.{judged}
 use Rattle.turn.specs.Turn.{gives, toSection, toSheet}
-use Rattle.turn.specs.Ones.{ReservedWereOnes}
+use Rattle.contents.specs.Ones.{ReservedWereOnes}
 
 -- NIT: version 21; a top loop of two descriptors, two entries
 abbrev pub nitSheet : List ℕ

@@ -17,10 +17,9 @@ use Rattle.sheet.specs.Sheet.{descriptorRead, sheetTop, sheetEntries, sheetRead
 use Rattle.sheet.specs.Section.{sectionTop, sectionEntries, sectionLength, front, seal, sectionOf, contentOf, readSheet}
 use Rattle.section.specs.Reading as section
 use Rattle.section.specs.Reading.{judged, read, opening, header, wrongSyntax, lengthOutside, sizeDiffers, crcFails, aboveLast, inside, topped, _andThen_}
 use Rattle.turn.specs.Turn.{gives, toSection, toSheet}
-use Rattle.turn.specs.AtWork.{nitSheet, nitSection, sdtSheet, sdtSection, batSheet, batSection, eitSheet, eitSection, tdtSheet, tdtSection, totSheet, totSection, BothWays, AllSix, Unseen}
-use Rattle.turn.proofs.RoundTrips.{sheet-and-back}
-use Rattle.turn.proofs.MadeOnes.{made-ones}
+use Rattle.round_trips.specs.AtWork.{nitSheet, nitSection, sdtSheet, sdtSection, batSheet, batSection, eitSheet, eitSection, tdtSheet, tdtSection, totSheet, totSection, BothWays, AllSix, Unseen}
+use Rattle.round_trips.proofs.RoundTrips.{sheet-and-back, made-ones}
 
 small : List ℕ → Bool
 small [] = true

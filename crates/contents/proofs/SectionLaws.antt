@@ -20,7 +20,7 @@ use Rattle.forms.proofs.ListLaws.{Full, loop-complete, filling-read}
 use Rattle.sheet.specs.Content.{Item, plain, numbers, packed, bare, status, frame, headOf, entryOf, sideOf, Fields, Loop, Entries, Content, tableOf, frameOf, bodyOf, rowIn}
 use Rattle.sheet.specs.Sheet.{inOrder, descriptor}
 use Rattle.sheet.specs.Section.{sectionItem, sectionLoop, sectionEntry, sectionTop, sectionEntries, sectionBody, bodyBytes, sectionLength, front, seal, sectionOf, middle, contentOf}
-use Rattle.turn.specs.Holds.{entriesBytes, Holds}
+use Rattle.contents.specs.Holds.{entriesBytes, Holds}
 use Rattle.sheet.proofs.SheetLaws.{descriptor-complete}
 use Rattle.sheet.proofs.SectionSize.{second, front-is, seal-length}
 

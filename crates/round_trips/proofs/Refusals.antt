@@ -22,15 +22,15 @@ use Rattle.sheet.specs.Faults as sheet-faults
 use Rattle.sheet.specs.Faults.{SheetFault, AcceptedSheet}
 use Rattle.sheet.proofs.Exactly as sheets
 use Rattle.sheet.proofs.SectionSize.{section-length}
 use Rattle.turn.specs.Turn.{refuses, toSection, sheetFrom, sheetIf, toSheet, Told, wrote, refused, answer}
 use Rattle.turn.specs.Answers.{toldSection, toldSheet}
-use Rattle.turn.specs.Refusals as refusals
-use Rattle.turn.specs.Refusals.{SectionRefusal, SheetRefusal, SectionRefusedExactlyIf, SectionMadeExactlyIf, SheetRefusedExactlyIf, SheetMadeExactlyIf, SectionRoomFirst, SheetRoomFirst}
-use Rattle.turn.proofs.Held.{held}
+use Rattle.round_trips.specs.Refusals as refusals
+use Rattle.round_trips.specs.Refusals.{SectionRefusal, SheetRefusal, SectionRefusedExactlyIf, SectionMadeExactlyIf, SheetRefusedExactlyIf, SheetMadeExactlyIf, SectionRoomFirst, SheetRoomFirst}
+use Rattle.contents.proofs.Held.{held}
 use Rattle.turn.proofs.WholeLaws.{section-no-room, section-refused, section-made, sheet-no-room, sheet-made}
-use Rattle.turn.proofs.Once.{section-once, sheet-once}
+use Rattle.round_trips.proofs.Unique.{section-once, sheet-once}
 use Rattle.turn.specs.declared.SectionAnswer.the-variants as section
 use Rattle.turn.specs.declared.SheetAnswer.the-variants as sheet
 
 told-is : {k q j p : ℕ} → refused k q ≡ refused j p → (k ≡ j) × (q ≡ p)
 told-is e = (cc, cc)

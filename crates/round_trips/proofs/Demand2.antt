@@ -11,15 +11,14 @@ use Rattle.wire.specs.If.{if_then_else_}
 use Rattle.forms.proofs.Lawful.{bytes-front}
 use Rattle.section.specs.Reading.{judged}
 use Rattle.sheet.specs.Section.{contentOf, readSheet}
 use Rattle.turn.specs.Turn.{Outcome, gives, refuses, toSection, toSheet, sectionFrom, sheetFrom, sheetIf, wrote, answer, roomAfter}
-use Rattle.turn.specs.Ones.{ReservedWereOnes}
-use Rattle.turn.specs.Demand2.{SheetAndBack, SectionAndBack, WrittenAsOnes, BackOnlyIf, AnySectionAndBack}
-use Rattle.turn.proofs.RoundTrips as trips
-use Rattle.turn.proofs.MadeOnes.{made-ones}
+use Rattle.contents.specs.Ones.{ReservedWereOnes}
+use Rattle.round_trips.specs.Demand2.{SheetAndBack, SectionAndBack, WrittenAsOnes, BackOnlyIf, AnySectionAndBack}
+use Rattle.round_trips.proofs.RoundTrips as trips
 use Rattle.turn.proofs.WholeLaws.{take-put}
-use Rattle.turn.proofs.Once.{section-once, sheet-once}
+use Rattle.round_trips.proofs.Unique.{section-once, sheet-once}
 use Rattle.turn.specs.declared.SectionAnswer.the-variants as section
 use Rattle.turn.specs.declared.SheetAnswer.the-variants as sheet
 
 -- an outcome of which bytes are told
 pub record Gave (x : Outcome) (n : ℕ) : Type 0 where
@@ -89,7 +88,7 @@ written-as-ones s o o' n w a =
     let m = trips.section-at-most (length o) s (g .bytes) w (g .is) in
     let k = section-room (length o) s (g .bytes) (g .is) in
     let t : take n o' ≡ g .bytes = first-given o o' x n g (omega arith) (a .1) in
-    subst ReservedWereOnes (sym t) (made-ones (length o) s (g .bytes) w (g .is))
+    subst ReservedWereOnes (sym t) (trips.made-ones (length o) s (g .bytes) w (g .is))
 
 pub back-only-if : BackOnlyIf
 back-only-if s o o' p p' n m w v a b e =

@@ -30,8 +30,8 @@ use Rattle.forms.proofs.FieldLaws.{pack-unpack, unpack-fits}
 use Rattle.sheet.specs.Content.{Item, plain, numbers, packed, bare, frame, headOf, entryOf, sideOf, Fields, Descriptor, Loop, Entry, Entries, Body, Content, tableOf, frameOf, bodyOf, rowIn}
 use Rattle.sheet.specs.Sheet.{inOrder, descriptor}
 use Rattle.sheet.specs.Section.{sectionItem, sectionLoop, sectionEntry, sectionTop, sectionEntries, sectionBody, bodyBytes, sectionLength, front, seal, sectionOf}
-use Rattle.turn.specs.Holds.{Holds, entriesBytes}
-use Rattle.turn.proofs.SectionLaws.{half-bare, half-side, sizeOf, sizes, Numbers, numbers-of, shown-alike}
+use Rattle.contents.specs.Holds.{Holds, entriesBytes}
+use Rattle.contents.proofs.SectionLaws.{half-bare, half-side, sizeOf, sizes, Numbers, numbers-of, shown-alike}
 
 -- ---- descriptors
 

@@ -22,8 +22,8 @@ use Rattle.sheet.specs.Content.{Item, plain, numbers, packed, bare, frame, head
 use Rattle.sheet.specs.Sheet.{descriptor, sheetItem, sheetLoop, sheetEntry, sheetTop, sheetEntries, sheetBody, SheetOk, sheetOf, sheet}
 use Rattle.sheet.specs.Section.{sectionItem, sectionLoop, sectionEntry, sectionTop, sectionEntries, sectionBody, bodyBytes, sectionLength, readSheet}
 use Rattle.sheet.proofs.SheetLaws.{sheet-lawful}
-use Rattle.turn.specs.Holds.{Holds, entriesBytes}
-use Rattle.turn.proofs.SectionLaws.{Numbers, numbers-of, shown-alike}
+use Rattle.contents.specs.Holds.{Holds, entriesBytes}
+use Rattle.contents.proofs.SectionLaws.{Numbers, numbers-of, shown-alike}
 
 item-ok : (x : Item) (v : List ℕ) → sheetItem x .Ok v → sectionItem x .Ok v
 item-ok (plain n) v o = o

@@ -16,9 +16,9 @@ use Rattle.forms.proofs.ListLaws.{Full}
 use Rattle.sheet.specs.Content.{Item, plain, numbers, packed, bare, frame, headOf, entryOf, sideOf, Fields, Loop, Entry, Entries, Content, frameOf, bodyOf, rowIn}
 use Rattle.sheet.specs.Sheet.{descriptor, sheetItem, sheetLoop, sheetEntry, sheetTop, sheetEntries, SheetOk}
 use Rattle.sheet.specs.Section.{sectionItem, sectionLoop, sectionEntry, sectionTop, sectionEntries}
-use Rattle.turn.specs.Ones.{Ones, ItemOnes, ItemsOnes, EntriesOnes, lengthBits, ReservedOnes}
-use Rattle.turn.specs.Holds.{Holds, entriesBytes}
-use Rattle.turn.proofs.SectionLaws.{descriptor-full, entry-full}
+use Rattle.contents.specs.Ones.{Ones, ItemOnes, ItemsOnes, EntriesOnes, lengthBits, ReservedOnes}
+use Rattle.contents.specs.Holds.{Holds, entriesBytes}
+use Rattle.contents.proofs.SectionLaws.{descriptor-full, entry-full}
 
 -- there are no more items than bytes
 pub no-more : {A : Type 0} (c : Form A) → Full c → (l : List A) → All c l → length l ≤ length (all c l)

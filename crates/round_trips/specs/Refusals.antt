@@ -10,13 +10,13 @@ use Rattle.loops.specs.Descriptors.{Placed}
 use Rattle.section.specs.Grammar.{Section}
 use Rattle.section.specs.Faults.{First}
 use Rattle.sheet.specs.Faults.{SheetFault, AcceptedSheet}
 use Rattle.turn.specs.Turn.{refused}
 use Rattle.turn.specs.Answers.{toldSection, toldSheet}
-use Rattle.turn.specs.Demand2.{ToSection, ToSheet}
+use Rattle.turn.specs.Promise.{ToSection, ToSheet}
 use Rattle.turn.specs.declared.SectionAnswer.{SectionAnswer}
 use Rattle.turn.specs.declared.SectionAnswer.the-variants as section
 use Rattle.turn.specs.declared.SheetAnswer.{SheetAnswer}
 use Rattle.turn.specs.declared.SheetAnswer.the-variants as sheet
 
 -- number and place of what is wrong with a sheet s and a room of n bytes: "21 comes first, then 22 to 24 as read left
 -- to right, 25, 26."

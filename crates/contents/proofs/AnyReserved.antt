@@ -15,9 +15,9 @@ use Rattle.forms.specs.Lists.{loop, loopShow, filling, countedShow, counted, al
 use Rattle.sheet.specs.Content.{Item, plain, numbers, packed, bare, frame, headOf, entryOf, sideOf, Fields, Loop, Entry, Entries, Body, Content, tableOf, frameOf, bodyOf, rowIn}
 use Rattle.sheet.specs.Sheet.{descriptor, sheetItem, sheetLoop, sheetEntry, sheetTop, sheetEntries, SheetOk, sheetOf}
 use Rattle.sheet.specs.Section.{sectionItem, sectionLoop, sectionEntry, sectionTop, sectionEntries, sectionBody, sectionLength}
-use Rattle.turn.specs.Holds.{entriesBytes, Holds}
-use Rattle.turn.proofs.SectionLaws.{descriptor-full, entry-full, shown-alike}
-use Rattle.turn.proofs.AllOnes.{no-more, without-fields}
+use Rattle.contents.specs.Holds.{entriesBytes, Holds}
+use Rattle.contents.proofs.SectionLaws.{descriptor-full, entry-full, shown-alike}
+use Rattle.contents.proofs.AllOnes.{no-more, without-fields}
 
 -- a value that the form d can show, as d shows a, and of the same length in the form c
 pub record Alike {A : Type 0} (c d : Form A) (a : A) : Type 0 where

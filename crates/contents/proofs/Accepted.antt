@@ -28,8 +28,8 @@ use Rattle.sheet.specs.Content.{Item, common, plain, numbers, version, bare, fr
 use Rattle.sheet.specs.Sheet.{inOrder, descriptor}
 use Rattle.sheet.specs.Section.{sectionItem, sectionLoop, sectionEntry, sectionTop, sectionEntries, sectionBody, bodyBytes, sectionLength, front, seal, sectionOf}
 use Rattle.sheet.proofs.SectionSize.{seal-length, front-is, front-length, section-length, second}
-use Rattle.turn.specs.Holds.{Holds, entriesBytes}
-use Rattle.turn.proofs.SectionLaws.{half-bare, half-side, items-size, sizes, shortest, Numbers, numbers-of, body-length, first-byte, second-byte, third-byte, frame-lt, shown-alike}
+use Rattle.contents.specs.Holds.{Holds, entriesBytes}
+use Rattle.contents.proofs.SectionLaws.{half-bare, half-side, items-size, sizes, shortest, Numbers, numbers-of, body-length, first-byte, second-byte, third-byte, frame-lt, shown-alike}
 
 -- ---- loops
 

@@ -7,13 +7,13 @@ use lib.ListN.{length, take, drop}
 use lib.Seq.{drop-at}
 use Rattle.forms.specs.Room.{put}
 use Rattle.forms.proofs.Puts.{put-fits, length-put}
 use Rattle.turn.specs.Turn.{Outcome, gives, refuses, toSection, toSheet, refused, answer, roomAfter}
-use Rattle.turn.specs.Rooms.{Written, SectionIsWritten, SheetIsWritten, RefusedSectionUnaltered, RefusedSheetUnaltered}
-use Rattle.turn.proofs.RoundTrips as trips
-use Rattle.turn.proofs.Held.{held}
+use Rattle.round_trips.specs.Rooms.{Written, SectionIsWritten, SheetIsWritten, RefusedSectionUnaltered, RefusedSheetUnaltered}
+use Rattle.round_trips.proofs.RoundTrips as trips
+use Rattle.contents.proofs.Held.{held}
 use Rattle.turn.proofs.WholeLaws.{take-put}
-use Rattle.turn.proofs.Demand2.{gave, section-room, sheet-room}
-use Rattle.turn.proofs.Refusals.{not-both}
+use Rattle.round_trips.proofs.Demand2.{gave, section-room, sheet-room}
+use Rattle.round_trips.proofs.Refusals.{not-both}
 
 drop-put : (o l : List ℕ) → length l ≤ length o → drop (length l) (put o 0 l) ≡ drop (length l) o
 drop-put o l h =
@@ -55,7 +55,7 @@ sheet-is-written s o o' n w a =
     let k = sheet-room (length o) s (g .bytes) (g .is) in
     let i = g .size in
     let t = written 5120 n (g .bytes) o o' (toSheet (length o) s) (g .is) i (omega arith) k (a .1) in
-    (x .0, (x .1 .content, x .1 .is, x .1 .reads, subst (λ l. Written 5120 n l o o') (x .1 .made) t))
+    (x .is-accepted, (x .content, x .is, x .reads, subst (λ l. Written 5120 n l o o') (x .made) t))
 
 unaltered : (o o' : List ℕ) (x : Outcome) (k q : ℕ) → o' ≡ roomAfter o x → answer x ≡ refused k q → o' ≡ o
 unaltered o o' (gives l) k q e f = absurd (not-both f)

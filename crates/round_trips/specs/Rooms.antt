@@ -11,13 +11,13 @@ use Rattle.section.specs.Reading.{judged}
 use Rattle.sheet.specs.Content.{Content}
 use Rattle.sheet.specs.Sheet.{SheetOk, sheetOf}
 use Rattle.sheet.specs.Section.{sectionOf, contentOf}
 use Rattle.turn.specs.Turn.{refused}
 use Rattle.turn.specs.Answers.{toldSection, toldSheet}
-use Rattle.turn.specs.Demand2.{ToSection, ToSheet}
+use Rattle.turn.specs.Promise.{ToSection, ToSheet}
 use Rattle.turn.specs.declared.SectionAnswer.{SectionAnswer}
 use Rattle.turn.specs.declared.SectionAnswer.the-variants as section
 use Rattle.turn.specs.declared.SheetAnswer.{SheetAnswer}
 use Rattle.turn.specs.declared.SheetAnswer.the-variants as sheet
 
 -- n bytes were told, at most so many: the room begins with the bytes t, of which there are n, and ends as before
 pub record Written (most n : ℕ) (t o o' : List ℕ) : Type 0 where

@@ -1,5 +1,4 @@
--- Demand 2 over calls: what both functions promise, their `ensures`, and what that comes to when one is called after
--- the other.
+-- Demand 2 over calls: what the promises of both functions come to when one is called after the other.
 use Prim.Native.Nat.{ℕ, _≤_}
 use mathlib.Core.Path.{_≡_}
 use mathlib.Core.List.{List}
@@ -7,21 +6,12 @@ use lib.ListN.{length, take}
 use Rattle.wire.specs.Bytes.{Bytes}
 use Rattle.verdict.specs.Verdict.{accepted}
 use Rattle.section.specs.Reading.{judged}
-use Rattle.turn.specs.Turn.{toSection, toSheet, answer, roomAfter}
-use Rattle.turn.specs.Answers.{toldSection, toldSheet}
-use Rattle.turn.specs.Ones.{ReservedWereOnes}
+use Rattle.turn.specs.Promise.{ToSection, ToSheet}
+use Rattle.contents.specs.Ones.{ReservedWereOnes}
 use Rattle.turn.specs.declared.SectionAnswer.{SectionAnswer}
 use Rattle.turn.specs.declared.SectionAnswer.the-variants as section
 use Rattle.turn.specs.declared.SheetAnswer.{SheetAnswer}
 use Rattle.turn.specs.declared.SheetAnswer.the-variants as sheet
-
--- what `to_section` promises of a call with a room o: the answer, and the room after it
-abbrev pub ToSection : List ℕ → List ℕ → SectionAnswer → List ℕ → Type 0
-ToSection s o r o' = (toldSection r ≡ answer (toSection (length o) s)) × (o' ≡ roomAfter o (toSection (length o) s))
-
--- what `to_sheet` promises
-abbrev pub ToSheet : List ℕ → List ℕ → SheetAnswer → List ℕ → Type 0
-ToSheet s o r o' = (toldSheet r ≡ answer (toSheet (length o) s)) × (o' ≡ roomAfter o (toSheet (length o) s))
 
 -- "An accepted sheet made into a section and back is the same bytes"; and the section is accepted
 abbrev pub SheetAndBack : Type 0
