@@ -1,4 +1,5 @@
-/* A plugin of qemu-user that counts the instructions of the program that it runs. The declarations are those of QEMU's plugin interface, version 1. */
+/* A plugin of qemu-user that counts the instructions of the program that it runs. The declarations are those of QEMU's
+   plugin interface, version 1. */
 #include <inttypes.h>
 #include <stddef.h>
 #include <stdio.h>

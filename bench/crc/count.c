@@ -1,4 +1,5 @@
-/* Calls one way so often on so many bytes, to be counted: count WAY BYTES CALLS; without words the ways are held to each other at every length. */
+/* Calls one way so often on so many bytes, to be counted: count WAY BYTES CALLS; without words the ways are held to each
+   other at every length. */
 #include "ways.h"
 #include <stdio.h>
 #include <stdlib.h>
@@ -16,6 +17,7 @@ int main(int argc, char **argv) {
     }
     for (size_t n = 0; n < 5000; n++)
         for (int w = 1; w < WAYS; w++)
-            if (ways[w].crc(bytes + n % 61, n) != by_table(bytes + n % 61, n)) return printf("%s differs at %zu bytes\n", ways[w].name, n), 1;
+            if (ways[w].crc(bytes + n % 61, n) != by_table(bytes + n % 61, n))
+                return printf("%s differs at %zu bytes\n", ways[w].name, n), 1;
     return 0;
 }
