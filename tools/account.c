@@ -90,7 +90,10 @@ static void print(const account *all) {
 static int synchronised(const account *all, size_t at, size_t size) {
     size_t found = 0, missed = 0;
     for (; at < all->begun; at += size)
-        *(all->beginning[at] == 0x47 ? &found : &missed) += 1;
+        if (all->beginning[at] == 0x47)
+            found++;
+        else
+            missed++;
     return found >= 5 && missed <= 1;
 }
 

@@ -58,7 +58,7 @@ def files(room):
 
 def sources(room):
     """A copy of what the program rests on, with all that was proved of it."""
-    copy = room / "copy"
+    copy = room / "a copy"
     lines = (TOP / "crates.txt").read_text().split("\n")
     rests = [line for line in lines if line.startswith("account:")][0].split(":")[1].split()
     rests = [crate for crate in rests if (TOP / "crates" / crate).is_dir()] + ["account"]
