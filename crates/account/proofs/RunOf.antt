@@ -8,9 +8,12 @@ use native.Mathlib.Omega.{arith}
 use lib.Dec.{ltb, eqb}
 use lib.ListN.{length, take, drop, length-append, length-drop}
 use borrow.Author.Tests.{le-ltb}
-use Rattle.collector.specs.Rules.{totalOf, holding, Before, plain, Carried, takenIn}
-use Rattle.collector.specs.Refusals.{_when_, refusals, firstOf, judgedBy, judged, ruledBy, Ruling, ruling, cannotStand, beforeOf}
-use Rattle.collector.specs.Refusals as Refusals
+use Rattle.packet.specs.Sections.{totalOf}
+use Rattle.packet.specs.Ruling.{Before, Carried, ruledBy, Ruling, ruling}
+use Rattle.collector.specs.Rules.{holding, plain, takenIn}
+use Rattle.packet.specs.Refusals.{_when_, refusals, firstOf, judgedBy, judged}
+use Rattle.collector.specs.Refusals.{cannotStand, beforeOf, tooSmall}
+use Rattle.packet.specs.Ruling as Ruled
 use Rattle.collector.specs.Answer.{Told, refused, repeated, taken, Outcome}
 use Rattle.collector.specs.Collected.{over, outcomeOf, collected}
 use Rattle.collector.specs.declared.Record.{Record}
@@ -53,10 +56,10 @@ runs k (p ∷ ps) =
 
 -- the PID stays
 outcome-pid : (r : Record) (hold out : List ℕ) (z : Ruling) → outcomeOf r hold out z .rec .pid ≡ r .pid
-outcome-pid r hold out (Refusals.refused n) = refl
-outcome-pid r hold out Refusals.repeated = refl
-outcome-pid r hold out Refusals.bare = refl
-outcome-pid r hold out (Refusals.takes q) = refl
+outcome-pid r hold out (Ruled.refused n) = refl
+outcome-pid r hold out Ruled.repeated = refl
+outcome-pid r hold out Ruled.bare = refl
+outcome-pid r hold out (Ruled.takes q) = refl
 
 pub pid-stays : (k : Kept) (ps : List (List ℕ)) → enteredAll k ps .account .rec .pid ≡ k .account .rec .pid
 pid-stays k [] = refl
@@ -65,7 +68,7 @@ pid-stays k (p ∷ ps) =
     pid-stays (entered k p) ps
     ∙ ap (λ (z : Record). z .pid) (tallied-rec (k .account) (outcome k p .rec) (outcome k p .said))
     ∙ outcome-pid r (k .hold) (k .out)
-    (ruling (cannotStand r (k .hold)) (r .pid) (beforeOf r) (length (k .hold)) (length (k .out)) p)
+    (ruling (tooSmall (length (k .hold)) (length (k .out))) (cannotStand r (k .hold)) (r .pid) (beforeOf r) p)
 
 -- ---- what the account counts
 
@@ -167,16 +170,16 @@ room-enough pid size before p n k =
     ap (λ (t : Bool). ruledBy before p
     (judgedBy
     (firstOf (41 when not (eqb (length p) 188) ∷ 42 when (ltb size 4096 || t) ∷ 43 when ltb 8191 pid
-    ∷ drop 3 (refusals false pid 0 0 p)))
+    ∷ drop 3 (refusals false false pid p)))
     p))
     (le-ltb n 4280 k ∙ sym (le-ltb 4280 4280 (omega arith)))
 
 -- an out room grows only
 outcome-room : (r : Record) (hold out : List ℕ) (z : Ruling) → length out ≤ length (outcomeOf r hold out z .out)
-outcome-room r hold out (Refusals.refused n) = omega arith
-outcome-room r hold out Refusals.repeated = omega arith
-outcome-room r hold out Refusals.bare = omega arith
-outcome-room r hold out (Refusals.takes q) =
+outcome-room r hold out (Ruled.refused n) = omega arith
+outcome-room r hold out Ruled.repeated = omega arith
+outcome-room r hold out Ruled.bare = omega arith
+outcome-room r hold out (Ruled.takes q) =
     over-room (flatten (takenIn plain (beforeOf r) (holding (take (r .in_hand) hold)) q .sections)) out
   where
     over-room : (bs room : List ℕ) → length room ≤ length (over bs room)
@@ -186,7 +189,7 @@ room-after : (k : Kept) (p : List ℕ) → 4280 ≤ length (k .out) → 4280 ≤
 room-after k p w =
     let r : Record = k .account .rec in
     let o = outcome-room r (k .hold) (k .out)
-    (ruling (cannotStand r (k .hold)) (r .pid) (beforeOf r) (length (k .hold)) (length (k .out)) p) in
+    (ruling (tooSmall (length (k .hold)) (length (k .out))) (cannotStand r (k .hold)) (r .pid) (beforeOf r) p) in
     omega arith
 
 module _ (pid size : ℕ) where

@@ -12,8 +12,9 @@ use lib.Seq.{length-take-le, drop-drop}
 use borrow.Author.Tests.{ltb-true, ltb-false, eqb-true, eqb-false, ne-eqb}
 use Rattle.wire.specs.If.{if_then_else_}
 use Rattle.wire.proofs.IfLaws.{if-case}
-use Rattle.collector.specs.Rules.{Story, Before, noneBefore, Carried}
-use Rattle.collector.specs.Refusals.{_when_, refusals, firstOf, judgedBy, judged, ruledBy}
+use Rattle.packet.specs.Ruling.{Before, noneBefore, Carried, ruledBy}
+use Rattle.collector.specs.Rules.{Story}
+use Rattle.packet.specs.Refusals.{_when_, refusals, firstOf, judgedBy, judged}
 use Rattle.collector.specs.Collected.{freshRecord}
 use Rattle.collector.proofs.Marks.{flatten-append, flatten-one}
 use Rattle.history.specs.History.{Byte, valueOf, historyOf}
@@ -92,7 +93,7 @@ short-refused pid size before x k =
     ap (λ (t : Bool). ruledFare (ruledBy before p
     (judgedBy
     (firstOf (41 when not t ∷ 42 when (ltb size 4096 || ltb (x .room) 4280) ∷ 43 when ltb 8191 pid
-    ∷ drop 3 (refusals false pid 0 0 p)))
+    ∷ drop 3 (refusals false false pid p)))
     p)))
     (ne-eqb (length p) 188 k)
 

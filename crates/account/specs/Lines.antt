@@ -6,8 +6,9 @@ use Prim.Native.Nat.{ℕ, _+_, _/_, _%_, _^_, _<_, _≤_}
 use lib.Dec.{eqb}
 use lib.ListN.{length, take}
 use Rattle.wire.specs.If.{if_then_else_}
-use Rattle.collector.specs.Packet.{pidOf}
-use Rattle.collector.specs.Rules.{Kind, in-hand, done, Story, countOf, noneBefore}
+use Rattle.packet.specs.Header.{pidOf}
+use Rattle.packet.specs.Ruling.{noneBefore}
+use Rattle.collector.specs.Rules.{Kind, in-hand, done, Story, countOf}
 use Rattle.collector.specs.Collected.{bytesCounted, freshRecord}
 use Rattle.history.specs.History.{Byte, historyOf}
 use Rattle.history.specs.Run.{Promised, Call, Run, Fare, refused, repeated, taken, Lent, faresFrom, takenFrom}

@@ -8,7 +8,8 @@ use native.Mathlib.Omega.{arith}
 use lib.ListN.{length, take, drop, length-append}
 use lib.Dec.{eqb}
 use Rattle.wire.specs.If.{if_then_else_}
-use Rattle.collector.specs.Rules.{Fate, pointer, delivered, broken, filler, skipped, done, in-hand, Story, sameFate, bytesOf, countOf, handOf, given, settled, brokenOff, finished, Mode, begin, inside, filling, skipping, breaking, Next, Size, going, whole, over, sizeOf, Before, follows, plain, Carried, begun, grown, resumed, joined, byteIn, stretch, goesOn, sectionsIn, payload, takenIn}
+use Rattle.packet.specs.Ruling.{Before, follows, Carried}
+use Rattle.collector.specs.Rules.{Fate, pointer, delivered, broken, filler, skipped, done, in-hand, Story, sameFate, bytesOf, countOf, handOf, given, settled, brokenOff, finished, Mode, begin, inside, filling, skipping, breaking, Next, Size, going, whole, over, sizeOf, plain, begun, grown, resumed, joined, byteIn, stretch, goesOn, sectionsIn, payload, takenIn}
 use Rattle.collector.proofs.Marks.{bytesOf-more, settled-hand, settled-count}
 
 -- ---- lists

@@ -8,7 +8,8 @@ use native.Mathlib.Omega.{arith}
 use lib.ListN.{length, take, drop, length-drop}
 use lib.Seq.{paste, length-take-le, take-append-add, take-take}
 use Rattle.wire.specs.If.{if_then_else_}
-use Rattle.collector.specs.Rules.{Fate, delivered, broken, filler, skipped, done, in-hand, Mark, Story, sameFate, outOfHand, handOf, marked, settled, brokenOff, finished, holding, Mode, inside, filling, skipping, Next, totalOf, joined, resumed, plain, stretch, goesOn}
+use Rattle.packet.specs.Sections.{totalOf}
+use Rattle.collector.specs.Rules.{Fate, delivered, broken, filler, skipped, done, in-hand, Mark, Story, sameFate, outOfHand, handOf, marked, settled, brokenOff, finished, holding, Mode, inside, filling, skipping, Next, joined, resumed, plain, stretch, goesOn}
 use Rattle.collector.specs.Collected.{over}
 use Rattle.collector.specs.Inner.Stretch.{LookSays, Ends, CanStand}
 use Rattle.collector.specs.declared.stretch.Look.{Look}

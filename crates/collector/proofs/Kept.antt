@@ -9,11 +9,13 @@ use lib.ListN.{length, length-append}
 use lib.Dec.{ltb, eqb}
 use borrow.Author.Tests.{ltb-false, eqb-true}
 use Rattle.wire.specs.If.{if_then_else_}
-use Rattle.collector.specs.Each.{Each}
-use Rattle.collector.specs.Rules.{Kind, pointer, delivered, broken, Fate, in-hand, done, kinds, sumIn, sumOf, Mark, Story, sameKind, sameFate, outOfHand, bytesOf, countOf, handOf, marked, given, settled, brokenOff, finished, holding, totalOf, going, whole, over, sizeOf}
+use Rattle.packet.specs.Each.{Each}
+use Rattle.packet.specs.Sections.{totalOf, WholeSection}
+use Rattle.packet.proofs.EachLaws.{each-append}
+use Rattle.collector.specs.Rules.{Kind, pointer, delivered, broken, Fate, in-hand, done, kinds, sumIn, sumOf, Mark, Story, sameKind, sameFate, outOfHand, bytesOf, countOf, handOf, marked, given, settled, brokenOff, finished, holding, going, whole, over, sizeOf}
 use Rattle.collector.proofs.Counters.{times, once}
 use Rattle.collector.proofs.Marks.{flatten-snoc, bytesOf-more, bytesOf-marked, settled-append, settled-marked, settled-bytes, settled-other, settled-hand, settled-twice}
-use Rattle.collector.proofs.Keeps.{each-append, Keeps}
+use Rattle.collector.proofs.Keeps.{Keeps}
 
 -- a byte of which nothing is asked
 abbrev pub Any : {A : Type 0} → A → Type 0
@@ -96,12 +98,6 @@ module _ {A : Type 0} (value : A → ℕ) where
   }
 
 -- ---- each section is whole by its own header
-
--- "trusting a length before three bytes are in": the header is there, and declares the section's bytes
-pub record WholeSection (bs : List ℕ) : Type 0 where
-  pub header : 3 ≤ length bs
-  pub exact : length bs ≡ totalOf bs
-  pub limit : totalOf bs ≤ 4096
 
 whole-tests : (bs : List ℕ) (t₁ t₂ t₃ : Bool) → ltb (length bs) 3 ≡ t₁ → ltb 4096 (totalOf bs) ≡ t₂ → eqb (length bs) (totalOf bs) ≡ t₃ → (if t₁ then going else (if t₂ then over else (if t₃ then whole else going))) ≡ whole → WholeSection bs
 whole-tests bs true t₂ t₃ e₁ e₂ e₃ e = let z : _≡_ {A = ℕ} 0 1 = cc in absurd (omega arith)

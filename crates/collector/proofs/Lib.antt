@@ -11,4 +11,4 @@ pub mod Keeps
 pub mod Kept
 pub mod Payloads
 pub mod Outcomes
-pub mod Table
+pub mod Fits

@@ -9,7 +9,8 @@ use native.Mathlib.Omega.{arith}
 use lib.ListN.{length, take, drop, getD, length-append, length-drop}
 use lib.Seq.{take-all, take-append-seam, drop-append-add, drop-drop, drop-cons}
 use Rattle.wire.specs.If.{if_then_else_}
-use Rattle.collector.specs.Each.{Each}
+use Rattle.packet.specs.Each.{Each}
+use Rattle.packet.proofs.EachLaws.{each-of}
 use Rattle.collector.specs.Rules.{Fate, pointer, broken, filler, skipped, done, in-hand, Story, sameFate, bytesOf, countOf, handOf, marked, given, brokenOff, holding, joined, plain, goesOn, sectionsIn, started, payload}
 use Rattle.collector.specs.Collected.{over}
 use Rattle.collector.specs.Inner.Stretch.{cameOf, Ends}
@@ -20,7 +21,7 @@ use Rattle.collector.proofs.Counters.{came-with}
 use Rattle.collector.proofs.Marks.{flatten-append, bytesOf-more, settled-hand}
 use Rattle.collector.proofs.Rooms.{ends-as}
 use Rattle.collector.proofs.Beside.{Beside, beside-broken, beside-goes, beside-sections}
-use Rattle.collector.proofs.Keeps.{each-of, keep-goes, keep-sections}
+use Rattle.collector.proofs.Keeps.{keep-goes, keep-sections}
 use Rattle.collector.proofs.Kept.{Any, Kept, keeps-kept, kept-holding, counts-in, delivered-in, few-in}
 
 -- ---- beside, over bare numbers

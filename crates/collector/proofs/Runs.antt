@@ -9,7 +9,8 @@ use lib.ListN.{length, take, drop, getD, length-append, length-take, List·getD-
 use lib.Seq.{split-at, take-suc}
 use lib.Dec.{ltb}
 use borrow.Author.Tests.{ltb-true, ltb-false, lt-ltb, le-ltb, eq-eqb, ne-eqb}
-use Rattle.collector.specs.Rules.{Fate, broken, done, in-hand, Mark, Story, handOf, marked, given, settled, brokenOff, finished, Mode, inside, breaking, Next, totalOf, Size, going, whole, over, sizeOf, grown, plain, byteIn, stretch}
+use Rattle.packet.specs.Sections.{totalOf}
+use Rattle.collector.specs.Rules.{Fate, broken, done, in-hand, Mark, Story, handOf, marked, given, settled, brokenOff, finished, Mode, inside, breaking, Next, Size, going, whole, over, sizeOf, grown, plain, byteIn, stretch}
 use Rattle.collector.proofs.Marks.{bytesOf-more, marked-append, settled-append, settled-marked}
 
 lt-at : (a b : ℕ) (t : Bool) → ltb a b ≡ t → (a < b) ⊎ (b ≤ a)

@@ -10,7 +10,8 @@ use lib.Seq.{paste, length-paste, drop-drop, drop-cons, length-take-le, take-all
 use lib.Dec.{eqb}
 use borrow.Author.Tests.{eq-eqb, ne-eqb}
 use Rattle.wire.specs.If.{if_then_else_}
-use Rattle.collector.specs.Rules.{Fate, delivered, broken, filler, done, in-hand, Mark, Story, sameFate, bytesOf, handOf, marked, given, settled, brokenOff, finished, holding, begin, inside, filling, Next, totalOf, begun, plain, stretch, sectionsIn}
+use Rattle.packet.specs.Sections.{totalOf}
+use Rattle.collector.specs.Rules.{Fate, delivered, broken, filler, done, in-hand, Mark, Story, sameFate, bytesOf, handOf, marked, given, settled, brokenOff, finished, holding, begin, inside, filling, Next, begun, plain, stretch, sectionsIn}
 use Rattle.collector.specs.Collected.{over}
 use Rattle.collector.specs.Inner.Stretch.{LookSays, cameWith, Ends}
 use Rattle.collector.specs.declared.stretch.Look.{Look}

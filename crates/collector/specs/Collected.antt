@@ -3,7 +3,8 @@ use mathlib.Core.List.{List, _++_, flatten}
 use Prim.Native.Nat.{ℕ, _+_, _%_, _^_}
 use lib.ListN.{length, take, drop}
 use Rattle.collector.specs.Rules.{Kind, pointer, delivered, broken, filler, skipped, Fate, in-hand, done, Story, countOf, handOf, holding, plain, takenIn}
-use Rattle.collector.specs.Refusals.{beforeOf, cannotStand, Ruling, refused, repeated, bare, takes, ruling}
+use Rattle.packet.specs.Ruling.{Ruling, refused, repeated, bare, takes, ruling}
+use Rattle.collector.specs.Refusals.{beforeOf, cannotStand, tooSmall}
 use Rattle.collector.specs.Answer as Answer
 use Rattle.collector.specs.Answer.{Told, Outcome}
 use Rattle.collector.specs.declared.Record.{Record}
@@ -66,4 +67,4 @@ outcomeOf r hold out bare = unaltered r hold out (Answer.taken 0 0)
 outcomeOf r hold out (takes q) = takenTo r hold out (q .counter) (takenIn plain (beforeOf r) (holding (take (r .in_hand) hold)) q)
 
 abbrev pub collected : Record → List ℕ → List ℕ → List ℕ → Outcome
-collected r hold out packet = outcomeOf r hold out (ruling (cannotStand r hold) (r .pid) (beforeOf r) (length hold) (length out) packet)
+collected r hold out packet = outcomeOf r hold out (ruling (tooSmall (length hold) (length out)) (cannotStand r hold) (r .pid) (beforeOf r) packet)

@@ -3,12 +3,12 @@
 -- thing that has a value; a run of calls takes bytes that know their packet, and one call takes bare numbers.
 use mathlib.Core.Bool.{Bool, true, false}
 use mathlib.Core.List.{List, [], _∷_, _++_, map}
-use mathlib.Core.Option.{Option, none, some}
-use Prim.Native.Nat.{ℕ, _+_, _%_}
+use Prim.Native.Nat.{ℕ, _+_}
 use lib.ListN.{length, take, drop}
 use lib.Dec.{ltb, eqb}
 use Rattle.wire.specs.If.{if_then_else_}
-use Rattle.wire.specs.Bytes.{len12At}
+use Rattle.packet.specs.Sections.{totalOf}
+use Rattle.packet.specs.Ruling.{Before, follows, Carried}
 
 -- "one fate ..: pointer, delivered, broken off, filler, skipped, or in hand": of what kind a byte is once it is done with
 pub data Kind : Type 0 where
@@ -119,10 +119,6 @@ pub record Next (A : Type 0) : Type 0 where
   pub mode : Mode
   pub story : Story A
 
--- the bytes of a section, by its header: three, and those of its section_length
-abbrev pub totalOf : List ℕ → ℕ
-totalOf s = 3 + len12At s 1
-
 -- what has come of a section so far: it goes on, it is whole, or it declares too much
 pub data Size : Type 0 where
   going : Size
@@ -133,37 +129,11 @@ pub data Size : Type 0 where
 unfoldable pub sizeOf : List ℕ → Size
 sizeOf s = if ltb (length s) 3 then going else (if ltb 4096 (totalOf s) then over else (if eqb (length s) (totalOf s) then whole else going))
 
--- what of the packets before counts for the next one: "the last counter or none"
-pub record Before : Type 0 where
-  pub last : Option ℕ
-
--- no packet before
-abbrev pub noneBefore : Before
-noneBefore = record { last = none }
-
-abbrev pub nextTo : Option ℕ → ℕ → Bool
-nextTo none counter = true
-nextTo (some last) counter = eqb counter ((last + 1) % 16)
-
--- "If the counter isn't the last plus 1 modulo 16, what is in hand is broken off". Without a last counter nothing is in hand.
-unfoldable pub follows : Before → ℕ → Bool
-follows before counter = nextTo (before .last) counter
-
 -- the value of a bare byte is the byte
 abbrev pub plain : ℕ → ℕ
 plain b = b
 
--- a packet that is taken and has payload
-pub record Carried (A : Type 0) : Type 0 where
-  pub counter : ℕ
-  pub start : Bool
-  pub bytes : List A
-
 module _ {A : Type 0} where
-  -- what counts for the packet behind it: "the counter then becomes the last"
-  abbrev pub handsOn : Carried A → Before
-  handsOn q = record { last = some (q .counter) }
-
   -- "until 0xFF stands where one would begin (the rest is filler)"
   abbrev pub begun : Bool → A → Story A → Next A
   begun true b s = record { mode = filling; story = given (done filler) b s }

@@ -8,8 +8,9 @@ use crate::stretch::Came;
 ghost use mathlib.Core.Path.{_≡_};
 ghost use Prim.Native.Nat.{_<_};
 ghost use lib.ListN.{take, drop};
-ghost use Rattle.collector.specs.Rules.{follows, holding, joined, plain, payload};
-ghost use Rattle.collector.specs.Refusals.{lastBefore, beforeOf, repeats, carriedIn, ruledOn};
+ghost use Rattle.packet.specs.Ruling.{follows, repeats, contentOf, ruledOn};
+ghost use Rattle.collector.specs.Rules.{holding, joined, plain, payload};
+ghost use Rattle.collector.specs.Refusals.{lastBefore, beforeOf};
 ghost use Rattle.collector.specs.Answer.{came};
 ghost use Rattle.collector.specs.Collected.{takenTo, outcomeOf};
 ghost use Rattle.collector.specs.Inner.Payload.{Fit, Small};
@@ -108,7 +109,7 @@ pub fn carried(
     counter: u8,
 ) -> Stepped
     requires { ⌜ Fit (rec .in_hand) (now hold) (now out) (now packet) from start ⌝ }
-    ensures { λ r. ⌜ came (r .record) (now (hold .exit)) (now (out .exit)) (r .answer) ≡ outcomeOf rec (now (hold .entry)) (now (out .entry)) (ruledOn (beforeOf rec) (carriedIn (now (packet .entry)) from start counter)) ⌝ }
+    ensures { λ r. ⌜ came (r .record) (now (hold .exit)) (now (out .exit)) (r .answer) ≡ outcomeOf rec (now (hold .entry)) (now (out .entry)) (ruledOn (beforeOf rec) (contentOf (now (packet .entry)) from start counter)) ⌝ }
 {
     let last = rec.last;
     if is_repeat(last, counter) {

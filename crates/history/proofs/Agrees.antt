@@ -11,10 +11,14 @@ use lib.Seq.{take-append-seam, drop-append-seam}
 use lib.Dec.{ltb}
 use borrow.Author.Tests.{ltb-false}
 use Rattle.wire.specs.If.{if_then_else_}
-use Rattle.collector.specs.Each.{Each}
-use Rattle.collector.specs.Rules.{Fate, in-hand, done, Story, sameFate, countOf, handOf, marked, holding, totalOf, Before, plain, Carried, takenIn}
-use Rattle.collector.specs.Refusals.{beforeOf, cannotStand, Judged, refuse, carries, judged, repeats, Ruling, repeated, takes, carriedIn, ruledBy, ruling}
-use Rattle.collector.specs.Refusals as Refusals
+use Rattle.packet.specs.Each.{Each}
+use Rattle.packet.specs.Sections.{totalOf, WholeSection}
+use Rattle.packet.specs.Ruling.{Before, Carried, repeats, Ruling, repeated, takes, contentOf, ruledBy, ruling}
+use Rattle.collector.specs.Rules.{Fate, in-hand, done, Story, sameFate, countOf, handOf, marked, holding, plain, takenIn}
+use Rattle.packet.specs.Refusals.{Judged, refuse, has-payload, judged}
+use Rattle.collector.specs.Refusals.{beforeOf, cannotStand, tooSmall}
+use Rattle.packet.specs.Refusals as Refusals
+use Rattle.packet.specs.Ruling as Ruled
 use Rattle.collector.specs.Answer.{Outcome}
 use Rattle.collector.specs.Collected.{bytesCounted, freshRecord, recordAfter, over, takenTo, outcomeOf}
 use Rattle.collector.specs.declared.Record.{Record}
@@ -24,9 +28,9 @@ use Rattle.collector.proofs.Marks.{bytesOf-marked}
 use Rattle.collector.proofs.Runs.{total-prefix}
 use Rattle.collector.proofs.Beside.{Beside, beside-taken}
 use Rattle.collector.proofs.Keeps.{keep-taken}
-use Rattle.collector.proofs.Kept.{Any, WholeSection, AllWhole, keeps-whole}
+use Rattle.collector.proofs.Kept.{Any, AllWhole, keeps-whole}
 use Rattle.collector.proofs.Payloads.{any}
-use Rattle.collector.proofs.Table.{or-false, carries-of}
+use Rattle.packet.proofs.Table.{or-false, payload-of}
 use Rattle.history.specs.History.{Byte, valueOf, numbered, History, unbegun, numberedIn, after, historyFrom}
 use Rattle.history.specs.Run.{Promised, Call, Run, no-call, one-call, fareOf, ruledFare, lentOf, rulingOn, beforeAfter, carriedBy, faresFrom, takenFrom, cut, handedBy, handed, bytesBy, toldBy}
 use Rattle.history.specs.Demand3.{Counted}
@@ -65,9 +69,9 @@ or-none true = refl
 or-none false = refl
 
 abbrev Taking : ℕ → Ruling → Type 0
-Taking size (Refusals.refused n) = Unit {0}
+Taking size (Ruled.refused n) = Unit {0}
 Taking size repeated = Unit {0}
-Taking size Refusals.bare = Unit {0}
+Taking size Ruled.bare = Unit {0}
 Taking size (takes q) = (q .counter ≤ 15) × (4096 ≤ size)
 
 taking-if : (size : ℕ) (q : Carried ℕ) (t : Bool) → (q .counter ≤ 15) × (4096 ≤ size)
@@ -76,18 +80,18 @@ taking-if size q true x = tt
 taking-if size q false x = x
 
 taking-at : (unfit : Bool) (pid size out : ℕ) (before : Before) (p : List ℕ) (j : Judged)
-    → judged unfit pid size out p ≡ j → Taking size (ruledBy before p j)
+    → judged (tooSmall size out) unfit pid p ≡ j → Taking size (ruledBy before p j)
 taking-at unfit pid size out before p (refuse n) e = tt
 taking-at unfit pid size out before p Refusals.bare e = tt
-taking-at unfit pid size out before p (carries from start c) e =
-    let x = carries-of unfit pid size out p from start c e in
+taking-at unfit pid size out before p (has-payload from start c) e =
+    let x = payload-of (tooSmall size out) unfit pid p from start c e in
     let few : c ≤ 15 = omega (arith, x .count) in
-    taking-if size (carriedIn p from start c) (repeats before c)
+    taking-if size (contentOf p from start c) (repeats before c)
     (few, ltb-false _ _ (or-false (ltb size 4096) _ (x .passed .1 .0) .0))
 
 taking-of : (unfit : Bool) (pid size out : ℕ) (before : Before) (p : List ℕ)
-    → Taking size (ruling unfit pid before size out p)
-taking-of unfit pid size out before p = taking-at unfit pid size out before p (judged unfit pid size out p) refl
+    → Taking size (ruling (tooSmall size out) unfit pid before p)
+taking-of unfit pid size out before p = taking-at unfit pid size out before p (judged (tooSmall size out) unfit pid p) refl
 
 -- ---- the record agrees with a history
 
@@ -234,7 +238,7 @@ module _ {pid size : ℕ} {r : Record} {hold : List ℕ} {h : History} (g : Agre
 
   went-by : (z : Ruling) → Taking size z → Went pid size h z (outcomeOf r hold out z)
   unfolding flatten
-  went-by (Refusals.refused n) x = record {
+  went-by (Ruled.refused n) x = record {
     fare = refl;
     agrees = g;
     before = refl;
@@ -250,7 +254,7 @@ module _ {pid size : ℕ} {r : Record} {hold : List ℕ} {h : History} (g : Agre
     bytes = refl;
     told = refl;
   }
-  went-by Refusals.bare x = record {
+  went-by Ruled.bare x = record {
     fare = refl;
     agrees = g;
     before = refl;
@@ -268,9 +272,9 @@ module _ {pid size : ℕ} {r : Record} {hold : List ℕ} {h : History} (g : Agre
   went : (packet : List ℕ) (o : Outcome) → Promised r hold out packet o
       → Went pid size h (rulingOn pid size (h .before) (record { packet = packet; room = length out })) o
   went packet o e =
-      let z : Ruling = ruling (cannotStand r hold) (r .pid) (beforeOf r) (length hold) (length out) packet in
+      let z : Ruling = ruling (tooSmall (length hold) (length out)) (cannotStand r hold) (r .pid) (beforeOf r) packet in
       let same : z ≡ rulingOn pid size (h .before) (record { packet = packet; room = length out }) =
-      λ i. ruling (g .stand-is i) (g .pid-is i) (g .before-is i) (g .size-is i) (length out) packet in
+      λ i. ruling (tooSmall (g .size-is i) (length out)) (g .stand-is i) (g .pid-is i) (g .before-is i) packet in
       let taking : Taking size z =
       subst (λ (n : ℕ). Taking n z) (g .size-is)
       (taking-of (cannotStand r hold) (r .pid) (length hold) (length out) (beforeOf r) packet) in

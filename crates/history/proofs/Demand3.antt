@@ -10,13 +10,16 @@ use lib.Dec.{ltb}
 use borrow.Author.Tests.{le-ltb}
 use Rattle.wire.specs.If.{if_then_else_}
 use Rattle.wire.proofs.IfLaws.{true-not-false}
-use Rattle.collector.specs.Each.{Each}
-use Rattle.collector.specs.Rules.{Kind, delivered, Fate, done, kinds, sumIn, sumOf, Mark, Story, sameFate, bytesOf, countOf, Before, noneBefore, Carried}
-use Rattle.collector.specs.Refusals.{_when_, refusals}
+use Rattle.packet.specs.Each.{Each}
+use Rattle.packet.specs.Ruling.{Before, noneBefore, Carried}
+use Rattle.collector.specs.Refusals.{tooSmall}
+use Rattle.collector.specs.Rules.{Kind, delivered, Fate, done, kinds, sumIn, sumOf, Mark, Story, sameFate, bytesOf, countOf}
+use Rattle.packet.specs.Refusals.{_when_, refusals}
 use Rattle.collector.specs.Answer.{refused}
 use Rattle.collector.specs.Collected.{bytesCounted, freshRecord}
 use Rattle.collector.specs.declared.Record.{Record}
-use Rattle.collector.proofs.Keeps.{each-of, keep-taken}
+use Rattle.packet.proofs.EachLaws.{each-of}
+use Rattle.collector.proofs.Keeps.{keep-taken}
 use Rattle.collector.proofs.Kept.{Any, Kept, keeps-kept, points-kept, kept-holding, counts-in}
 use Rattle.history.specs.History.{Byte, valueOf, numbered, History, unbegun, numberedIn, after, historyFrom, historyOf, payloadsFrom, Among, none-left, left-out, had}
 use Rattle.history.specs.Run.{Promised, Call, Run, Fare, taken, fareOf, takenOf, lentOf, rulingOn, beforeAfter, faresFrom, NotRefused, NotRepeated, handed}
@@ -156,8 +159,8 @@ taken-each : (pid size : ℕ) (before : Before) (ks : List Call)
 taken-each pid size before [] e = tt
 taken-each pid size before (k ∷ ks) e =
     let w = fares-cut pid size before k ks e in (
-      subst (λ (f : Fare). (f ≡ taken) ↔ (NotRefused pid size (lentOf k) × NotRepeated before (lentOf k))) (sym (w .0))
-          (fares.taken-exactly-if (ltb 8191 pid) pid before size (lentOf k .room) (k .packet)),
+      subst (λ (f : Fare). (f ≡ taken) ↔ (NotRefused pid size (lentOf k) × NotRepeated before (k .packet))) (sym (w .0))
+          (fares.taken-exactly-if (tooSmall size (lentOf k .room)) (ltb 8191 pid) pid before (k .packet)),
       taken-each pid size (beforeAfter before (rulingOn pid size before (lentOf k))) ks (w .1),
     )
 
@@ -170,7 +173,7 @@ refused-each : (pid size : ℕ) (before : Before) (ks : List Call)
 refused-each pid size before [] e = tt
 refused-each pid size before (k ∷ ks) e =
     let w = fares-cut pid size before k ks e in
-    let row = fares.refused-exactly-if (ltb 8191 pid) pid before size (lentOf k .room) (k .packet) in (
+    let row = fares.refused-exactly-if (tooSmall size (lentOf k .room)) (ltb 8191 pid) pid before (k .packet) in (
       λ n. (
         λ v. row n .0 (sym (w .0) ∙ said-refused n (k .said) .0 v),
         λ f. said-refused n (k .said) .1 (w .0 ∙ row n .1 f),
@@ -184,10 +187,10 @@ refused-exactly-if pid hold calls r hold′ x =
 
 -- ---- a run never meets 43
 
-no-43 : (pid size out : ℕ) (p : List ℕ) → First 43 (refusals false pid size out p) → ⊥
-no-43 pid size out p =
+no-43 : (small : Bool) (pid : ℕ) (p : List ℕ) → First 43 (refusals small false pid p) → ⊥
+no-43 small pid p =
     let other : (n : ℕ) (t : Bool) → (n ≡ 43 → ⊥) → Never 43 (n when t) = λ n t f e w. f w in
-    let rest : Each (Never 43) (drop 3 (refusals false pid size out p)) = (
+    let rest : Each (Never 43) (drop 3 (refusals small false pid p)) = (
       other 44 _ (λ e. omega arith),
       (
         other 45 _ (λ e. omega arith),
@@ -197,15 +200,15 @@ no-43 pid size out p =
         ),
       ),
     ) in
-    never-first 43 (refusals false pid size out p)
+    never-first 43 (refusals small false pid p)
     (other 41 _ (λ e. omega arith), (other 42 _ (λ e. omega arith), ((λ e w. true-not-false (sym e)), rest)))
 
 never-each : (pid size : ℕ) (ks : List Call) → pid ≤ 8191 → Each (RefusedIf pid size) ks
     → Each (λ k. k .said ≡ refused 43 → ⊥) ks
 never-each pid size [] w x = tt
 never-each pid size (k ∷ ks) w x = (
-  λ e. no-43 pid size (length (k .out)) (k .packet)
-      (subst (λ (t : Bool). First 43 (refusals t pid size (length (k .out)) (k .packet))) (le-ltb 8191 pid w)
+  λ e. no-43 (tooSmall size (length (k .out))) pid (k .packet)
+      (subst (λ (t : Bool). First 43 (refusals (tooSmall size (length (k .out))) t pid (k .packet))) (le-ltb 8191 pid w)
       (x .0 43 .0 e)),
   never-each pid size ks w (x .1),
 )

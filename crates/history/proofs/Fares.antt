@@ -11,12 +11,14 @@ use native.Mathlib.Omega.{arith}
 use lib.Dec.{ltb, eqb}
 use borrow.Author.Tests.{eqb-true, eqb-false}
 use Rattle.wire.specs.If.{if_then_else_}
-use Rattle.collector.specs.Each.{Each}
-use Rattle.collector.specs.Packet.{startFlag, control, counterOf, payloadFrom}
-use Rattle.collector.specs.Rules.{Before, Carried}
-use Rattle.collector.specs.Refusals.{Row, refusals, firstOf, carries, judgedBy, judged, repeats, Ruling, takes, carriedIn, ruledBy, ruling}
-use Rattle.collector.specs.Refusals as Refusals
-use Rattle.collector.proofs.Table.{none-of, all-passed}
+use Rattle.packet.specs.Each.{Each}
+use Rattle.packet.specs.Header.{startFlag, control, counterOf, payloadFrom}
+use Rattle.packet.specs.Ruling.{Before, Carried, repeats, Ruling, takes, contentOf, ruledBy, ruling}
+use Rattle.packet.specs.Refusals.{Row, refusals, firstOf, has-payload, judgedBy, judged}
+use Rattle.packet.specs.Refusals as Refusals
+use Rattle.packet.specs.Ruling as Ruled
+use Rattle.collector.specs.Refusals.{tooSmall}
+use Rattle.packet.proofs.Table.{none-of, all-passed}
 use Rattle.history.specs.Run.{Call, Fare, taken, fareOf, ruledFare, carriedIf, takenOf, lentOf, rulingOn, beforeAfter, carriedBy, faresFrom, takenFrom, NotRepeated}
 use Rattle.history.specs.Run as R
 use Rattle.history.specs.Demand1.{First}
@@ -58,12 +60,12 @@ never-first n (row ∷ rows) x f = ⊎-elim (λ u. x .0 (u .0) (u .1)) (λ u. ne
 
 -- ---- of a packet that no row refuses
 
-new-unrefused : (n : ℕ) (q : Carried ℕ) (t : Bool) → ruledFare (if t then Refusals.repeated else takes q) ≡ R.refused n
+new-unrefused : (n : ℕ) (q : Carried ℕ) (t : Bool) → ruledFare (if t then Ruled.repeated else takes q) ≡ R.refused n
     → ⊥
 new-unrefused n q true e = let z : _≡_ {A = ℕ} 1 0 = ap fareNumber e in omega arith
 new-unrefused n q false e = let z : _≡_ {A = ℕ} 2 0 = ap fareNumber e in omega arith
 
-new-taken : (q : Carried ℕ) (t : Bool) → (ruledFare (if t then Refusals.repeated else takes q) ≡ taken) ↔ (t ≡ false)
+new-taken : (q : Carried ℕ) (t : Bool) → (ruledFare (if t then Ruled.repeated else takes q) ≡ taken) ↔ (t ≡ false)
 new-taken q true = (
   λ w. let z : _≡_ {A = ℕ} 1 2 = ap fareNumber w in absurd (omega arith),
   λ w. let z : _≡_ {A = ℕ} 0 1 = cc in absurd (omega arith),
@@ -71,21 +73,21 @@ new-taken q true = (
 new-taken q false = (λ w. refl, λ w. refl)
 
 new-carried : (p : List ℕ) (q : Carried ℕ) (t : Bool) → carriedIf taken p ≡ q ∷ []
-    → carriedIf (ruledFare (if t then Refusals.repeated else takes q)) p
-    ≡ carriedBy (if t then Refusals.repeated else takes q)
+    → carriedIf (ruledFare (if t then Ruled.repeated else takes q)) p
+    ≡ carriedBy (if t then Ruled.repeated else takes q)
 new-carried p q true e = refl
 new-carried p q false e = e
 
-module _ (unfit : Bool) (pid : ℕ) (before : Before) (size room : ℕ) (p : List ℕ) where
+module _ (small unfit : Bool) (pid : ℕ) (before : Before) (p : List ℕ) where
   abbrev rows : List Row
-  rows = refusals unfit pid size room p
+  rows = refusals small unfit pid p
 
   abbrev here : Carried ℕ
-  here = carriedIn p (payloadFrom p) (startFlag p) (counterOf p)
+  here = contentOf p (payloadFrom p) (startFlag p) (counterOf p)
 
   -- what no row refuses, by its adaptation control
   abbrev passedOn : Bool → Ruling
-  passedOn t = ruledBy before p (if t then Refusals.bare else carries (payloadFrom p) (startFlag p) (counterOf p))
+  passedOn t = ruledBy before p (if t then Refusals.bare else has-payload (payloadFrom p) (startFlag p) (counterOf p))
 
   -- ---- refused exactly with the first row that applies
 
@@ -100,7 +102,7 @@ module _ (unfit : Bool) (pid : ℕ) (before : Before) (size room : ℕ) (p : Lis
     λ e. let z : _≡_ {A = ℕ} 0 1 = cc in absurd (omega arith),
   )
 
-  pub refused-exactly-if : (n : ℕ) → (ruledFare (ruling unfit pid before size room p) ≡ R.refused n) ↔ First n rows
+  pub refused-exactly-if : (n : ℕ) → (ruledFare (ruling small unfit pid before p) ≡ R.refused n) ↔ First n rows
   unfolding judged
   refused-exactly-if n =
       let a = refused-at n (firstOf rows) in
@@ -111,7 +113,7 @@ module _ (unfit : Bool) (pid : ℕ) (before : Before) (size room : ℕ) (p : Lis
 
   abbrev Is : Ruling → Type 0
   Is z = (ruledFare z ≡ taken)
-      ↔ (Each (λ row. row .applies ≡ false) rows × NotRepeated before (record { packet = p; room = room }))
+      ↔ (Each (λ row. row .applies ≡ false) rows × NotRepeated before p)
 
   passed-if : (t : Bool) → eqb (control p) 2 ≡ t → Each (λ row. row .applies ≡ false) rows → Is (passedOn t)
   passed-if true e w = (λ v. (w, inl (eqb-true _ _ e)), λ v. refl)
@@ -126,7 +128,7 @@ module _ (unfit : Bool) (pid : ℕ) (before : Before) (size room : ℕ) (p : Lis
   )
   taken-at none e = passed-if (eqb (control p) 2) refl (none-of rows e)
 
-  pub taken-exactly-if : Is (ruling unfit pid before size room p)
+  pub taken-exactly-if : Is (ruling small unfit pid before p)
   unfolding judged
   taken-exactly-if = taken-at (firstOf rows) refl
 
@@ -142,8 +144,8 @@ module _ (unfit : Bool) (pid : ℕ) (before : Before) (size room : ℕ) (p : Lis
   carried-at (some n) = refl
   carried-at none = carried-passed (eqb (control p) 2) refl
 
-  pub carried-alike : carriedIf (ruledFare (ruling unfit pid before size room p)) p
-      ≡ carriedBy (ruling unfit pid before size room p)
+  pub carried-alike : carriedIf (ruledFare (ruling small unfit pid before p)) p
+      ≡ carriedBy (ruling small unfit pid before p)
   unfolding judged
   carried-alike = carried-at (firstOf rows)
 
@@ -165,5 +167,5 @@ taken-alike pid size before (k ∷ ks) e =
     let w = fares-cut pid size before k ks e in
     let one : carriedIf (fareOf (k .said)) (k .packet) ≡ carriedBy (rulingOn pid size before (lentOf k)) =
     ap (λ (f : Fare). carriedIf f (k .packet)) (w .0)
-    ∙ carried-alike (ltb 8191 pid) pid before size (lentOf k .room) (k .packet) in
+    ∙ carried-alike (tooSmall size (lentOf k .room)) (ltb 8191 pid) pid before (k .packet) in
     λ i. one i ++ taken-alike pid size (beforeAfter before (rulingOn pid size before (lentOf k))) ks (w .1) i

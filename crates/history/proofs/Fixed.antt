@@ -8,10 +8,12 @@ use native.Mathlib.Omega.{arith}
 use lib.ListN.{length, take, drop, take-append-drop}
 use lib.Seq.{drop-append-seam}
 use lib.Dec.{ltb}
-use Rattle.collector.specs.Each.{Each}
-use Rattle.collector.specs.Rules.{in-hand, done, Story, countOf, handOf, holding, totalOf, Before, noneBefore, plain, takenIn}
-use Rattle.collector.specs.Refusals.{lastOf, beforeOf, cannotStand, Ruling, takes, ruling}
-use Rattle.collector.specs.Refusals as Refusals
+use Rattle.packet.specs.Each.{Each}
+use Rattle.packet.specs.Sections.{totalOf}
+use Rattle.packet.specs.Ruling.{Before, noneBefore, Ruling, takes, ruling}
+use Rattle.collector.specs.Rules.{in-hand, done, Story, countOf, handOf, holding, plain, takenIn}
+use Rattle.collector.specs.Refusals.{lastOf, beforeOf, cannotStand, tooSmall}
+use Rattle.packet.specs.Ruling as Ruled
 use Rattle.collector.specs.Answer.{Told, refused, repeated, taken, Outcome}
 use Rattle.collector.specs.Collected.{recordWith, freshRecord, over, outcomeOf, collected}
 use Rattle.collector.specs.declared.Record.{Record}
@@ -43,8 +45,8 @@ fares-by : (pid size : ℕ) (before : Before) (ks : List Call) → Each (Refused
     → map (λ k. fareOf (k .said)) ks ≡ faresFrom pid size before (map lentOf ks)
 fares-by pid size before [] a b = refl
 fares-by pid size before (k ∷ ks) a b =
-    let row = fares.refused-exactly-if (ltb 8191 pid) pid before size (lentOf k .room) (k .packet) in
-    let new = fares.taken-exactly-if (ltb 8191 pid) pid before size (lentOf k .room) (k .packet) in
+    let row = fares.refused-exactly-if (tooSmall size (lentOf k .room)) (ltb 8191 pid) pid before (k .packet) in
+    let new = fares.taken-exactly-if (tooSmall size (lentOf k .room)) (ltb 8191 pid) pid before (k .packet) in
     let z : Ruling = rulingOn pid size before (lentOf k) in
     let here : fareOf (k .said) ≡ ruledFare z =
     same-fare (fareOf (k .said)) (ruledFare z)
@@ -99,9 +101,9 @@ behind-over bytes room = drop-append-seam bytes (drop (length bytes) room)
 stays-by : (r : Record) (hold out : List ℕ) (z : Ruling) → let o : Outcome = outcomeOf r hold out z in
     (drop (toldBy (o .said)) (o .out) ≡ drop (toldBy (o .said)) out)
     × (drop (o .rec .in_hand) (o .hold) ≡ drop (o .rec .in_hand) hold)
-stays-by r hold out (Refusals.refused n) = (refl, refl)
-stays-by r hold out Refusals.repeated = (refl, refl)
-stays-by r hold out Refusals.bare = (refl, refl)
+stays-by r hold out (Ruled.refused n) = (refl, refl)
+stays-by r hold out Ruled.repeated = (refl, refl)
+stays-by r hold out Ruled.bare = (refl, refl)
 stays-by r hold out (takes q) =
     let s : Story ℕ = takenIn plain (beforeOf r) (holding (take (r .in_hand) hold)) q in
     (behind-over (flatten (s .sections)) out, behind-over (handOf s) hold)
@@ -110,7 +112,7 @@ pub beyond-stays : BeyondStays Promised
 beyond-stays r hold out packet o x =
     subst (λ (y : Outcome). (drop (toldBy (y .said)) (y .out) ≡ drop (toldBy (y .said)) out)
     × (drop (y .rec .in_hand) (y .hold) ≡ drop (y .rec .in_hand) hold)) (sym x)
-    (stays-by r hold out (ruling (cannotStand r hold) (r .pid) (beforeOf r) (length hold) (length out) packet))
+    (stays-by r hold out (ruling (tooSmall (length hold) (length out)) (cannotStand r hold) (r .pid) (beforeOf r) packet))
 
 pub record-tells : RecordTells Promised
 record-tells pid hold calls r hold′ x = let g = ran x _ (agrees-fresh pid hold) .agrees in (g .pid-is, g .before-is)

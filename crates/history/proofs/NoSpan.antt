@@ -11,11 +11,13 @@ use lib.ListN.{length, getD, length-append}
 use lib.Seq.{getD-at}
 use borrow.Author.Tests.{eqb-true}
 use Rattle.wire.specs.If.{if_then_else_}
-use Rattle.collector.specs.Each.{Each}
-use Rattle.collector.specs.Rules.{Fate, pointer, delivered, broken, done, in-hand, Story, sameFate, handOf, given, settled, Before, nextTo, follows, joined, Carried}
+use Rattle.packet.specs.Each.{Each}
+use Rattle.packet.specs.Ruling.{Before, nextTo, follows, Carried}
+use Rattle.collector.specs.Rules.{Fate, pointer, delivered, broken, done, in-hand, Story, sameFate, handOf, given, settled, joined}
 use Rattle.collector.proofs.Marks.{bytesOf-more, settled-hand}
 use Rattle.collector.proofs.Runs.{lt-or-ge}
-use Rattle.collector.proofs.Keeps.{each-append, each-map, Keeps, keep-payload}
+use Rattle.packet.proofs.EachLaws.{each-append, each-map}
+use Rattle.collector.proofs.Keeps.{Keeps, keep-payload}
 use Rattle.history.specs.History.{Byte, valueOf, numbered, History, unbegun, after, historyFrom, historyOf, counterAt, BreakAfter, Spans, Unbroken}
 
 module _ (qs : List (Carried ℕ)) where

@@ -7,19 +7,22 @@ use native.Mathlib.Omega.{arith}
 use lib.ListN.{length, take, drop, replicate, length-append, length-take, length-drop}
 use lib.Dec.{eqb}
 use Rattle.wire.specs.If.{if_then_else_}
-use Rattle.collector.specs.Each.{Each}
-use Rattle.collector.specs.Rules.{pointer, broken, done, in-hand, Story, bytesOf, countOf, handOf, marked, given, brokenOff, finished, holding, Mode, begin, inside, filling, skipping, breaking, Next, Size, going, whole, over, sizeOf, Before, follows, plain, Carried, begun, grown, resumed, joined, byteIn, stretch, goesOn, sectionsIn, payload, takenIn}
-use Rattle.collector.specs.Refusals.{beforeOf, cannotStand, Judged, refuse, carries, judged, repeats, repeated, takes, carriedIn, ruledBy}
-use Rattle.collector.specs.Refusals as Refusals
+use Rattle.packet.specs.Each.{Each}
+use Rattle.packet.specs.Ruling.{Before, follows, Carried, repeats, repeated, takes, contentOf, ruledBy}
+use Rattle.packet.specs.Sections.{WholeSection}
+use Rattle.collector.specs.Rules.{pointer, broken, done, in-hand, Story, bytesOf, countOf, handOf, marked, given, brokenOff, finished, holding, Mode, begin, inside, filling, skipping, breaking, Next, Size, going, whole, over, sizeOf, plain, begun, grown, resumed, joined, byteIn, stretch, goesOn, sectionsIn, payload, takenIn}
+use Rattle.packet.specs.Refusals.{Judged, refuse, has-payload, judged}
+use Rattle.collector.specs.Refusals.{beforeOf, cannotStand, tooSmall}
+use Rattle.packet.specs.Refusals as Refusals
 use Rattle.collector.specs.Answer.{Outcome}
 use Rattle.collector.specs.Collected.{outcomeOf}
 use Rattle.collector.specs.declared.Record.{Record}
 use Rattle.collector.proofs.Marks.{bytesOf-more, bytesOf-marked, settled-hand, settled-other}
 use Rattle.collector.proofs.Beside.{Beside, beside-sections}
 use Rattle.collector.proofs.Keeps.{keep-goes, keep-sections, keep-taken}
-use Rattle.collector.proofs.Kept.{Any, WholeSection, Kept, keeps-kept, points-kept, kept-holding, keeps-points, counts-in, delivered-in}
+use Rattle.collector.proofs.Kept.{Any, Kept, keeps-kept, points-kept, kept-holding, keeps-points, counts-in, delivered-in}
 use Rattle.collector.proofs.Payloads.{any, more-sections, beside-nothing}
-use Rattle.collector.proofs.Table.{fit-of}
+use Rattle.collector.proofs.Fits.{fit-of}
 use Rattle.history.specs.Run.{Promised, toldBy}
 use Rattle.history.specs.OutRoom.{AtMost, Reaches}
 use Rattle.history.proofs.Agrees.{whole-taken}
@@ -140,13 +143,13 @@ most-ruled r hold out q true x = omega arith
 most-ruled r hold out q false x = x
 
 most-judged : (r : Record) (hold out packet : List ℕ) (j : Judged)
-    → judged (cannotStand r hold) (r .pid) (length hold) (length out) packet ≡ j
+    → judged (tooSmall (length hold) (length out)) (cannotStand r hold) (r .pid) packet ≡ j
     → toldBy (outcomeOf r hold out (ruledBy (beforeOf r) packet j) .said) ≤ 4278
 most-judged r hold out packet (refuse n) e = omega arith
 most-judged r hold out packet Refusals.bare e = omega arith
-most-judged r hold out packet (carries from start counter) e =
+most-judged r hold out packet (has-payload from start counter) e =
     let fit = fit-of r hold out packet from start counter e in
-    let q : Carried ℕ = carriedIn packet from start counter in
+    let q : Carried ℕ = contentOf packet from start counter in
     let long : length (drop from packet) ≡ _ = length-drop from packet in
     most-ruled r hold out q (repeats (beforeOf r) counter)
     (most-in (beforeOf r) (take (r .in_hand) hold) q start (drop from packet) refl refl
@@ -155,7 +158,7 @@ most-judged r hold out packet (carries from start counter) e =
 
 pub at-most-4278 : AtMost 4278 Promised
 at-most-4278 r hold out packet o x =
-    let most = most-judged r hold out packet (judged (cannotStand r hold) (r .pid) (length hold) (length out) packet)
+    let most = most-judged r hold out packet (judged (tooSmall (length hold) (length out)) (cannotStand r hold) (r .pid) packet)
     refl in
     let same : toldBy (o .said) ≡ _ = ap (λ (y : Outcome). toldBy (y .said)) x in
     omega (arith, most, same)

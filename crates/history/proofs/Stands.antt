@@ -10,7 +10,9 @@ use lib.ListN.{length, take, drop, getD, length-append, List·getD-append}
 use lib.Dec.{ltb, leb, eqb}
 use borrow.Author.Tests.{ltb-true, ltb-false, leb-true, eqb-false, lt-ltb, le-ltb, lt-leb, ne-eqb}
 use Rattle.wire.specs.If.{if_then_else_}
-use Rattle.collector.specs.Rules.{Fate, pointer, broken, delivered, filler, skipped, done, in-hand, Story, sameFate, handOf, given, brokenOff, finished, holding, Mode, begin, inside, filling, skipping, breaking, Next, totalOf, Size, going, whole, over, sizeOf, Before, follows, plain, Carried, begun, grown, resumed, joined, byteIn, stretch, goesOn, sectionsIn, payload, takenIn}
+use Rattle.packet.specs.Sections.{totalOf}
+use Rattle.packet.specs.Ruling.{Before, follows, Carried}
+use Rattle.collector.specs.Rules.{Fate, pointer, broken, delivered, filler, skipped, done, in-hand, Story, sameFate, handOf, given, brokenOff, finished, holding, Mode, begin, inside, filling, skipping, breaking, Next, Size, going, whole, over, sizeOf, plain, begun, grown, resumed, joined, byteIn, stretch, goesOn, sectionsIn, payload, takenIn}
 use Rattle.collector.specs.Refusals.{isNone, counterPast, heldUnfit, cannotStand}
 use Rattle.collector.specs.declared.Record.{Record}
 use Rattle.collector.specs.declared.Last.{Last}

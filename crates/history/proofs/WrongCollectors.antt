@@ -6,9 +6,11 @@ use mathlib.Core.List.{List, [], _∷_, map, flatten}
 use Prim.Native.Nat.{ℕ}
 use native.Mathlib.Omega.{arith}
 use lib.ListN.{length}
-use Rattle.collector.specs.Each.{Each}
-use Rattle.collector.specs.Rules.{filler, sizeOf, noneBefore, follows, Carried}
-use Rattle.collector.specs.Refusals.{cannotStand, judged, repeats}
+use Rattle.packet.specs.Each.{Each}
+use Rattle.packet.specs.Ruling.{noneBefore, follows, Carried, repeats}
+use Rattle.collector.specs.Rules.{filler, sizeOf}
+use Rattle.packet.specs.Refusals.{judged}
+use Rattle.collector.specs.Refusals.{cannotStand}
 use Rattle.collector.specs.Answer.{Outcome, refused, repeated, taken}
 use Rattle.collector.specs.Collected.{freshRecord, collected}
 use Rattle.history.specs.History.{Byte, valueOf, payloadsFrom, BreakAfter, Unbroken, Among, none-left, left-out, had}
@@ -25,7 +27,7 @@ callOf packet o = record { packet = packet; out = out₀; out′ = o .out; said 
 not-refused : NotRefused 20 4096 (record { packet = worked 0; room = 4280 })
 not-refused = (refl, (refl, (refl, (refl, (refl, (refl, (refl, (refl, (refl, tt)))))))))
 
-not-repeated : NotRepeated noneBefore (record { packet = worked 0; room = 4280 })
+not-repeated : NotRepeated noneBefore (worked 0)
 unfolding repeats
 not-repeated = inr refl
 

@@ -5,9 +5,11 @@ use mathlib.Core.List.{List, [], _∷_, map, flatten}
 use Prim.Native.Nat.{ℕ, _%_, _^_, _≤_}
 use lib.ListN.{length, take}
 use lib.Dec.{ltb}
-use Rattle.collector.specs.Each.{Each}
-use Rattle.collector.specs.Rules.{Kind, delivered, in-hand, done, sumOf, Mark, Story, bytesOf, countOf, handOf, Before, noneBefore, Carried}
-use Rattle.collector.specs.Refusals.{refusals}
+use Rattle.packet.specs.Each.{Each}
+use Rattle.packet.specs.Ruling.{Before, noneBefore, Carried}
+use Rattle.collector.specs.Refusals.{tooSmall}
+use Rattle.collector.specs.Rules.{Kind, delivered, in-hand, done, sumOf, Mark, Story, bytesOf, countOf, handOf}
+use Rattle.packet.specs.Refusals.{refusals}
 use Rattle.collector.specs.Answer.{refused}
 use Rattle.collector.specs.Collected.{bytesCounted, freshRecord}
 use Rattle.collector.specs.declared.Record.{Record}
@@ -20,13 +22,13 @@ use Rattle.history.specs.Demand1.{First}
 abbrev pub TakenIf : ℕ → ℕ → Before → List Call → Type 0
 TakenIf pid size before [] = Unit {0}
 TakenIf pid size before (k ∷ ks) =
-    ((fareOf (k .said) ≡ taken) ↔ (NotRefused pid size (lentOf k) × NotRepeated before (lentOf k)))
+    ((fareOf (k .said) ≡ taken) ↔ (NotRefused pid size (lentOf k) × NotRepeated before (k .packet)))
     × TakenIf pid size (beforeAfter before (rulingOn pid size before (lentOf k))) ks
 
 -- demand 1 of the packets of a run, whose record can stand exactly if its PID is one
 abbrev pub RefusedIf : ℕ → ℕ → Call → Type 0
 RefusedIf pid size k = (n : ℕ)
-    → (k .said ≡ refused n) ↔ First n (refusals (ltb 8191 pid) pid size (length (k .out)) (k .packet))
+    → (k .said ≡ refused n) ↔ First n (refusals (tooSmall size (length (k .out))) (ltb 8191 pid) pid (k .packet))
 
 -- the packets taken that have payload, by the packets alone, and their bytes' fates
 abbrev pub takenBy : ℕ → List ℕ → List Call → List (Carried ℕ)

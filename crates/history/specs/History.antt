@@ -4,8 +4,9 @@ use mathlib.Core.Path.{_≡_}
 use mathlib.Core.List.{List, [], _∷_, _++_, map}
 use Prim.Native.Nat.{ℕ, _+_, _%_, _≤_, _<_}
 use lib.ListN.{length, getD}
-use Rattle.collector.specs.Each.{Each}
-use Rattle.collector.specs.Rules.{Story, holding, Before, noneBefore, Carried, handsOn, takenIn}
+use Rattle.packet.specs.Each.{Each}
+use Rattle.packet.specs.Ruling.{Before, noneBefore, Carried, handsOn}
+use Rattle.collector.specs.Rules.{Story, holding, takenIn}
 
 pub record Byte : Type 0 where
   pub packet : ℕ

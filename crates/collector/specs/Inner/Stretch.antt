@@ -5,7 +5,8 @@ use mathlib.Core.Logic.{_⊎_}
 use mathlib.Core.List.{List, _++_, flatten}
 use Prim.Native.Nat.{ℕ, _+_, _≤_, _<_}
 use lib.ListN.{length, take, drop}
-use Rattle.collector.specs.Rules.{Kind, pointer, delivered, broken, filler, skipped, done, sameKind, Story, countOf, handOf, totalOf}
+use Rattle.packet.specs.Sections.{totalOf}
+use Rattle.collector.specs.Rules.{Kind, pointer, delivered, broken, filler, skipped, done, sameKind, Story, countOf, handOf}
 use Rattle.collector.specs.Collected.{over}
 use Rattle.collector.specs.declared.stretch.Look.{Look}
 use Rattle.collector.specs.declared.stretch.Look.the-variants.{Going, Over, Whole}

@@ -5,7 +5,7 @@ use borrow.Author.Needs.{needs}
 use lib.ListN.{take, drop}
 use Rattle.wire.specs.If.{if_then_else_}
 use Rattle.collector.specs.Rules.{holding, joined, plain, payload}
-use Rattle.collector.specs.Refusals.{repeated, takes, carriedIn}
+use Rattle.packet.specs.Ruling.{repeated, takes, contentOf}
 use Rattle.collector.specs.Answer.{Outcome}
 use Rattle.collector.specs.Collected.{takenTo, outcomeOf}
 use Rattle.collector.proofs.taking.carried.Statement.{statement}
@@ -14,7 +14,7 @@ use Rattle.collector.proofs.taking.carried.Tie as tie
 module _ (s : tie.Start) where
   -- the outcome, as the counter repeats the last one or not
   abbrev ruled : Bool → Outcome
-  ruled again = outcomeOf (s .args .rec) (s .args .hold .now) (s .args .out .now) (if again then repeated else takes (carriedIn (s .args .packet .now) (s .args .from) (s .args .start) (s .args .counter)))
+  ruled again = outcomeOf (s .args .rec) (s .args .hold .now) (s .args .out .now) (if again then repeated else takes (contentOf (s .args .packet .now) (s .args .from) (s .args .start) (s .args .counter)))
 
   -- and as it follows the last one or not
   abbrev outcome : Bool → Outcome

@@ -1,11 +1,11 @@
--- `collector::packet::shaped` meets its contract: the adaptation control decides which law of the table holds.
+-- `packet::header::shaped` meets its contract: the adaptation control decides which law of the table holds.
 use mathlib.Core.Path.{sym, _∙_, subst}
 use Prim.Native.Nat.{ℕ, _+_}
 use borrow.Author.Needs.{needs}
-use Rattle.collector.specs.Inner.Packet.{PayloadAt}
-use Rattle.collector.proofs.Table.{control-none, control-payload, payload-first, control-bare, control-bad-bare, control-long, control-both, payload-after}
-use Rattle.collector.proofs.packet.shaped.Statement.{statement}
-use Rattle.collector.proofs.packet.shaped.Tie as tie
+use Rattle.packet.specs.Inner.{PayloadAt}
+use Rattle.packet.proofs.Table.{control-none, control-payload, payload-first, control-bare, control-bad-bare, control-long, control-both, payload-after}
+use Rattle.packet.proofs.header.shaped.Statement.{statement}
+use Rattle.packet.proofs.header.shaped.Tie as tie
 
 shared-slice-read-control : tie.Need-shared-slice-read-control
 shared-slice-read-control c = search needs

@@ -1,11 +1,11 @@
--- `collector::packet::aimed` meets its contract.
+-- `packet::header::aimed` meets its contract.
 use mathlib.Core.Path.{sym}
 use native.Mathlib.Omega.{arith}
 use borrow.Author.Needs.{needs}
 use borrow.Author.Tests.{eq-eqb, ne-eqb}
-use Rattle.collector.proofs.Table.{pointer-past, pointer-within, no-pointer}
-use Rattle.collector.proofs.packet.aimed.Statement.{statement}
-use Rattle.collector.proofs.packet.aimed.Tie as tie
+use Rattle.packet.proofs.Table.{pointer-past, pointer-within, no-pointer}
+use Rattle.packet.proofs.header.aimed.Statement.{statement}
+use Rattle.packet.proofs.header.aimed.Tie as tie
 
 shared-slice-read-counter : tie.Need-shared-slice-read-counter
 shared-slice-read-counter c = search needs

@@ -1,11 +1,11 @@
--- `collector::packet::unfit` meets its contract: each test decides one part of `cannotStand`.
+-- `collector::lent::unfit` meets its contract: each test decides one part of `cannotStand`.
 use mathlib.Core.Path.{sym, ap, _∙_}
 use mathlib.Core.Bool.{Bool}
 use borrow.Author.Needs.{needs}
 use borrow.Author.Tests.{lt-ltb, le-ltb}
 use Rattle.collector.specs.Refusals.{heldUnfit, cannotStand}
-use Rattle.collector.proofs.packet.unfit.Statement.{statement}
-use Rattle.collector.proofs.packet.unfit.Tie as tie
+use Rattle.collector.proofs.lent.unfit.Statement.{statement}
+use Rattle.collector.proofs.lent.unfit.Tie as tie
 
 returns : tie.Need-returns
 unfolding cannotStand

@@ -1,12 +1,12 @@
--- `collector::packet::held_unfit` meets its contract: each test decides one part of `heldUnfit`.
+-- `collector::lent::held_unfit` meets its contract: each test decides one part of `heldUnfit`.
 use mathlib.Core.Path.{sym, ap}
 use Prim.Native.Nat.{ℕ, _<_}
 use native.Mathlib.Omega.{arith}
 use borrow.Author.Needs.{needs}
 use borrow.Author.Tests.{lt-ltb, le-leb, lt-leb, eq-eqb, ne-eqb}
 use Rattle.collector.specs.Refusals.{heldUnfit}
-use Rattle.collector.proofs.packet.held_unfit.Statement.{statement}
-use Rattle.collector.proofs.packet.held_unfit.Tie as tie
+use Rattle.collector.proofs.lent.held_unfit.Statement.{statement}
+use Rattle.collector.proofs.lent.held_unfit.Tie as tie
 
 returns : tie.Need-returns
 returns c =

@@ -1,9 +1,9 @@
--- `collector::packet::counter_past` meets its contract.
+-- `collector::lent::counter_past` meets its contract.
 use mathlib.Core.Path.{sym, ap}
 use borrow.Author.Needs.{needs}
 use Rattle.collector.specs.Refusals.{counterPast}
-use Rattle.collector.proofs.packet.counter_past.Statement.{statement}
-use Rattle.collector.proofs.packet.counter_past.Tie as tie
+use Rattle.collector.proofs.lent.counter_past.Statement.{statement}
+use Rattle.collector.proofs.lent.counter_past.Tie as tie
 
 enum-told : tie.Need-enum-told
 enum-told c = search needs

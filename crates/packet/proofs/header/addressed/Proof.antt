@@ -1,9 +1,9 @@
--- `collector::packet::addressed` meets its contract: the tests are rows 44 to 47 of the table, in their order.
+-- `packet::header::addressed` meets its contract: the tests are rows 44 to 47 of the table, in their order.
 use mathlib.Core.Path.{sym, _∙_}
 use borrow.Author.Needs.{needs}
-use Rattle.collector.proofs.Table.{no-sync, in-error, other-pid, scrambled, header-passed}
-use Rattle.collector.proofs.packet.addressed.Statement.{statement}
-use Rattle.collector.proofs.packet.addressed.Tie as tie
+use Rattle.packet.proofs.Table.{no-sync, in-error, other-pid, scrambled, header-passed}
+use Rattle.packet.proofs.header.addressed.Statement.{statement}
+use Rattle.packet.proofs.header.addressed.Tie as tie
 
 shared-slice-read-if1 : tie.Need-shared-slice-read-if1
 shared-slice-read-if1 c = search needs
