@@ -10,14 +10,14 @@ use lib.ListN.{length, take, drop, length-append, length-drop}
 use borrow.Author.Tests.{le-ltb}
 use Rattle.packet.specs.Sections.{totalOf}
 use Rattle.packet.specs.Ruling.{Before, Carried, ruledBy, Ruling, ruling}
-use Rattle.collector.specs.Rules.{holding, plain, takenIn}
+use Rattle.collector.specs.Rules.{holding, plain, storyAfter, delivers}
 use Rattle.packet.specs.Refusals.{_when_, refusals, firstOf, judgedBy, judged}
 use Rattle.collector.specs.Refusals.{cannotStand, beforeOf, tooSmall}
 use Rattle.packet.specs.Ruling as Ruled
 use Rattle.collector.specs.Answer.{Told, refused, repeated, taken, Outcome}
-use Rattle.collector.specs.Collected.{over, outcomeOf, collected}
+use Rattle.collector.specs.Collected.{over, outcomeOf, collected, deliveredOf}
 use Rattle.collector.specs.declared.Record.{Record}
-use Rattle.history.specs.Run.{Promised, Call, Run, no-call, one-call, Fare, fareOf, ruledFare, lentOf, beforeAfter, carriedBy, rulingOn, faresFrom, takenFrom, cut, handedBy, handed}
+use Rattle.history.specs.Run.{Promised, Call, Run, no-call, one-call, Fare, fareOf, ruledFare, lentOf, beforeAfter, ruledIn, rulingOn, faresFrom, ruledTaken, cut, handedBy, handed}
 use Rattle.account.specs.Entered.{Kept, tallied, entered, enteredAll}
 use Rattle.account.specs.Lines.{lent, oneTaken, oneRepeated, oneRefused, total}
 use Rattle.account.specs.declared.tally.Account.{Account}
@@ -180,7 +180,7 @@ outcome-room r hold out (Ruled.refused n) = omega arith
 outcome-room r hold out Ruled.repeated = omega arith
 outcome-room r hold out Ruled.bare = omega arith
 outcome-room r hold out (Ruled.takes q) =
-    over-room (flatten (takenIn plain (beforeOf r) (holding (take (r .in_hand) hold)) q .sections)) out
+    over-room (flatten (deliveredOf (storyAfter delivers plain (beforeOf r) (holding (take (r .in_hand) hold)) q))) out
   where
     over-room : (bs room : List ℕ) → length room ≤ length (over bs room)
     over-room bs room = omega (arith, length-append bs (drop (length bs) room), length-drop (length bs) room)
@@ -203,10 +203,10 @@ module _ (pid size : ℕ) where
       (fares-are (entered k p) ps (room-after k p w) (beforeAfter before (rulingOn pid size before (lent p))))
 
   pub taken-are : (k : Kept) (ps : List (List ℕ)) → 4280 ≤ length (k .out) → (before : Before)
-      → takenFrom pid size before (map lentOf (callsFrom k ps)) ≡ takenFrom pid size before (map lent ps)
+      → ruledTaken pid size before (map lentOf (callsFrom k ps)) ≡ ruledTaken pid size before (map lent ps)
   taken-are k [] w before = refl
   taken-are k (p ∷ ps) w before =
       let e = room-enough pid size before p (length (k .out)) w in
-      (λ i. carriedBy (e i) ++ takenFrom pid size (beforeAfter before (e i)) (map lentOf (callsFrom (entered k p) ps)))
-      ∙ ap (λ (l : List (Carried ℕ)). carriedBy (rulingOn pid size before (lent p)) ++ l)
+      (λ i. ruledIn (e i) ++ ruledTaken pid size (beforeAfter before (e i)) (map lentOf (callsFrom (entered k p) ps)))
+      ∙ ap (λ (l : List (Carried ℕ)). ruledIn (rulingOn pid size before (lent p)) ++ l)
       (taken-are (entered k p) ps (room-after k p w) (beforeAfter before (rulingOn pid size before (lent p))))

@@ -8,15 +8,14 @@ use lib.ListN.{length, take, drop, getD, length-drop, take-append-drop}
 use lib.Seq.{length-take-le}
 use lib.Dec.{ltb, leb, eqb}
 use borrow.Author.Tests.{ltb-false, leb-false, eqb-true, eqb-false, not-false, le-leb, ne-eqb}
-use Rattle.packet.specs.Sections.{totalOf}
+use Rattle.packet.specs.Sections.{totalOf, Unfinished}
 use Rattle.packet.specs.Header.{startFlag, control, adaptation, payloadFrom, payloadOf, pointerOf}
 use Rattle.packet.specs.Refusals.{has-payload, judged}
 use Rattle.packet.proofs.Table.{or-false, and-false, payload-of, payload-in}
 use Rattle.collector.specs.Refusals.{isNone, counterPast, heldUnfit, cannotStand, tooSmall}
-use Rattle.collector.specs.Inner.Stretch.{CanStand}
 use Rattle.collector.specs.Inner.Payload.{Fit}
 use Rattle.collector.specs.declared.Record.{Record}
-use Rattle.collector.proofs.Runs.{total-prefix}
+use Rattle.collector.proofs.ByteRuns.{total-prefix}
 
 -- ---- a record that can stand
 
@@ -32,7 +31,7 @@ module _ (r : Record) (hold : List ℕ) (e : cannotStand r hold ≡ false) where
   pub few-held : r .in_hand < 4096
   few-held = omega (arith, ltb-false 4095 (r .in_hand) (parts .1 .1 .0))
 
-  pub held-stands : r .in_hand ≤ length hold → CanStand (take (r .in_hand) hold)
+  pub held-stands : r .in_hand ≤ length hold → Unfinished (take (r .in_hand) hold)
   held-stands w = record {
     more = λ m.
         let n : ℕ = r .in_hand in

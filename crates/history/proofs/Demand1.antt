@@ -14,7 +14,7 @@ use Rattle.collector.specs.declared.Record.{Record}
 use Rattle.history.specs.Run.{Promised, fareOf, ruledFare}
 use Rattle.history.specs.Run as R
 use Rattle.history.specs.Demand1.{RefusesFirst, RefusedUnaltered}
-use Rattle.history.proofs.Fares.{fareNumber, refused-exactly-if}
+use Rattle.history.proofs.FaresByTable.{fareNumber, refused-exactly-if}
 
 pub fare-is : (r : Record) (hold out : List ℕ) (z : Ruling) → fareOf (outcomeOf r hold out z .said) ≡ ruledFare z
 fare-is r hold out (Ruled.refused n) = refl

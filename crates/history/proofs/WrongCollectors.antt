@@ -14,7 +14,7 @@ use Rattle.collector.specs.Refusals.{cannotStand}
 use Rattle.collector.specs.Answer.{Outcome, refused, repeated, taken}
 use Rattle.collector.specs.Collected.{freshRecord, collected}
 use Rattle.history.specs.History.{Byte, valueOf, payloadsFrom, BreakAfter, Unbroken, Among, none-left, left-out, had}
-use Rattle.history.specs.Run.{Call, no-call, one-call, Fare, takenOf, NotRefused, NotRepeated, handed}
+use Rattle.history.specs.Run.{Call, no-call, one-call, Fare, saidTaken, NotRefused, NotRepeated, handed}
 use Rattle.history.specs.Run as R
 use Rattle.history.specs.Demand3.{MadeUnbroken, TakenExactlyIf, OneFateEach, CountersAreFates, DeliveredInOrder, NoSectionSpans}
 use Rattle.history.specs.WrongCollectors.{RefusesEvery, CallsRepeated, DoesNothing, Pretends, InventsCounters, invented, HandsOutOther, followed, JoinsOverBreaks, worked, short, left-off, gone-on, hold₀, out₀}
@@ -119,14 +119,14 @@ joins-over-breaks-shut-out h =
     let o : Outcome = collected (followed (freshRecord 20) left-off) hold₀ out₀ left-off in
     let o₂ : Outcome = collected (followed (o .rec) gone-on) (o .hold) out₀ gone-on in
     let calls : List Call = callOf left-off o ∷ callOf gone-on o₂ ∷ [] in
-    let x : MadeUnbroken (takenOf calls) (handed calls) =
+    let x : MadeUnbroken (saidTaken calls) (handed calls) =
     h 20 hold₀ calls (o₂ .rec) (o₂ .hold) (one-call refl (one-call refl no-call)) in
-    let places : Each InPlace (payloadsFrom 0 (takenOf calls)) = (
+    let places : Each InPlace (payloadsFrom 0 (saidTaken calls)) = (
       (λ e. refl, λ e. absurd (omega arith)),
       (
         (λ e. refl, λ e. absurd (omega arith)),
         ((λ e. absurd (omega arith), λ e. refl), ((λ e. absurd (omega arith), λ e. refl), tt)),
       ),
     ) in
-    spans-it (takenOf calls) (x .made-of) (x .values-are) (among-each InPlace (x .once-in-order) places) (x .unbroken)
+    spans-it (saidTaken calls) (x .made-of) (x .values-are) (among-each InPlace (x .once-in-order) places) (x .unbroken)
     (record { two = omega arith; break = λ e. omega arith })

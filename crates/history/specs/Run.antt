@@ -11,7 +11,7 @@ use Rattle.wire.specs.If.{if_then_else_}
 use Rattle.packet.specs.Each.{Each}
 use Rattle.packet.specs.Header.{startFlag, control, counterOf, payloadFrom}
 use Rattle.packet.specs.Sections.{totalOf}
-use Rattle.packet.specs.Ruling.{Before, Carried, handsOn, repeats, Ruling, contentOf, ruling}
+use Rattle.packet.specs.Ruling.{Before, Carried, handsOn, repeats, Ruling, loadOf, ruling}
 use Rattle.packet.specs.Refusals.{refusals}
 use Rattle.packet.specs.Ruling as Ruled
 use Rattle.collector.specs.Refusals.{tooSmall}
@@ -79,16 +79,16 @@ ruledFare Ruled.bare = taken
 ruledFare (Ruled.takes q) = taken
 
 -- "the packets taken", by what the answers say: of each that has payload its counter, its start flag and its payload
-abbrev pub carriedIf : Fare → List ℕ → List (Carried ℕ)
-carriedIf (refused n) packet = []
-carriedIf repeated packet = []
-carriedIf taken packet =
+abbrev pub ifSaidTaken : Fare → List ℕ → List (Carried ℕ)
+ifSaidTaken (refused n) packet = []
+ifSaidTaken repeated packet = []
+ifSaidTaken taken packet =
     if eqb (control packet) 2 then []
-    else contentOf packet (payloadFrom packet) (startFlag packet) (counterOf packet) ∷ []
+    else loadOf packet (payloadFrom packet) (startFlag packet) (counterOf packet) ∷ []
 
-abbrev pub takenOf : List Call → List (Carried ℕ)
-takenOf [] = []
-takenOf (k ∷ ks) = carriedIf (fareOf (k .said)) (k .packet) ++ takenOf ks
+abbrev pub saidTaken : List Call → List (Carried ℕ)
+saidTaken [] = []
+saidTaken (k ∷ ks) = ifSaidTaken (fareOf (k .said)) (k .packet) ++ saidTaken ks
 
 -- of a call, the packet and the size of the out room
 pub record Lent : Type 0 where
@@ -105,11 +105,11 @@ beforeAfter before Ruled.repeated = before
 beforeAfter before Ruled.bare = before
 beforeAfter before (Ruled.takes q) = handsOn q
 
-abbrev pub carriedBy : Ruling → List (Carried ℕ)
-carriedBy (Ruled.refused n) = []
-carriedBy Ruled.repeated = []
-carriedBy Ruled.bare = []
-carriedBy (Ruled.takes q) = q ∷ []
+abbrev pub ruledIn : Ruling → List (Carried ℕ)
+ruledIn (Ruled.refused n) = []
+ruledIn Ruled.repeated = []
+ruledIn Ruled.bare = []
+ruledIn (Ruled.takes q) = q ∷ []
 
 module _ (pid size : ℕ) where
   -- a run's record can stand exactly if its PID is one
@@ -121,9 +121,9 @@ module _ (pid size : ℕ) where
   faresFrom before [] = []
   faresFrom before (x ∷ xs) = ruledFare (rulingOn before x) ∷ faresFrom (beforeAfter before (rulingOn before x)) xs
 
-  abbrev pub takenFrom : Before → List Lent → List (Carried ℕ)
-  takenFrom before [] = []
-  takenFrom before (x ∷ xs) = carriedBy (rulingOn before x) ++ takenFrom (beforeAfter before (rulingOn before x)) xs
+  abbrev pub ruledTaken : Before → List Lent → List (Carried ℕ)
+  ruledTaken before [] = []
+  ruledTaken before (x ∷ xs) = ruledIn (rulingOn before x) ++ ruledTaken (beforeAfter before (rulingOn before x)) xs
 
   -- "neither refused": no row of the table applies
   abbrev pub NotRefused : Lent → Type 0

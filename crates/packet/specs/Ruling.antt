@@ -46,8 +46,8 @@ pub record Carried (A : Type 0) : Type 0 where
 abbrev pub handsOn : {A : Type 0} → Carried A → Before
 handsOn q = record { last = some (q .counter) }
 
-abbrev pub contentOf : List ℕ → ℕ → Bool → ℕ → Carried ℕ
-contentOf packet from start counter = record { counter = counter; start = start; bytes = drop from packet }
+abbrev pub loadOf : List ℕ → ℕ → Bool → ℕ → Carried ℕ
+loadOf packet from start counter = record { counter = counter; start = start; bytes = drop from packet }
 
 -- ---- the ruling
 
@@ -64,7 +64,7 @@ ruledOn before q = if repeats before (q .counter) then repeated else takes q
 abbrev pub ruledBy : Before → List ℕ → Judged → Ruling
 ruledBy before packet (refuse n) = refused n
 ruledBy before packet Refusals.bare = bare
-ruledBy before packet (has-payload from start counter) = ruledOn before (contentOf packet from start counter)
+ruledBy before packet (has-payload from start counter) = ruledOn before (loadOf packet from start counter)
 
 abbrev pub ruling : Bool → Bool → ℕ → Before → List ℕ → Ruling
 ruling small unfit pid before packet = ruledBy before packet (judged small unfit pid packet)

@@ -10,29 +10,30 @@ use lib.ListN.{length, take, drop, getD, length-append, List·getD-append}
 use lib.Dec.{ltb, leb, eqb}
 use borrow.Author.Tests.{ltb-true, ltb-false, leb-true, eqb-false, lt-ltb, le-ltb, lt-leb, ne-eqb}
 use Rattle.wire.specs.If.{if_then_else_}
-use Rattle.packet.specs.Sections.{totalOf}
+use Rattle.packet.specs.Sections.{totalOf, Unfinished}
 use Rattle.packet.specs.Ruling.{Before, follows, Carried}
-use Rattle.collector.specs.Rules.{Fate, pointer, broken, delivered, filler, skipped, done, in-hand, Story, sameFate, handOf, given, brokenOff, finished, holding, Mode, begin, inside, filling, skipping, breaking, Next, Size, going, whole, over, sizeOf, plain, begun, grown, resumed, joined, byteIn, stretch, goesOn, sectionsIn, payload, takenIn}
+use Rattle.collector.specs.Rules.{Kind, Fate, pointer, broken, filler, done, in-hand, Story, sameFate, handOf, given, brokenOff, finished, holding, kindOf, Mode, begin, inside, outside, filling, Next, Size, going, whole, too-long, sizeOf, plain, begun, grown, resumed, joined, byteIn, stretch, goesOn, sectionsIn, payload, storyAfter}
 use Rattle.collector.specs.Refusals.{isNone, counterPast, heldUnfit, cannotStand}
 use Rattle.collector.specs.declared.Record.{Record}
 use Rattle.collector.specs.declared.Last.{Last}
 use Rattle.collector.specs.declared.Last.the-variants.{Counter}
-use Rattle.collector.proofs.Marks.{bytesOf-more, bytesOf-marked, settled-hand}
-use Rattle.collector.proofs.Runs.{lt-or-ge, total-prefix}
+use Rattle.collector.proofs.MarkLaws.{bytesOf-more, bytesOf-marked, settled-hand}
+use Rattle.collector.proofs.ByteRuns.{lt-or-ge, total-prefix}
 
+-- what may be in hand: an unfinished section, whose first byte is not 0xFF
 pub record Standing (h : List ℕ) : Type 0 where
   pub first : 0 < length h → getD h 0 0 ≡ 255 → ⊥
-  pub more : 3 ≤ length h → (totalOf h ≤ 4096) × (length h < totalOf h)
+  pub unfinished : Unfinished h
 
 pub standing-none : Standing []
-standing-none = record { first = λ k e. omega arith; more = λ k. absurd (omega arith) }
+standing-none = record { first = λ k e. omega arith; unfinished = record { more = λ k. absurd (omega arith) } }
 
 -- ---- one byte
 
 -- what is known of a section that goes on once three bytes are in
 going-tests : (h : List ℕ) (t₁ t₂ t₃ : Bool) → ltb (length h) 3 ≡ t₁ → ltb 4096 (totalOf h) ≡ t₂
     → eqb (length h) (totalOf h) ≡ t₃
-    → (if t₁ then going else (if t₂ then over else (if t₃ then whole else going))) ≡ going → 3 ≤ length h
+    → (if t₁ then going else (if t₂ then too-long else (if t₃ then whole else going))) ≡ going → 3 ≤ length h
     → (totalOf h ≤ 4096) × (length h ≡ totalOf h → ⊥)
 going-tests h true t₂ t₃ e₁ e₂ e₃ e k = let w : length h < 3 = ltb-true _ _ e₁ in absurd (omega arith)
 going-tests h false true t₃ e₁ e₂ e₃ e k = let z : _≡_ {A = ℕ} 0 1 = cc in absurd (omega arith)
@@ -49,28 +50,26 @@ grows h b some x e =
     let long : length (h ++ (b ∷ [])) ≡ length h + 1 = length-append h (b ∷ []) in
     record {
       first = λ k w. x .first some (sym (List·getD-append h (b ∷ []) 0 0 some) ∙ w);
-      more = λ k.
-          let g = going-more (h ++ (b ∷ [])) e k in
-          let below : length h < totalOf (h ++ (b ∷ [])) =
-          ⊎-elim (λ w. omega arith) (λ w. omega (arith, x .more w .1, total-prefix h (b ∷ []) w))
-          (lt-or-ge (length h) 3) in
-          (g .0, omega (arith, g .1));
+      unfinished = record {
+        more = λ k.
+            let g = going-more (h ++ (b ∷ [])) e k in
+            let below : length h < totalOf (h ++ (b ∷ [])) =
+            ⊎-elim (λ w. omega arith) (λ w. omega (arith, x .unfinished .more w .1, total-prefix h (b ∷ []) w))
+            (lt-or-ge (length h) 3) in
+            (g .0, omega (arith, g .1));
+      };
     }
 
 -- in a section something that stands is in hand, and elsewhere nothing is
 abbrev In : Mode → Story ℕ → Type 0
 In begin s = handOf s ≡ []
 In inside s = (0 < length (handOf s)) × Standing (handOf s)
-In filling s = handOf s ≡ []
-In skipping s = handOf s ≡ []
-In breaking s = handOf s ≡ []
+In (outside m) s = handOf s ≡ []
 
 in-stands : (m : Mode) (s : Story ℕ) → In m s → Standing (handOf s)
 in-stands begin s x = subst Standing (sym x) standing-none
 in-stands inside s x = x .1
-in-stands filling s x = subst Standing (sym x) standing-none
-in-stands skipping s x = subst Standing (sym x) standing-none
-in-stands breaking s x = subst Standing (sym x) standing-none
+in-stands (outside m) s x = subst Standing (sym x) standing-none
 
 hand-given : (f : Fate) (b : ℕ) (s : Story ℕ)
     → handOf (given f b s) ≡ handOf s ++ (if sameFate in-hand f then b ∷ [] else [])
@@ -86,33 +85,34 @@ in-begun true b s e x = other-hand (done filler) refl b s x
 in-begun false b s e x =
     let hand : handOf (given in-hand b s) ≡ b ∷ [] = hand-given in-hand b s ∙ ap (λ (h : List ℕ). h ++ (b ∷ [])) x in (
       omega (arith, ap length hand),
-      subst Standing (sym hand) (record { first = λ k w. eqb-false b 255 e w; more = λ k. absurd (omega arith) }),
+      subst Standing (sym hand) (record {
+        first = λ k w. eqb-false b 255 e w;
+        unfinished = record { more = λ k. absurd (omega arith) };
+      }),
     )
 
-module _ (after : Mode) (ends : (s : Story ℕ) → handOf s ≡ [] → In after s) where
-  in-grown : (z : Size) (b : ℕ) (s : Story ℕ) → sizeOf (handOf s ++ (b ∷ [])) ≡ z → In inside s
-      → In (grown after z (given in-hand b s) .mode) (grown after z (given in-hand b s) .story)
-  in-grown going b s e x =
+module _ (comes : List ℕ → Kind) (after : Mode) (ends : (s : Story ℕ) → handOf s ≡ [] → In after s) where
+  in-grown : (k : Kind) (z : Size) (b : ℕ) (s : Story ℕ) → sizeOf (handOf s ++ (b ∷ [])) ≡ z → In inside s
+      → In (grown after k z (given in-hand b s) .mode) (grown after k z (given in-hand b s) .story)
+  in-grown k going b s e x =
       let hand = hand-given in-hand b s in (
         omega (arith, ap length hand, length-append (handOf s) (b ∷ [])),
         subst Standing (sym hand) (grows (handOf s) b (x .0) (x .1) e),
       )
-  in-grown whole b s e x = ends (finished (given in-hand b s)) (settled-hand (done delivered) refl (given in-hand b s .marks))
-  in-grown over b s e x = settled-hand (done broken) refl (given in-hand b s .marks)
+  in-grown k whole b s e x = ends (finished k (given in-hand b s)) (settled-hand (done k) refl (given in-hand b s .marks))
+  in-grown k too-long b s e x = settled-hand (done broken) refl (given in-hand b s .marks)
 
   in-byte : (m : Mode) (b : ℕ) (s : Story ℕ) → In m s
-      → In (byteIn plain after m b s .mode) (byteIn plain after m b s .story)
+      → In (byteIn comes plain after m b s .mode) (byteIn comes plain after m b s .story)
   in-byte begin b s x = in-begun (eqb b 255) b s refl x
   in-byte inside b s x =
-      in-grown (sizeOf (map plain (handOf s ++ (b ∷ [])))) b s (ap sizeOf (sym (map-id (handOf s ++ (b ∷ []))))) x
-  in-byte filling b s x = other-hand (done filler) refl b s x
-  in-byte skipping b s x = other-hand (done skipped) refl b s x
-  in-byte breaking b s x = other-hand (done broken) refl b s x
+      in-grown (comes (map plain (handOf s ++ (b ∷ [])))) (sizeOf (map plain (handOf s ++ (b ∷ [])))) b s (ap sizeOf (sym (map-id (handOf s ++ (b ∷ []))))) x
+  in-byte (outside m) b s x = other-hand (done (kindOf m)) refl b s x
 
   in-stretch : (n : Next ℕ) (bs : List ℕ) → In (n .mode) (n .story)
-      → In (stretch plain after n bs .mode) (stretch plain after n bs .story)
+      → In (stretch comes plain after n bs .mode) (stretch comes plain after n bs .story)
   in-stretch n [] x = x
-  in-stretch n (b ∷ bs) x = in-stretch (byteIn plain after (n .mode) b (n .story)) bs (in-byte (n .mode) b (n .story) x)
+  in-stretch n (b ∷ bs) x = in-stretch (byteIn comes plain after (n .mode) b (n .story)) bs (in-byte (n .mode) b (n .story) x)
 
 -- ---- a packet
 
@@ -120,39 +120,40 @@ in-resumed : (s : Story ℕ) (h : List ℕ) → handOf s ≡ h → Standing h �
 in-resumed s [] e x = e
 in-resumed s (b ∷ h) e x = (omega (arith, ap length e), subst Standing (sym e) x)
 
-stands-goes : (s : Story ℕ) (bs : List ℕ) → Standing (handOf s) → Standing (handOf (goesOn plain s bs))
-stands-goes s bs x =
-    let n : Next ℕ = record { mode = resumed (handOf s); story = s } in
-    let m : Next ℕ = stretch plain filling n bs in
-    in-stands (m .mode) (m .story) (in-stretch filling (λ z e. e) n bs (in-resumed s (handOf s) refl x))
+module _ (comes : List ℕ → Kind) where
+  stands-goes : (s : Story ℕ) (bs : List ℕ) → Standing (handOf s) → Standing (handOf (goesOn comes plain s bs))
+  stands-goes s bs x =
+      let n : Next ℕ = record { mode = resumed (handOf s); story = s } in
+      let m : Next ℕ = stretch comes plain (outside filling) n bs in
+      in-stands (m .mode) (m .story) (in-stretch comes (outside filling) (λ z e. e) n bs (in-resumed s (handOf s) refl x))
 
-stands-sections : (s : Story ℕ) (bs : List ℕ) → handOf s ≡ [] → Standing (handOf (sectionsIn plain s bs))
-stands-sections s bs x =
-    let n : Next ℕ = record { mode = begin; story = s } in
-    let m : Next ℕ = stretch plain begin n bs in
-    in-stands (m .mode) (m .story) (in-stretch begin (λ z e. e) n bs x)
+  stands-sections : (s : Story ℕ) (bs : List ℕ) → handOf s ≡ [] → Standing (handOf (sectionsIn comes plain s bs))
+  stands-sections s bs x =
+      let n : Next ℕ = record { mode = begin; story = s } in
+      let m : Next ℕ = stretch comes plain begin n bs in
+      in-stands (m .mode) (m .story) (in-stretch comes begin (λ z e. e) n bs x)
 
-stands-payload : (t : Bool) (s : Story ℕ) (bs : List ℕ) → Standing (handOf s) → Standing (handOf (payload plain t s bs))
-stands-payload false s bs x = stands-goes s bs x
-stands-payload true s [] x = x
-stands-payload true s (p ∷ bs) x =
-    let y : Story ℕ = goesOn plain (given (done pointer) p s) (take p bs) in
-    stands-sections (brokenOff y) (drop p bs) (settled-hand (done broken) refl (y .marks))
+  stands-payload : (t : Bool) (s : Story ℕ) (bs : List ℕ) → Standing (handOf s) → Standing (handOf (payload comes plain t s bs))
+  stands-payload false s bs x = stands-goes s bs x
+  stands-payload true s [] x = x
+  stands-payload true s (p ∷ bs) x =
+      let y : Story ℕ = goesOn comes plain (given (done pointer) p s) (take p bs) in
+      stands-sections (brokenOff y) (drop p bs) (settled-hand (done broken) refl (y .marks))
 
-stands-joined : (t : Bool) (s : Story ℕ) → Standing (handOf s) → Standing (handOf (joined t s))
-stands-joined true s x = x
-stands-joined false s x = subst Standing (sym (settled-hand (done broken) refl (s .marks))) standing-none
+  stands-joined : (t : Bool) (s : Story ℕ) → Standing (handOf s) → Standing (handOf (joined t s))
+  stands-joined true s x = x
+  stands-joined false s x = subst Standing (sym (settled-hand (done broken) refl (s .marks))) standing-none
 
-pub stands-taken : (before : Before) (h : List ℕ) (q : Carried ℕ) → Standing h
-    → Standing (handOf (takenIn plain before (holding h) q))
-stands-taken before h q x =
-    stands-payload (q .start) (joined (follows before (q .counter)) (holding h)) (q .bytes)
-    (stands-joined (follows before (q .counter)) (holding h) (subst Standing (sym (bytesOf-marked in-hand in-hand h)) x))
+  pub stands-taken : (before : Before) (h : List ℕ) (q : Carried ℕ) → Standing h
+      → Standing (handOf (storyAfter comes plain before (holding h) q))
+  stands-taken before h q x =
+      stands-payload (q .start) (joined (follows before (q .counter)) (holding h)) (q .bytes)
+      (stands-joined (follows before (q .counter)) (holding h) (subst Standing (sym (bytesOf-marked in-hand in-hand h)) x))
 
 -- ---- the record
 
 pub few-standing : (h : List ℕ) → Standing h → length h < 4096
-few-standing h x = ⊎-elim (λ w. omega arith) (λ w. omega (arith, x .more w .0, x .more w .1)) (lt-or-ge (length h) 3)
+few-standing h x = ⊎-elim (λ w. omega arith) (λ w. omega (arith, x .unfinished .more w .0, x .unfinished .more w .1)) (lt-or-ge (length h) 3)
 
 -- what stands in hand is not refused
 held-ok : (h : List ℕ) → Standing h → (rest : List ℕ) → heldUnfit (length h) false (h ++ rest) ≡ false
@@ -168,7 +169,7 @@ held-ok (b ∷ h) x rest =
     header true e =
         let three : 3 ≤ length (b ∷ h) = leb-true _ _ e in
         let same = total-prefix (b ∷ h) rest three in
-        let m = x .more three in
+        let m = x .unfinished .more three in
         let above : length (b ∷ h) < totalOf ((b ∷ h) ++ rest) = omega (arith, m .1, same) in
         let below : totalOf ((b ∷ h) ++ rest) ≤ 4096 = omega (arith, m .0, same) in
         simp (lt-leb _ _ above, le-ltb _ _ below)

@@ -10,6 +10,10 @@ use Rattle.collector.specs.Rules.{Fate, in-hand, done, Mark, sameFate, o
 
 -- ---- lists
 
+alike-fate : (f f′ g : Fate) → sameFate g f ≡ sameFate g f′ → (k : Fate) → sameFate g (outOfHand f k) ≡ sameFate g (outOfHand f′ k)
+alike-fate f f′ g e (done k) = refl
+alike-fate f f′ g e in-hand = e
+
 module _ {A : Type 0} where
   pub flatten-append : (a c : List (List A)) → flatten (a ++ c) ≡ flatten a ++ flatten c
   unfolding flatten
@@ -23,7 +27,7 @@ module _ {A : Type 0} where
   pub flatten-snoc : (a : List (List A)) (s : List A) → flatten (a ++ (s ∷ [])) ≡ flatten a ++ s
   flatten-snoc a s = flatten-append a (s ∷ []) ∙ ap (λ (l : List A). flatten a ++ l) (flatten-one s)
 
-  if-cons : (t : Bool) (b : A) (x y : List A) → (if t then b ∷ x else x) ++ y ≡ (if t then b ∷ (x ++ y) else x ++ y)
+  pub if-cons : (t : Bool) (b : A) (x y : List A) → (if t then b ∷ x else x) ++ y ≡ (if t then b ∷ (x ++ y) else x ++ y)
   if-cons true b x y = refl
   if-cons false b x y = refl
 
@@ -73,6 +77,13 @@ module _ {A : Type 0} where
   settled-as f g h e (m ∷ ms) =
       ap (λ (t : Bool). if t then m .byte ∷ bytesOf g (settled f ms) else bytesOf g (settled f ms)) (e (m .fate))
       ∙ ap (λ (l : List A). if sameFate h (m .fate) then m .byte ∷ l else l) (settled-as f g h e ms)
+
+  -- where a test finds of two fates the same, it does not matter to which of them what was in hand is settled
+  pub settled-alike : (f f′ g : Fate) → sameFate g f ≡ sameFate g f′ → (ms : List (Mark A)) → bytesOf g (settled f ms) ≡ bytesOf g (settled f′ ms)
+  settled-alike f f′ g e [] = refl
+  settled-alike f f′ g e (m ∷ ms) =
+      ap (λ (t : Bool). if t then m .byte ∷ bytesOf g (settled f ms) else bytesOf g (settled f ms)) (alike-fate f f′ g e (m .fate))
+      ∙ ap (λ (l : List A). if sameFate g (outOfHand f′ (m .fate)) then m .byte ∷ l else l) (settled-alike f f′ g e ms)
 
 -- a fate that is neither in hand nor what this is settled to is found where it was
 other-fate : (f g : Fate) → sameFate g f ≡ false → sameFate g in-hand ≡ false → (k : Fate) → sameFate g (outOfHand f k) ≡ sameFate g k

@@ -11,15 +11,15 @@ use lib.Dec.{eqb}
 use borrow.Author.Tests.{eq-eqb, ne-eqb}
 use Rattle.wire.specs.If.{if_then_else_}
 use Rattle.packet.specs.Sections.{totalOf}
-use Rattle.collector.specs.Rules.{Fate, delivered, broken, filler, done, in-hand, Mark, Story, sameFate, bytesOf, handOf, marked, given, settled, brokenOff, finished, holding, begin, inside, filling, Next, begun, plain, stretch, sectionsIn}
+use Rattle.collector.specs.Rules.{Fate, delivered, broken, filler, done, in-hand, Mark, Story, sameFate, bytesOf, handOf, marked, given, settled, brokenOff, finished, holding, begin, inside, outside, filling, Next, begun, plain, stretch, sectionsIn, delivers}
 use Rattle.collector.specs.Collected.{over}
-use Rattle.collector.specs.Inner.Stretch.{LookSays, cameWith, Ends}
+use Rattle.collector.specs.Inner.Stretch.{LookSays, gainWith, Ends}
 use Rattle.collector.specs.declared.stretch.Look.{Look}
 use Rattle.collector.specs.declared.stretch.Look.the-variants.{Going, Over, Whole}
-use Rattle.collector.specs.declared.stretch.Came.{Came}
-use Rattle.collector.proofs.Counters.{came-with}
-use Rattle.collector.proofs.Marks.{flatten-snoc, bytesOf-more, bytesOf-marked, marked-append, settled-append, settled-marked}
-use Rattle.collector.proofs.Runs.{place, all, all-none, hand-all, pass, grow-short, grow-going, law-over, law-whole}
+use Rattle.collector.specs.declared.stretch.Gain.{Gain}
+use Rattle.collector.proofs.Counters.{gain-with}
+use Rattle.collector.proofs.MarkLaws.{flatten-snoc, bytesOf-more, bytesOf-marked, marked-append, settled-append, settled-marked}
+use Rattle.collector.proofs.ByteRuns.{place, all, all-none, hand-all, pass, grow-short, grow-going, law-over, law-whole}
 use Rattle.collector.proofs.Rooms.{laid, laid-none, laid-more, ends-as}
 
 -- ---- the story of a stretch of which only whole sections have come, with bytes of one more fate after them
@@ -28,7 +28,7 @@ abbrev pub made : List (List ℕ) → Story ℕ
 made secs = record { marks = marked (done delivered) (flatten secs); sections = secs }
 
 -- one section more
-pub made-more : (secs : List (List ℕ)) (s : List ℕ) → finished (all in-hand s (made secs)) ≡ made (secs ++ (s ∷ []))
+pub made-more : (secs : List (List ℕ)) (s : List ℕ) → finished delivered (all in-hand s (made secs)) ≡ made (secs ++ (s ∷ []))
 made-more secs s = λ i. record { marks = marks-is i; sections = secs ++ (hand-is i ∷ []) }
   where
     hand-is : handOf (all in-hand s (made secs)) ≡ s
@@ -59,9 +59,9 @@ rest-of f g secs l e =
     ∙ ap (λ (x : List ℕ). x ++ (if sameFate f g then l else [])) (bytesOf-marked f (done delivered) (flatten secs) ∙ ap (λ (t : Bool). if t then flatten secs else []) e)
 
 -- the answer where m bytes have the fate g, behind so many sections with so many bytes
-abbrev pub answerOf : Fate → ℕ → ℕ → ℕ → Came
+abbrev pub answerOf : Fate → ℕ → ℕ → ℕ → Gain
 answerOf g sections bytes m =
-    cameWith (if sameFate in-hand g then m else 0) sections bytes (λ k. if sameFate (done k) g then m else 0)
+    gainWith (if sameFate in-hand g then m else 0) sections bytes (λ k. if sameFate (done k) g then m else 0)
 
 if-long : (t : Bool) (l : List ℕ) (m : ℕ) → m ≡ length l → (if t then m else 0) ≡ length (if t then l else [])
 if-long true l m e = e
@@ -76,7 +76,7 @@ ends-made g secs l hold out at hold′ out′ n b m number bytes long eh eo = re
   sections = number;
   bytes = bytes;
   counts = λ k p d.
-      came-with (if sameFate in-hand g then m else 0) n b (λ j. if sameFate (done j) g then m else 0) k p d
+      gain-with (if sameFate in-hand g then m else 0) n b (λ j. if sameFate (done j) g then m else 0) k p d
       ∙ if-long (sameFate (done k) g) l m long
       ∙ ap length (sym (rest-of (done k) g secs l d));
   the-hold = eh ∙ ap (λ (x : List ℕ). over x hold) (sym (rest-of in-hand g secs l refl));
@@ -87,7 +87,7 @@ ends-made g secs l hold out at hold′ out′ n b m number bytes long eh eo = re
 
 module _ (secs : List (List ℕ)) where
   abbrev from : List ℕ → Story ℕ
-  from l = sectionsIn plain (made secs) l
+  from l = sectionsIn delivers plain (made secs) l
 
   abbrev first : ℕ → Story ℕ
   first b = all in-hand (b ∷ []) (made secs)
@@ -101,12 +101,12 @@ module _ (secs : List (List ℕ)) where
 
   turn-filler : (b : ℕ) (l : List ℕ) → eqb b 255 ≡ true → from (b ∷ l) ≡ all (done filler) (b ∷ l) (made secs)
   turn-filler b l e =
-      ap (λ (t : Bool). stretch plain begin (begun t b (made secs)) l .story) e
-      ∙ ap (λ (n : Next ℕ). n .story) (pass begin filling (done filler) (λ c s. refl) (given (done filler) b (made secs)) l)
+      ap (λ (t : Bool). stretch delivers plain begin (begun t b (made secs)) l .story) e
+      ∙ ap (λ (n : Next ℕ). n .story) (pass delivers begin (outside filling) (done filler) (λ c s. refl) (given (done filler) b (made secs)) l)
       ∙ (λ i. record { marks = append-assoc (marked (done delivered) (flatten secs)) (marked (done filler) (b ∷ [])) (marked (done filler) l) i; sections = secs })
 
-  turn-first : (b : ℕ) (l : List ℕ) → eqb b 255 ≡ false → from (b ∷ l) ≡ stretch plain begin (place inside (first b)) l .story
-  turn-first b l e = ap (λ (t : Bool). stretch plain begin (begun t b (made secs)) l .story) e
+  turn-first : (b : ℕ) (l : List ℕ) → eqb b 255 ≡ false → from (b ∷ l) ≡ stretch delivers plain begin (place inside (first b)) l .story
+  turn-first b l e = ap (λ (t : Bool). stretch delivers plain begin (begun t b (made secs)) l .story) e
 
   -- the run from the section's first byte on, as its header sees it
   here : (b : ℕ) (l : List ℕ) → handOf (first b) ++ l ≡ b ∷ l
@@ -117,28 +117,28 @@ module _ (secs : List (List ℕ)) where
       let v = sym (here b l) in
       turn-first b l e
       ∙ ap (λ (n : Next ℕ). n .story)
-      (⊎-elim (λ w. grow-short begin (first b) l (subst (λ (x : List ℕ). length x < 3) v w))
-      (λ w. grow-going begin (first b) l (subst (λ (x : List ℕ). totalOf x ≤ 4096) v (w .1)) (subst (λ (x : List ℕ). length x < totalOf x) v (w .2))) says)
+      (⊎-elim (λ w. grow-short delivers begin (first b) l (subst (λ (x : List ℕ). length x < 3) v w))
+      (λ w. grow-going delivers begin (first b) l (subst (λ (x : List ℕ). totalOf x ≤ 4096) v (w .1)) (subst (λ (x : List ℕ). length x < totalOf x) v (w .2))) says)
       ∙ first-more b l
 
   turn-over : (b : ℕ) (l : List ℕ) → eqb b 255 ≡ false → LookSays (b ∷ l) Over → from (b ∷ l) ≡ all (done broken) (b ∷ l) (made secs)
   turn-over b l e says =
       let v = sym (here b l) in
       turn-first b l e
-      ∙ ap (λ (n : Next ℕ). n .story) (law-over begin (first b) l (omega (arith, ap length (first-hand b))) (subst (λ (x : List ℕ). 3 ≤ length x) v (says .0)) (subst (λ (x : List ℕ). 4096 < totalOf x) v (says .1)))
+      ∙ ap (λ (n : Next ℕ). n .story) (law-over delivers begin (first b) l (omega (arith, ap length (first-hand b))) (subst (λ (x : List ℕ). 3 ≤ length x) v (says .0)) (subst (λ (x : List ℕ). 4096 < totalOf x) v (says .1)))
       ∙ ap brokenOff (first-more b l)
       ∙ made-broken secs (b ∷ l)
 
-  turn-whole : (b : ℕ) (l : List ℕ) (t : ℕ) → eqb b 255 ≡ false → LookSays (b ∷ l) (Whole t) → from (b ∷ l) ≡ sectionsIn plain (made (secs ++ (take t (b ∷ l) ∷ []))) (drop t (b ∷ l))
+  turn-whole : (b : ℕ) (l : List ℕ) (t : ℕ) → eqb b 255 ≡ false → LookSays (b ∷ l) (Whole t) → from (b ∷ l) ≡ sectionsIn delivers plain (made (secs ++ (take t (b ∷ l) ∷ []))) (drop t (b ∷ l))
   turn-whole b l zero e says = absurd (omega (arith, says .1))
   turn-whole b l (suc k) e says =
       let v = sym (here b l) in
       let one : length (handOf (first b)) ≡ 1 = ap length (first-hand b) in
       let same : totalOf (handOf (first b) ++ l) ≡ suc k = ap totalOf (here b l) ∙ sym (says .1) in
       turn-first b l e
-      ∙ ap (λ (n : Next ℕ). n .story) (law-whole begin (first b) l k (omega (arith, one, same)) (omega (arith, says .1)) (omega (arith, same, says .2)) (omega (arith, says .3)))
-      ∙ ap (λ (s : Story ℕ). sectionsIn plain (finished s) (drop k l)) (first-more b (take k l))
-      ∙ ap (λ (s : Story ℕ). sectionsIn plain s (drop k l)) (made-more secs (b ∷ take k l))
+      ∙ ap (λ (n : Next ℕ). n .story) (law-whole delivers begin (first b) l k (omega (arith, one, same)) (omega (arith, says .1)) (omega (arith, same, says .2)) (omega (arith, says .3)))
+      ∙ ap (λ (s : Story ℕ). sectionsIn delivers plain (finished delivered s) (drop k l)) (first-more b (take k l))
+      ∙ ap (λ (s : Story ℕ). sectionsIn delivers plain s (drop k l)) (made-more secs (b ∷ take k l))
 
 -- ---- where the loop stands: the sections of which secs came, up to index i of the packet, are in out up to index o
 
@@ -153,7 +153,7 @@ pub record Turn (packet : List ℕ) (from : ℕ) (hold₀ out₀ : List ℕ) (at
   pub the-hold : hold ≡ hold₀
   pub hold-long : length hold ≡ length hold₀
   pub the-out : out ≡ laid out₀ at (flatten secs)
-  pub so-far : sectionsIn plain (holding []) (drop from packet) ≡ sectionsIn plain (made secs) (drop i packet)
+  pub so-far : sectionsIn delivers plain (holding []) (drop from packet) ≡ sectionsIn delivers plain (made secs) (drop i packet)
 
 -- at the start no section has come
 pub none-yet : (packet : List ℕ) (from : ℕ) (hold out : List ℕ) (at : ℕ) → from ≤ length packet → at + (length packet - from) ≤ length out → Turn packet from hold out at hold out from at 0
@@ -166,11 +166,11 @@ look-here p i r r′ k says e =
     subst (λ (l : List ℕ). LookSays l r′) (take-all (length p - i) (drop i p) (omega (arith, length-drop i p)) ∙ drop-cons p i 0 k) (subst (LookSays (take (length p - i) (drop i p))) e says)
 
 module _ {p : List ℕ} {from : ℕ} {hold₀ out₀ : List ℕ} {at : ℕ} {hold out : List ℕ} {i o n : ℕ} (x : Turn p from hold₀ out₀ at hold out i o n) where
-  abbrev End : List ℕ → Came → Type 0
-  End hold′ r = Ends (sectionsIn plain (holding []) (drop from p)) hold₀ out₀ at hold′ out r
+  abbrev End : List ℕ → Gain → Type 0
+  End hold′ r = Ends (sectionsIn delivers plain (holding []) (drop from p)) hold₀ out₀ at hold′ out r
 
   -- the answer where so many bytes behind the sections have the fate g
-  abbrev answer : Fate → ℕ → Came
+  abbrev answer : Fate → ℕ → Gain
   answer g m = answerOf g n (o - at) m
 
   bytes-long : o - at ≡ length (flatten (x .secs))
@@ -178,7 +178,7 @@ module _ {p : List ℕ} {from : ℕ} {hold₀ out₀ : List ℕ} {at : ℕ} {hol
 
   pub end-all : length p ≤ i → End hold (answer (done filler) 0)
   end-all k =
-      ends-as (all (done filler) [] (made (x .secs))) (x .so-far ∙ ap (sectionsIn plain (made (x .secs))) (drop-of-length-le p k) ∙ sym (all-none (done filler) (made (x .secs))))
+      ends-as (all (done filler) [] (made (x .secs))) (x .so-far ∙ ap (sectionsIn delivers plain (made (x .secs))) (drop-of-length-le p k) ∙ sym (all-none (done filler) (made (x .secs))))
       (ends-made (done filler) (x .secs) [] hold₀ out₀ at hold out n (o - at) 0 (x .number) bytes-long refl (x .the-hold) (x .the-out))
 
   module _ (k : i < length p) where
@@ -191,8 +191,8 @@ module _ {p : List ℕ} {from : ℕ} {hold₀ out₀ : List ℕ} {at : ℕ} {hol
     cons : drop i p ≡ b ∷ rest
     cons = drop-cons p i 0 k
 
-    now-here : sectionsIn plain (holding []) (drop from p) ≡ sectionsIn plain (made (x .secs)) (b ∷ rest)
-    now-here = x .so-far ∙ ap (sectionsIn plain (made (x .secs))) cons
+    now-here : sectionsIn delivers plain (holding []) (drop from p) ≡ sectionsIn delivers plain (made (x .secs)) (b ∷ rest)
+    now-here = x .so-far ∙ ap (sectionsIn delivers plain (made (x .secs))) cons
 
     long-here : length p - i ≡ length (b ∷ rest)
     long-here = omega (arith, length-drop (suc i) p)
@@ -240,6 +240,6 @@ module _ {p : List ℕ} {from : ℕ} {hold₀ out₀ : List ℕ} {at : ℕ} {hol
           hold-long = x .hold-long;
           the-out = w ∙ ap (λ (z : List ℕ). paste z o (drop i p) t) (x .the-out) ∙ ap (λ (m : ℕ). paste (laid out₀ at (flatten (x .secs))) m (drop i p) t) (x .place) ∙ laid-more out₀ at (flatten (x .secs)) (drop i p) t fits (omega (arith, whole-in, length-drop i p)) ∙ ap (laid out₀ at) (sym more);
           so-far = now-here ∙ turn-whole (x .secs) b rest t (ne-eqb b 255 other) said
-              ∙ ap (λ (z : List ℕ). sectionsIn plain (made (x .secs ++ (take t z ∷ []))) (drop t z)) (sym cons)
-              ∙ ap (sectionsIn plain (made (x .secs ++ (take t (drop i p) ∷ [])))) (drop-drop t i p);
+              ∙ ap (λ (z : List ℕ). sectionsIn delivers plain (made (x .secs ++ (take t z ∷ []))) (drop t z)) (sym cons)
+              ∙ ap (sectionsIn delivers plain (made (x .secs ++ (take t (drop i p) ∷ [])))) (drop-drop t i p);
         }

@@ -8,18 +8,18 @@ use native.Mathlib.Omega.{arith}
 use lib.ListN.{length, take, drop, length-drop}
 use lib.Seq.{paste, length-take-le, take-append-add, take-take}
 use Rattle.wire.specs.If.{if_then_else_}
-use Rattle.packet.specs.Sections.{totalOf}
-use Rattle.collector.specs.Rules.{Fate, delivered, broken, filler, skipped, done, in-hand, Mark, Story, sameFate, outOfHand, handOf, marked, settled, brokenOff, finished, holding, Mode, inside, filling, skipping, Next, joined, resumed, plain, stretch, goesOn}
+use Rattle.packet.specs.Sections.{totalOf, Unfinished}
+use Rattle.collector.specs.Rules.{Fate, delivered, broken, filler, done, in-hand, Mark, Story, sameFate, outOfHand, handOf, marked, settled, brokenOff, finished, holding, kindOf, Mode, inside, outside, filling, skipping, Next, joined, resumed, plain, stretch, goesOn, delivers}
 use Rattle.collector.specs.Collected.{over}
-use Rattle.collector.specs.Inner.Stretch.{LookSays, Ends, CanStand}
+use Rattle.collector.specs.Inner.Stretch.{LookSays, Ends}
 use Rattle.collector.specs.declared.stretch.Look.{Look}
 use Rattle.collector.specs.declared.stretch.Look.the-variants.{Going, Over, Whole}
-use Rattle.collector.specs.declared.stretch.Came.{Came}
-use Rattle.collector.proofs.Marks.{flatten-one, settled-append, settled-marked}
-use Rattle.collector.proofs.Runs.{place, all, all-append, lt-or-ge, total-prefix, pass, grow-short, grow-going, law-over, law-whole}
-use Rattle.collector.proofs.Seam.{seam-length}
+use Rattle.collector.specs.declared.stretch.Gain.{Gain}
+use Rattle.collector.proofs.MarkLaws.{flatten-one, settled-append, settled-marked}
+use Rattle.collector.proofs.ByteRuns.{place, all, all-append, lt-or-ge, total-prefix, pass, grow-short, grow-going, law-over, law-whole}
+use Rattle.collector.proofs.HoldThenPacket.{seam-length}
 use Rattle.collector.proofs.Rooms.{laid, laid-none, laid-more, ends-as}
-use Rattle.collector.proofs.Turns.{answerOf, made, made-more, made-broken, rest-of, ends-made}
+use Rattle.collector.proofs.SectionLoop.{answerOf, made, made-more, made-broken, rest-of, ends-made}
 
 -- ---- the story of a stretch that begins with bytes in hand
 
@@ -58,7 +58,7 @@ joined-made false g secs l e = λ i. record { marks = marks-is i; sections = sec
 pub record Given (hold p : List ℕ) (n from m : ℕ) : Type 0 where
   pub in-hold : n ≤ length hold
   pub in-packet : from + m ≤ length p
-  pub stands : CanStand (take n hold)
+  pub stands : Unfinished (take n hold)
 
 module _ {hold p : List ℕ} {n from m : ℕ} (x : Given hold p n from m) (out : List ℕ) (keep : Bool) where
   abbrev h : List ℕ
@@ -67,8 +67,8 @@ module _ {hold p : List ℕ} {n from m : ℕ} (x : Given hold p n from m) (out :
   abbrev l : List ℕ
   l = take m (drop from p)
 
-  abbrev End : List ℕ → List ℕ → Came → Type 0
-  End hold′ out′ r = Ends (joined keep (goesOn plain (holding h) l)) hold out 0 hold′ out′ r
+  abbrev End : List ℕ → List ℕ → Gain → Type 0
+  End hold′ out′ r = Ends (joined keep (goesOn delivers plain (holding h) l)) hold out 0 hold′ out′ r
 
   h-long : length h ≡ n
   h-long = length-take-le n hold (x .in-hold)
@@ -89,27 +89,27 @@ module _ {hold p : List ℕ} {n from m : ℕ} (x : Given hold p n from m) (out :
   no-bytes = refl
 
   -- the answer where all bytes have one fate
-  end-one : (g : Fate) (bs : List ℕ) → joined keep (goesOn plain (holding h) l) ≡ all g bs (made []) → (hold′ : List ℕ) (j : ℕ)
+  end-one : (g : Fate) (bs : List ℕ) → joined keep (goesOn delivers plain (holding h) l) ≡ all g bs (made []) → (hold′ : List ℕ) (j : ℕ)
       → j ≡ length bs
       → hold′ ≡ over (if sameFate in-hand g then bs else []) hold → End hold′ out (answerOf g 0 0 j)
   end-one g bs e hold′ j long eh =
       ends-as (all g bs (made [])) e (ends-made g [] bs hold out 0 hold′ out 0 0 j refl no-bytes long eh out-same)
 
-  pub end-none : n ≡ 0 → End hold out (answerOf (done skipped) 0 0 m)
+  pub end-none : n ≡ 0 → End hold out (answerOf (done (kindOf skipping)) 0 0 m)
   end-none e =
       let empty : h ≡ [] = ap (λ (k : ℕ). take k hold) e in
-      let is : goesOn plain (holding h) l ≡ all (done skipped) l (made []) =
-      ap (λ (z : List ℕ). goesOn plain (holding z) l) empty ∙ ap (λ (z : Next ℕ). z .story) (pass filling skipping (done skipped) (λ b s. refl) (holding []) l) ∙ ap (λ (z : Story ℕ). all (done skipped) l z) nothing in
-      end-one (done skipped) l (ap (joined keep) is ∙ joined-made keep (done skipped) [] l refl) hold m l-long refl
+      let is : goesOn delivers plain (holding h) l ≡ all (done (kindOf skipping)) l (made []) =
+      ap (λ (z : List ℕ). goesOn delivers plain (holding z) l) empty ∙ ap (λ (z : Next ℕ). z .story) (pass delivers (outside filling) (outside skipping) (done (kindOf skipping)) (λ b s. refl) (holding []) l) ∙ ap (λ (z : Story ℕ). all (done (kindOf skipping)) l z) nothing in
+      end-one (done (kindOf skipping)) l (ap (joined keep) is ∙ joined-made keep (done (kindOf skipping)) [] l refl) hold m l-long refl
 
   module _ (other : n ≡ 0 → ⊥) (r : Look) (says : LookSays (h ++ l) r) where
     some : 0 < n
     some = omega arith
 
-    goes : goesOn plain (holding h) l ≡ stretch plain filling (place inside (start h)) l .story
+    goes : goesOn delivers plain (holding h) l ≡ stretch delivers plain (outside filling) (place inside (start h)) l .story
     goes =
-        ap (λ (z : Story ℕ). goesOn plain z l) (start-is h)
-        ∙ ap (λ (z : Mode). stretch plain filling (place z (start h)) l .story) (ap resumed (start-hand h) ∙ resumed-in h (omega (arith, some, h-long)))
+        ap (λ (z : Story ℕ). goesOn delivers plain z l) (start-is h)
+        ∙ ap (λ (z : Mode). stretch delivers plain (outside filling) (place z (start h)) l .story) (ap resumed (start-hand h) ∙ resumed-in h (omega (arith, some, h-long)))
 
     -- what the look says, of the run as the rules see it
     run-is : h ++ l ≡ handOf (start h) ++ l
@@ -121,10 +121,10 @@ module _ {hold p : List ℕ} {n from m : ℕ} (x : Given hold p n from m) (out :
     more-hand : all in-hand l (start h) ≡ all in-hand (h ++ l) (made [])
     more-hand = all-append in-hand h l (made [])
 
-    going-is : r ≡ Going → goesOn plain (holding h) l ≡ all in-hand (h ++ l) (made [])
+    going-is : r ≡ Going → goesOn delivers plain (holding h) l ≡ all in-hand (h ++ l) (made [])
     going-is e =
         goes
-        ∙ ap (λ (z : Next ℕ). z .story) (⊎-elim (λ w. grow-short filling (start h) l w) (λ w. grow-going filling (start h) l (w .1) (w .2)) (has Going e))
+        ∙ ap (λ (z : Next ℕ). z .story) (⊎-elim (λ w. grow-short delivers (outside filling) (start h) l w) (λ w. grow-going delivers (outside filling) (start h) l (w .1) (w .2)) (has Going e))
         ∙ more-hand
 
     pub going-in : r ≡ Going → n + m < 4096
@@ -132,20 +132,20 @@ module _ {hold p : List ℕ} {n from m : ℕ} (x : Given hold p n from m) (out :
 
     pub end-kept : keep ≡ true → r ≡ Going → (hold′ : List ℕ) → hold′ ≡ paste hold n (drop from p) m → End hold′ out (answerOf in-hand 0 0 (n + m))
     end-kept k e hold′ w =
-        end-one in-hand (h ++ l) (ap (λ (z : Bool). joined z (goesOn plain (holding h) l)) k ∙ going-is e) hold′ (n + m) both-long
+        end-one in-hand (h ++ l) (ap (λ (z : Bool). joined z (goesOn delivers plain (holding h) l)) k ∙ going-is e) hold′ (n + m) both-long
         (w ∙ ap (λ (z : ℕ). (h ++ l) ++ drop z hold) both-long)
 
     pub end-dropped : keep ≡ false → r ≡ Going → End hold out (answerOf (done broken) 0 0 (n + m))
     end-dropped k e =
-        end-one (done broken) (h ++ l) (ap (λ (z : Bool). joined z (goesOn plain (holding h) l)) k ∙ ap brokenOff (going-is e) ∙ made-broken [] (h ++ l)) hold (n + m) both-long refl
+        end-one (done broken) (h ++ l) (ap (λ (z : Bool). joined z (goesOn delivers plain (holding h) l)) k ∙ ap brokenOff (going-is e) ∙ made-broken [] (h ++ l)) hold (n + m) both-long refl
 
     pub end-over : r ≡ Over → End hold out (answerOf (done broken) 0 0 (n + m))
     end-over e =
         let o = has Over e in
         let o₂ = subst (LookSays (h ++ l)) e says in
         let few : length h < 3 = ⊎-elim (λ w. w) (λ w. absurd (omega (arith, x .stands .more w .0, total-prefix h l w, o₂ .1))) (lt-or-ge (length h) 3) in
-        let is : goesOn plain (holding h) l ≡ all (done broken) (h ++ l) (made []) =
-        goes ∙ ap (λ (z : Next ℕ). z .story) (law-over filling (start h) l (subst (λ (z : List ℕ). length z < 3) (sym (start-hand h)) few) (o .0) (o .1)) ∙ ap brokenOff more-hand ∙ made-broken [] (h ++ l) in
+        let is : goesOn delivers plain (holding h) l ≡ all (done broken) (h ++ l) (made []) =
+        goes ∙ ap (λ (z : Next ℕ). z .story) (law-over delivers (outside filling) (start h) l (subst (λ (z : List ℕ). length z < 3) (sym (start-hand h)) few) (o .0) (o .1)) ∙ ap brokenOff more-hand ∙ made-broken [] (h ++ l) in
         end-one (done broken) (h ++ l) (ap (joined keep) is ∙ joined-made keep (done broken) [] (h ++ l) refl) hold (n + m) both-long refl
 
     module _ (t : ℕ) (e : r ≡ Whole t) where
@@ -167,15 +167,15 @@ module _ {hold p : List ℕ} {n from m : ℕ} (x : Given hold p n from m) (out :
       s-long : t ≡ length s
       s-long = sym (ap length (sym (take-append-add h l k)) ∙ length-take-le (length h + k) (h ++ l) (omega (arith, h-long, o .3, whole-in)) ∙ omega (arith, h-long, whole-in))
 
-      whole-is : goesOn plain (holding h) l ≡ all (done filler) (drop k l) (made (s ∷ []))
+      whole-is : goesOn delivers plain (holding h) l ≡ all (done filler) (drop k l) (made (s ∷ []))
       whole-is =
           let total : totalOf (handOf (start h) ++ l) ≡ t = ap totalOf (sym run-is) ∙ sym (o .1) in
           let long : length (handOf (start h)) ≡ n = ap length (start-hand h) ∙ h-long in
           goes
-          ∙ ap (λ (z : Next ℕ). z .story) (law-whole filling (start h) l k (omega (arith, total, long, whole-in)) (omega (arith, whole-in)) (omega (arith, total, o .2)) (omega (arith, whole-in, l-long)))
-          ∙ ap (λ (z : Story ℕ). stretch plain filling (place filling (finished z)) (drop k l) .story) (all-append in-hand h (take k l) (made []))
-          ∙ ap (λ (z : Story ℕ). stretch plain filling (place filling z) (drop k l) .story) (made-more [] s)
-          ∙ ap (λ (z : Next ℕ). z .story) (pass filling filling (done filler) (λ b s. refl) (made (s ∷ [])) (drop k l))
+          ∙ ap (λ (z : Next ℕ). z .story) (law-whole delivers (outside filling) (start h) l k (omega (arith, total, long, whole-in)) (omega (arith, whole-in)) (omega (arith, total, o .2)) (omega (arith, whole-in, l-long)))
+          ∙ ap (λ (z : Story ℕ). stretch delivers plain (outside filling) (place (outside filling) (finished delivered z)) (drop k l) .story) (all-append in-hand h (take k l) (made []))
+          ∙ ap (λ (z : Story ℕ). stretch delivers plain (outside filling) (place (outside filling) z) (drop k l) .story) (made-more [] s)
+          ∙ ap (λ (z : Next ℕ). z .story) (pass delivers (outside filling) (outside filling) (done filler) (λ b s. refl) (made (s ∷ [])) (drop k l))
 
       pub end-whole : (out′ out″ : List ℕ) → out′ ≡ paste out 0 hold n → out″ ≡ paste out′ n (drop from p) k → End hold out″ (answerOf (done filler) 1 t (m - k))
       end-whole out′ out″ w₁ w₂ =

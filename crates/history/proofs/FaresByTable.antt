@@ -13,13 +13,13 @@ use borrow.Author.Tests.{eqb-true, eqb-false}
 use Rattle.wire.specs.If.{if_then_else_}
 use Rattle.packet.specs.Each.{Each}
 use Rattle.packet.specs.Header.{startFlag, control, counterOf, payloadFrom}
-use Rattle.packet.specs.Ruling.{Before, Carried, repeats, Ruling, takes, contentOf, ruledBy, ruling}
+use Rattle.packet.specs.Ruling.{Before, Carried, repeats, Ruling, takes, loadOf, ruledBy, ruling}
 use Rattle.packet.specs.Refusals.{Row, refusals, firstOf, has-payload, judgedBy, judged}
 use Rattle.packet.specs.Refusals as Refusals
 use Rattle.packet.specs.Ruling as Ruled
 use Rattle.collector.specs.Refusals.{tooSmall}
 use Rattle.packet.proofs.Table.{none-of, all-passed}
-use Rattle.history.specs.Run.{Call, Fare, taken, fareOf, ruledFare, carriedIf, takenOf, lentOf, rulingOn, beforeAfter, carriedBy, faresFrom, takenFrom, NotRepeated}
+use Rattle.history.specs.Run.{Call, Fare, taken, fareOf, ruledFare, ifSaidTaken, saidTaken, lentOf, rulingOn, beforeAfter, ruledIn, faresFrom, ruledTaken, NotRepeated}
 use Rattle.history.specs.Run as R
 use Rattle.history.specs.Demand1.{First}
 
@@ -72,9 +72,9 @@ new-taken q true = (
 )
 new-taken q false = (λ w. refl, λ w. refl)
 
-new-carried : (p : List ℕ) (q : Carried ℕ) (t : Bool) → carriedIf taken p ≡ q ∷ []
-    → carriedIf (ruledFare (if t then Ruled.repeated else takes q)) p
-    ≡ carriedBy (if t then Ruled.repeated else takes q)
+new-carried : (p : List ℕ) (q : Carried ℕ) (t : Bool) → ifSaidTaken taken p ≡ q ∷ []
+    → ifSaidTaken (ruledFare (if t then Ruled.repeated else takes q)) p
+    ≡ ruledIn (if t then Ruled.repeated else takes q)
 new-carried p q true e = refl
 new-carried p q false e = e
 
@@ -83,7 +83,7 @@ module _ (small unfit : Bool) (pid : ℕ) (before : Before) (p : List ℕ) where
   rows = refusals small unfit pid p
 
   abbrev here : Carried ℕ
-  here = contentOf p (payloadFrom p) (startFlag p) (counterOf p)
+  here = loadOf p (payloadFrom p) (startFlag p) (counterOf p)
 
   -- what no row refuses, by its adaptation control
   abbrev passedOn : Bool → Ruling
@@ -134,20 +134,20 @@ module _ (small unfit : Bool) (pid : ℕ) (before : Before) (p : List ℕ) where
 
   -- ---- what the answer calls taken is what is taken
 
-  carried-passed : (t : Bool) → eqb (control p) 2 ≡ t → carriedIf (ruledFare (passedOn t)) p ≡ carriedBy (passedOn t)
+  carried-passed : (t : Bool) → eqb (control p) 2 ≡ t → ifSaidTaken (ruledFare (passedOn t)) p ≡ ruledIn (passedOn t)
   carried-passed true e = ap (λ (t : Bool). if t then [] else here ∷ []) e
   carried-passed false e =
       new-carried p here (repeats before (counterOf p)) (ap (λ (t : Bool). if t then [] else here ∷ []) e)
 
   carried-at : (o : Option ℕ)
-      → carriedIf (ruledFare (ruledBy before p (judgedBy o p))) p ≡ carriedBy (ruledBy before p (judgedBy o p))
+      → ifSaidTaken (ruledFare (ruledBy before p (judgedBy o p))) p ≡ ruledIn (ruledBy before p (judgedBy o p))
   carried-at (some n) = refl
   carried-at none = carried-passed (eqb (control p) 2) refl
 
-  pub carried-alike : carriedIf (ruledFare (ruling small unfit pid before p)) p
-      ≡ carriedBy (ruling small unfit pid before p)
+  pub ruled-in-alike : ifSaidTaken (ruledFare (ruling small unfit pid before p)) p
+      ≡ ruledIn (ruling small unfit pid before p)
   unfolding judged
-  carried-alike = carried-at (firstOf rows)
+  ruled-in-alike = carried-at (firstOf rows)
 
 -- ---- over the calls of a run
 
@@ -161,11 +161,11 @@ fares-cut pid size before k ks e = (cc, cc)
 
 pub taken-alike : (pid size : ℕ) (before : Before) (ks : List Call)
     → map (λ k. fareOf (k .said)) ks ≡ faresFrom pid size before (map lentOf ks)
-    → takenOf ks ≡ takenFrom pid size before (map lentOf ks)
+    → saidTaken ks ≡ ruledTaken pid size before (map lentOf ks)
 taken-alike pid size before [] e = refl
 taken-alike pid size before (k ∷ ks) e =
     let w = fares-cut pid size before k ks e in
-    let one : carriedIf (fareOf (k .said)) (k .packet) ≡ carriedBy (rulingOn pid size before (lentOf k)) =
-    ap (λ (f : Fare). carriedIf f (k .packet)) (w .0)
-    ∙ carried-alike (tooSmall size (lentOf k .room)) (ltb 8191 pid) pid before (k .packet) in
+    let one : ifSaidTaken (fareOf (k .said)) (k .packet) ≡ ruledIn (rulingOn pid size before (lentOf k)) =
+    ap (λ (f : Fare). ifSaidTaken f (k .packet)) (w .0)
+    ∙ ruled-in-alike (tooSmall size (lentOf k .room)) (ltb 8191 pid) pid before (k .packet) in
     λ i. one i ++ taken-alike pid size (beforeAfter before (rulingOn pid size before (lentOf k))) ks (w .1) i
