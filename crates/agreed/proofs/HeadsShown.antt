@@ -16,7 +16,7 @@ use Rattle.head.proofs.HeadLaws.{version-is}
 use Rattle.forms.specs.Form.{eachShow, EachOk}
 use Rattle.forms.specs.Fields.{pack, room, sheetField}
 use Rattle.sheet.specs.Content.{Item, plain, numbers, version, frame, headOf, Fields, Content, tableOf, frameOf, bodyOf, rowIn}
-use Rattle.sheet.specs.Sheet.{sheetItem, sheetTop, sheetEntries, sheetOf}
+use Rattle.sheet.specs.Sheet.{sheetItem, sheetTop, sheetEntries, sheetOf, shownFor}
 use Rattle.sheet.specs.Section.{sectionItem, sectionTop, sectionEntries, sectionLength, seal, sectionOf}
 use Rattle.sheet.proofs.SectionSize.{second, front-is}
 use Rattle.contents.specs.Holds.{Holds}
@@ -211,7 +211,7 @@ module _ (c : Content) (h : Holds c) (below : rowIn c < TDT) where
 
     sheet-is : sheetOf c ≡ shown (tableOf c) 0 0 (f .a) (f .b) 0 (f .v) (f .k) (f .n) (f .m)
         (eachShow sheetItem more (f .rest) ++ sheet-tail) []
-    unfolding sheetOf
+    unfolding shownFor
     sheet-is =
         let items = common-items row below in
         let head = sym (ap (λ (xs : List Item). eachShow sheetItem xs (bodyOf c .0)) items) ∙ f .in-sheet in

@@ -23,13 +23,14 @@ use Rattle.section.proofs.Exactly.{section-judged}
 use Rattle.forms.specs.Form.{Form, mute, _then_, each, eachShow, EachOk}
 use Rattle.forms.specs.Fields.{Field, room, pack, Fit}
 use Rattle.forms.specs.Lists.{loop, loopShow, filling, all, All, none, one}
+use Rattle.forms.proofs.Lawful.{two-of}
 use Rattle.forms.proofs.FieldLaws.{pack-lt}
 use Rattle.sheet.specs.Content.{Item, common, plain, numbers, version, bare, frame, headOf, entryOf, sideOf, Fields, Descriptor, Loop, Entry, Entries, Body, Content, tableOf, frameOf, bodyOf, rowIn}
 use Rattle.sheet.specs.Sheet.{inOrder, descriptor}
 use Rattle.sheet.specs.Section.{sectionItem, sectionLoop, sectionEntry, sectionTop, sectionEntries, sectionBody, bodyBytes, sectionLength, front, seal, sectionOf}
 use Rattle.sheet.proofs.SectionSize.{seal-length, front-is, front-length, section-length, second}
 use Rattle.contents.specs.Holds.{Holds, entriesBytes}
-use Rattle.contents.proofs.SectionLaws.{half-bare, half-side, items-size, sizes, shortest, Numbers, numbers-of, body-length, first-byte, second-byte, third-byte, frame-lt, shown-alike}
+use Rattle.contents.proofs.SectionLaws.{half-bare, half-side, items-size, sizes, shortest, Numbers, each-row, numbers-of, topBy, entriesBy, body-length, first-byte, second-byte, third-byte, frame-lt, shown-alike}
 
 -- ---- loops
 
@@ -91,11 +92,8 @@ module _ (row p : ℕ) (size : (rowAt row .fixed ≡ 0 → ⊥) → sizes (entry
   unfolding sectionTop sectionEntries loopShow
   inside-stands n = go (eqb (rowAt row .fixed) 0) (eqb (rowAt row .top) 1) refl refl
     where
-      go : (z t : Bool) → eqb (rowAt row .fixed) 0 ≡ z → eqb (rowAt row .top) 1 ≡ t
-          → (if t then sectionLoop bare else mute ([], [])) .Ok l
-          → (if z then mute ([], []) else if t then loop (sectionEntry row) bare else mute [] then filling (sectionEntry row) n) .Ok es
-          → Stands ((if t then sectionLoop bare else mute ([], [])) .show l
-          ++ (if z then mute ([], []) else if t then loop (sectionEntry row) bare else mute [] then filling (sectionEntry row) n) .show es)
+      go : (z t : Bool) → eqb (rowAt row .fixed) 0 ≡ z → eqb (rowAt row .top) 1 ≡ t → topBy t .Ok l
+          → entriesBy row n z t .Ok es → Stands (topBy t .show l ++ entriesBy row n z t .show es)
       go true true f t o k =
           let d = descriptors-stand (p + 2) (l .1) in (
             d .0 ∷ [],
@@ -121,8 +119,8 @@ module _ (row p : ℕ) (size : (rowAt row .fixed ≡ 0 → ⊥) → sizes (entry
   unfolding sectionTop sectionEntries loopShow shortest
   at-least n = go (eqb (rowAt row .fixed) 0) (eqb (rowAt row .top) 1)
     where
-      go : (z t : Bool) → (if t then (if z then 2 else 4) else 0) ≤ length ((if t then sectionLoop bare else mute ([], [])) .show l)
-          + length ((if z then mute ([], []) else if t then loop (sectionEntry row) bare else mute [] then filling (sectionEntry row) n) .show es)
+      go : (z t : Bool)
+          → (if t then (if z then 2 else 4) else 0) ≤ length (topBy t .show l) + length (entriesBy row n z t .show es)
       go true true = omega arith
       go true false = omega arith
       go false true = omega arith
@@ -137,24 +135,21 @@ unfolding eachShow EachOk
 common-order more [] o = absurd o
 common-order more (a ∷ []) o = absurd (o .1)
 common-order more (a ∷ v ∷ []) o = absurd (o .1 .1)
-common-order more ([] ∷ v ∷ b ∷ l) o = let e = o .0 in absurd (omega arith)
-common-order more ((x ∷ []) ∷ v ∷ b ∷ l) o = let e = o .0 in absurd (omega arith)
-common-order more ((x ∷ y ∷ z ∷ a) ∷ v ∷ b ∷ l) o = let e = o .0 in absurd (omega arith)
-common-order more ((x ∷ y ∷ []) ∷ v ∷ [] ∷ l) o = let e = o .1 .1 .0 .0 in absurd (omega arith)
-common-order more ((x ∷ y ∷ []) ∷ v ∷ (i ∷ []) ∷ l) o = let e = o .1 .1 .0 .0 in absurd (omega arith)
-common-order more ((x ∷ y ∷ []) ∷ v ∷ (i ∷ j ∷ []) ∷ l) o = (leb-true i j (o .1 .1 .0 .1), omega arith)
-common-order more ((x ∷ y ∷ []) ∷ v ∷ (i ∷ j ∷ k ∷ b) ∷ l) o = let e = o .1 .1 .0 .0 in absurd (omega arith)
+common-order more (a ∷ v ∷ b ∷ l) o =
+    let numbers-ok = o .1 .1 .0 in
+    let i = leb-true _ _ (numbers-ok .1) in
+    rw (two-of a (o .0), two-of b (numbers-ok .0)) (i, omega arith)
 
-pub in-order : (row : ℕ) → row < 6 → rowAt row .syntax ≡ 1 → (l : Fields) → EachOk sectionItem (headOf row) l
-    → (getD (eachShow sectionItem (headOf row) l) 3 0 ≤ getD (eachShow sectionItem (headOf row) l) 4 0) × (5 ≤ length (eachShow sectionItem (headOf row) l))
+abbrev InOrder : ℕ → Type 0
+InOrder row = rowAt row .syntax ≡ 1 → (l : Fields) → EachOk sectionItem (headOf row) l
+    → (getD (eachShow sectionItem (headOf row) l) 3 0 ≤ getD (eachShow sectionItem (headOf row) l) 4 0)
+    × (5 ≤ length (eachShow sectionItem (headOf row) l))
+
+in-order : (row : ℕ) → row < 6 → InOrder row
 unfolding headOf cell
-in-order zero h e = common-order _
-in-order (suc zero) h e = common-order _
-in-order (suc (suc zero)) h e = common-order _
-in-order (suc (suc (suc zero))) h e = common-order _
-in-order (suc (suc (suc (suc zero)))) h e = absurd (omega arith)
-in-order (suc (suc (suc (suc (suc zero))))) h e = absurd (omega arith)
-in-order (suc (suc (suc (suc (suc (suc row)))))) h e = absurd (omega arith)
+in-order =
+    each-row InOrder (λ e. common-order _) (λ e. common-order _) (λ e. common-order _) (λ e. common-order _)
+    (λ e. absurd (omega arith)) (λ e. absurd (omega arith))
 
 module _ (c : Content) (h : Holds c) where
   abbrev row : ℕ

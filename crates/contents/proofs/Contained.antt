@@ -31,7 +31,7 @@ use Rattle.sheet.specs.Content.{Item, plain, numbers, packed, bare, frame, head
 use Rattle.sheet.specs.Sheet.{inOrder, descriptor}
 use Rattle.sheet.specs.Section.{sectionItem, sectionLoop, sectionEntry, sectionTop, sectionEntries, sectionBody, bodyBytes, sectionLength, front, seal, sectionOf}
 use Rattle.contents.specs.Holds.{Holds, entriesBytes}
-use Rattle.contents.proofs.SectionLaws.{half-bare, half-side, sizeOf, sizes, Numbers, numbers-of, shown-alike}
+use Rattle.contents.proofs.SectionLaws.{half-bare, half-side, sizes, Numbers, each-row, numbers-of}
 
 -- ---- descriptors
 
@@ -106,24 +106,15 @@ items-are (packed fs ∷ xs) u (x ∷ l) w e o =
 
 pub octets : (row : ℕ) → row < 6 → Octets (headOf row) × Octets (entryOf row)
 unfolding headOf entryOf room
-octets zero h = ((refl, tt), tt)
-octets (suc zero) h = ((refl, (refl, tt)), (refl, tt))
-octets (suc (suc zero)) h = ((refl, tt), tt)
-octets (suc (suc (suc zero))) h = ((refl, tt), tt)
-octets (suc (suc (suc (suc zero)))) h = (tt, tt)
-octets (suc (suc (suc (suc (suc zero))))) h = (tt, tt)
-octets (suc (suc (suc (suc (suc (suc row)))))) h = absurd (omega arith)
+octets =
+    each-row (λ row. Octets (headOf row) × Octets (entryOf row)) ((refl, tt), tt) ((refl, (refl, tt)), (refl, tt))
+    ((refl, tt), tt) ((refl, tt), tt) (tt, tt) (tt, tt)
 
 -- an entry has no such numbers
 entry-ordered : (row : ℕ) → row < 6 → (l : List ℕ) → Ordered (entryOf row) l
 unfolding entryOf
-entry-ordered zero h l = tt
-entry-ordered (suc zero) h l = tt
-entry-ordered (suc (suc zero)) h l = tt
-entry-ordered (suc (suc (suc zero))) h l = tt
-entry-ordered (suc (suc (suc (suc zero)))) h l = tt
-entry-ordered (suc (suc (suc (suc (suc zero))))) h l = tt
-entry-ordered (suc (suc (suc (suc (suc (suc row)))))) h l = absurd (omega arith)
+entry-ordered =
+    each-row (λ row. (l : List ℕ) → Ordered (entryOf row) l) (λ l. tt) (λ l. tt) (λ l. tt) (λ l. tt) (λ l. tt) (λ l. tt)
 
 -- in a head they stand behind extension id and version
 there : (l : List ℕ) → getD l 3 0 ≤ getD l 4 0 → getD (drop 1 (drop 2 l)) 0 0 ≤ getD (drop 1 (drop 2 l)) 1 0
@@ -132,15 +123,14 @@ there l h =
     let j : getD (drop 1 (drop 2 l)) 1 0 ≡ getD l 4 0 = ap (λ m. getD m 1 0) (drop-drop 1 2 l) ∙ getD-drop 3 l 1 0 in
     subst (λ m. m ≤ getD (drop 1 (drop 2 l)) 1 0) (sym i) (subst (λ m. getD l 3 0 ≤ m) (sym j) h)
 
-head-ordered : (row : ℕ) → row < 6 → (l : List ℕ) → (rowAt row .syntax ≡ 1 → getD l 3 0 ≤ getD l 4 0) → Ordered (headOf row) l
+abbrev HeadOrdered : ℕ → Type 0
+HeadOrdered row = (l : List ℕ) → (rowAt row .syntax ≡ 1 → getD l 3 0 ≤ getD l 4 0) → Ordered (headOf row) l
+
+head-ordered : (row : ℕ) → row < 6 → HeadOrdered row
 unfolding headOf cell
-head-ordered zero h l o = (there l (o refl), tt)
-head-ordered (suc zero) h l o = (there l (o refl), tt)
-head-ordered (suc (suc zero)) h l o = (there l (o refl), tt)
-head-ordered (suc (suc (suc zero))) h l o = (there l (o refl), tt)
-head-ordered (suc (suc (suc (suc zero)))) h l o = tt
-head-ordered (suc (suc (suc (suc (suc zero))))) h l o = tt
-head-ordered (suc (suc (suc (suc (suc (suc row)))))) h l o = absurd (omega arith)
+head-ordered =
+    each-row HeadOrdered (λ l o. (there l (o refl), tt)) (λ l o. (there l (o refl), tt)) (λ l o. (there l (o refl), tt))
+    (λ l o. (there l (o refl), tt)) (λ l o. tt) (λ l o. tt)
 
 -- ---- entries
 

@@ -1,6 +1,6 @@
 -- Refusals 22 to 26 exactly if: whatever bytes a sheet has, one of document 01's sentences is true of them, and it is
 -- the one that the judge says.
-use Prim.Native.Nat.{ℕ, suc, _+_, _<_, _≤_}
+use Prim.Native.Nat.{ℕ, suc, _+_, _-_, _^_, _<_, _≤_}
 use mathlib.Core.Path.{_≡_, refl, sym, ap, _∙_, subst}
 use mathlib.Core.Logic.{_⊎_, inl, inr}
 use mathlib.Core.Bool.{Bool, true, false}
@@ -17,17 +17,19 @@ use Rattle.wire.proofs.ReadingLaws.{value-is, refused-is, never}
 use Rattle.tables.specs.Tables.{holds, first, rowOf, rowAt, InRow}
 use Rattle.tables.proofs.RowLaws.{row-in, row-below}
 use Rattle.forms.specs.Form.{Form, raw, suchRead, such, each}
-use Rattle.forms.specs.Fields.{Field}
+use lib.Pow.{pow-pos}
+use Rattle.forms.specs.Fields.{Field, kept, reserved, sheetField}
+use Rattle.forms.specs.Laws.{Lawful}
 use Rattle.forms.proofs.Lawful.{read-on, stays, raw-read}
-use Rattle.forms.proofs.FieldLaws.{fields-lawful}
-use Rattle.forms.proofs.Fronts.{View, whole, early, wide, Seen, then-seen, mute-seen, raw-short, raw-seen, each-seen, fields-seen, counted-seen}
+use Rattle.forms.proofs.FieldLaws.{field-lawful}
+use Rattle.forms.proofs.Fronts.{View, whole, early, wide, Seen, then-seen, mute-seen, raw-short, raw-seen, below-seen, each-seen, counted-seen}
 use Rattle.sheet.specs.Content.{Item, plain, numbers, packed, bare, frame, headOf, entryOf, sideOf, Content, tableOf, rowIn}
-use Rattle.sheet.specs.Sheet.{inOrder, sheetItem, descriptorRead, descriptor, sheetLoop, sheetEntry, sheetTop, sheetEntries, behindId, sheetRead, sheetOf, SheetOk}
-use Rattle.sheet.specs.Section.{sectionLength, sectionOf, readSheet}
+use Rattle.sheet.specs.Sheet.{inOrder, descriptorRead, descriptor, itemFor, loopFor, entryFor, topFor, entriesFor, behindFor, behindId, sheetRead, readFor, sheetOf, shownFor, SheetOk, OkFor}
+use Rattle.sheet.specs.Section.{sectionLength, sectionOf, readSheet, readSheetFor}
 use Rattle.sheet.specs.Reads.{judgedSheet}
 use Rattle.sheet.specs.Faults as faults
 use Rattle.sheet.specs.Faults.{SheetFault, AcceptedSheet, RefusedExactlyIf, AcceptedExactlyIf}
-use Rattle.sheet.proofs.SheetLaws.{item-lawful, items-lawful, descriptor-lawful, entry-lawful, top-lawful, sheet-lawful}
+use Rattle.sheet.proofs.SheetLaws.{fields-lawful, item-lawful, items-lawful, descriptor-lawful, entry-lawful, top-lawful, sheet-lawful}
 use Rattle.sheet.proofs.SectionSize.{section-length}
 use Rattle.sheet.proofs.JudgeLaws.{judged-unknown, known-id}
 
@@ -48,14 +50,6 @@ numbers-seen = record { some = (0 ∷ 0 ∷ [], (refl, refl)); view = λ s w. go
     go (i ∷ []) =
         early (i ∷ i ∷ []) (i ∷ []) (refl, le-leb i i (omega arith)) refl (stays _ (raw-short 2 (i ∷ []) (omega arith)))
     go (i ∷ j ∷ r) = tested i j r (decLe i j)
-
-item-seen : (x : Item) → Seen (sheetItem x)
-item-seen (plain n) = raw-seen n
-item-seen numbers = numbers-seen
-item-seen (packed fs) = fields-seen fs
-
-items-seen : (xs : List Item) → Seen (each sheetItem xs)
-items-seen = each-seen sheetItem item-lawful item-seen
 
 descriptor-seen : Seen descriptor
 unfolding descriptorRead
@@ -80,35 +74,55 @@ descriptor-seen = record { some = (record { tag = 0; body = [] }, omega arith); 
             (read-on _ (raw-read 2 (t ∷ n ∷ []) r refl) ∙ stays _ f)
         behind (wide f) = wide (λ u. read-on _ (raw-read 2 (t ∷ n ∷ []) (r ++ u) refl) ∙ stays _ (f u))
 
-loop-seen : (fs : List Field) → Seen (sheetLoop fs)
-loop-seen fs =
-    then-seen (fields-lawful fs .complete) (fields-seen fs) (counted-seen descriptor descriptor-lawful descriptor-seen)
-
-entry-seen : (row : ℕ) → Seen (sheetEntry row)
-entry-seen row = then-seen (items-lawful (entryOf row) .complete) (items-seen (entryOf row)) (loop-seen (sideOf row))
-
 if-seen : {A : Type 0} (b : Bool) {c d : Form A} → Seen c → Seen d → Seen (if b then c else d)
 if-seen true f g = f
 if-seen false f g = g
 
-top-seen : (row : ℕ) → Seen (sheetTop row)
-unfolding sheetTop
-top-seen row = if-seen (eqb (rowAt row .top) 1) (loop-seen bare) (mute-seen ([], []))
+-- by how a field is shown
+module _ (field : Field → Form ℕ) (lawful : (f : Field) → Lawful (field f)) (seen : (f : Field) → Seen (field f)) where
+  fields-seen : (fs : List Field) → Seen (each field fs)
+  fields-seen = each-seen field lawful seen
 
-entries-seen : (row : ℕ) → Seen (sheetEntries row)
-unfolding sheetEntries
-entries-seen row =
-    if-seen (eqb (rowAt row .fixed) 0) (mute-seen ([], []))
-    (then-seen (fields-lawful _ .complete) (fields-seen (if eqb (rowAt row .top) 1 then bare else []))
-    (counted-seen (sheetEntry row) (entry-lawful row) (entry-seen row)))
+  item-seen : (x : Item) → Seen (itemFor field x)
+  item-seen (plain n) = raw-seen n
+  item-seen numbers = numbers-seen
+  item-seen (packed fs) = fields-seen fs
 
-behind-seen : (row : ℕ) → Seen (behindId row)
-behind-seen row =
-    then-seen (fields-lawful frame .complete) (fields-seen frame)
-    (then-seen (items-lawful (headOf row) .complete) (items-seen (headOf row))
-    (then-seen (top-lawful row .complete) (top-seen row) (entries-seen row)))
+  items-seen : (xs : List Item) → Seen (each (itemFor field) xs)
+  items-seen = each-seen (itemFor field) (item-lawful field lawful) item-seen
+
+  loop-seen : (fs : List Field) → Seen (loopFor field fs)
+  loop-seen fs =
+      then-seen (fields-lawful field lawful fs .complete) (fields-seen fs) (counted-seen descriptor descriptor-lawful descriptor-seen)
+
+  entry-seen : (row : ℕ) → Seen (entryFor field row)
+  entry-seen row = then-seen (items-lawful field lawful (entryOf row) .complete) (items-seen (entryOf row)) (loop-seen (sideOf row))
+
+  top-seen : (row : ℕ) → Seen (topFor field row)
+  unfolding topFor
+  top-seen row = if-seen (eqb (rowAt row .top) 1) (loop-seen bare) (mute-seen ([], []))
+
+  entries-seen : (row : ℕ) → Seen (entriesFor field row)
+  unfolding entriesFor
+  entries-seen row =
+      if-seen (eqb (rowAt row .fixed) 0) (mute-seen ([], []))
+      (then-seen (fields-lawful field lawful _ .complete) (fields-seen (if eqb (rowAt row .top) 1 then bare else []))
+      (counted-seen (entryFor field row) (entry-lawful field lawful row) (entry-seen row)))
+
+  behind-seen : (row : ℕ) → Seen (behindFor field row)
+  behind-seen row =
+      then-seen (fields-lawful field lawful frame .complete) (fields-seen frame)
+      (then-seen (items-lawful field lawful (headOf row) .complete) (items-seen (headOf row))
+      (then-seen (top-lawful field lawful row .complete) (top-seen row) (entries-seen row)))
 
 -- ---- the whole sheet
+
+field-seen : (f : Field) → Seen (sheetField f)
+field-seen (kept w) = below-seen (2 ^ w) (pow-pos w)
+field-seen (reserved w) = mute-seen (2 ^ w - 1)
+
+id-seen : (row : ℕ) → Seen (behindId row)
+id-seen = behind-seen sheetField field-lawful field-seen
 
 data Front (s : List ℕ) : Type 0 where
   whole-sheet : (c : Content) (r : List ℕ) → SheetOk c → s ≡ sheetOf c ++ r → Front s
@@ -118,14 +132,14 @@ data Front (s : List ℕ) : Type 0 where
 
 -- no byte is the beginning of the shortest sheet
 nothing : Front []
-unfolding sheetOf SheetOk sheetRead suchRead rowOf first holds
+unfolding shownFor OkFor readFor suchRead rowOf first holds
 nothing =
-    let b = behind-seen (rowOf 0x70) .some in
+    let b = id-seen (rowOf 0x70) .some in
     begun (0x70, b .0) (0x70 ∷ behindId (rowOf 0x70) .show (b .0)) (omega arith, b .1) refl
     (stays _ (stays _ (raw-short 1 [] (omega arith))))
 
 known-front : (a : ℕ) (t : List ℕ) → rowOf a < 6 → View (behindId (rowOf a)) t → Front (a ∷ t)
-unfolding sheetOf SheetOk
+unfolding shownFor OkFor
 known-front a t h (whole b r o e) = whole-sheet (a, b) r (h, o) (ap (λ x. a ∷ x) e)
 known-front a t h (early b u o e f) = begun (a, b) u (h, o) (ap (λ x. a ∷ x) e) (known-id a t h ∙ stays _ f)
 known-front a t h (wide f) = too-wide (omega arith) h (λ u. known-id a (t ++ u) h ∙ stays _ (f u))
@@ -135,37 +149,37 @@ front [] w = nothing
 front (a ∷ t) w = go (decLt (rowOf a) 6)
   where
     go : Dec (rowOf a < 6) → Front (a ∷ t)
-    go (yes h) = known-front a t h (behind-seen (rowOf a) .view t (λ i. w (suc i)))
+    go (yes h) = known-front a t h (id-seen (rowOf a) .view t (λ i. w (suc i)))
     go (no h) = unknown-id (omega arith) (omega arith)
 
 -- ---- what is said
 
 module _ (s : List ℕ) where
   refused-so : (k : ℕ) → sheetRead s ≡ refused k → judgedSheet s ≡ refused k
-  unfolding judgedSheet readSheet
+  unfolding judgedSheet readSheetFor
   refused-so k e = stays _ (stays _ e)
 
   module _ (c : Content) (o : SheetOk c) where
     read-so : (r : List ℕ) → s ≡ sheetOf c ++ r → sheetRead s ≡ value (c, r)
-    read-so r e = ap sheetRead e ∙ sheet-lawful .complete c r o
+    read-so r e = ap sheetRead e ∙ sheet-lawful sheetField field-lawful .complete c r o
 
     read-whole : s ≡ sheetOf c → sheetRead s ≡ value (c, [])
     read-whole e = read-so [] (e ∙ sym (append-nil (sheetOf c)))
 
     after-so : (r : List ℕ) → s ≡ sheetOf c ++ r → 0 < length r → judgedSheet s ≡ refused 25
-    unfolding judgedSheet readSheet
+    unfolding judgedSheet readSheetFor
     after-so r e h = stays _ (read-on _ (read-so r e) ∙ rw (lt-ltb 0 (length r) h))
 
     long-so : s ≡ sheetOf c → rowAt (rowIn c) .most < sectionLength c → judgedSheet s ≡ refused 26
-    unfolding judgedSheet readSheet
+    unfolding judgedSheet readSheetFor
     long-so e h = stays _ (read-on _ (read-whole e) ∙ rw (lt-ltb (rowAt (rowIn c) .most) (sectionLength c) h))
 
     fits-so : s ≡ sheetOf c → sectionLength c ≤ rowAt (rowIn c) .most → judgedSheet s ≡ value (sectionLength c)
-    unfolding judgedSheet readSheet
+    unfolding judgedSheet readSheetFor
     fits-so e h = read-on _ (read-on _ (read-whole e) ∙ rw (le-ltb (rowAt (rowIn c) .most) (sectionLength c) h))
 
     size-so : length (sectionOf c) ≡ 3 + sectionLength c
-    unfolding SheetOk
+    unfolding OkFor
     size-so = section-length c (o .0)
 
 no-row : (id : ℕ) → 6 ≤ rowOf id → (i : ℕ) → i < 6 → InRow i id → ⊥
@@ -214,7 +228,7 @@ module _ (s : List ℕ) (w : Bytes s) where
   -- two of the sentences are not true of the same bytes
   begins : (c : Content) (missing : List ℕ) → SheetOk c → s ++ missing ≡ sheetOf c → 0 < length s
       → getD s 0 0 ≡ tableOf c
-  unfolding sheetOf
+  unfolding shownFor
   begins c u o e h = go s h e
     where
       go : (s : List ℕ) → 0 < length s → s ++ u ≡ sheetOf c → getD s 0 0 ≡ tableOf c
@@ -222,7 +236,7 @@ module _ (s : List ℕ) (w : Bytes s) where
       go (a ∷ t) h e = ap (λ x. getD x 0 0) e
 
   early-so : (c : Content) (u : List ℕ) → SheetOk c → 0 < length u → s ++ u ≡ sheetOf c → judgedSheet s ≡ refused 22
-  unfolding SheetOk
+  unfolding OkFor
   early-so c u o h e = go (front s w)
     where
       read : sheetRead (s ++ u) ≡ value (c, [])

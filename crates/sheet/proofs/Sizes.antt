@@ -14,7 +14,7 @@ use Rattle.forms.specs.Form.{Form, mute, _then_, eachShow, EachOk, each}
 use Rattle.forms.specs.Fields.{Field, kept, reserved, sheetField, sheetFields}
 use Rattle.forms.specs.Lists.{all, All, none, one, countedShow, counted, loopShow, loop, filling}
 use Rattle.sheet.specs.Content.{Item, plain, numbers, packed, bare, frame, headOf, entryOf, sideOf, Fields, Loop, Entry, Entries, Body, Content, tableOf, rowIn}
-use Rattle.sheet.specs.Sheet.{sheetItem, descriptor, sheetLoop, sheetEntry, sheetTop, sheetEntries, behindId, sheetOf, SheetOk}
+use Rattle.sheet.specs.Sheet.{sheetItem, descriptor, sheetLoop, sheetEntry, sheetTop, topFor, sheetEntries, entriesFor, behindId, sheetOf, shownFor, SheetOk, OkFor}
 use Rattle.sheet.specs.Inner.Lengths.{cut, gain, countAt, spare}
 use Rattle.sheet.specs.Section.{sectionItem, sectionLoop, sectionEntry, sectionTop, sectionEntries, sectionBody, sectionLength}
 
@@ -152,7 +152,7 @@ module _ (row cut : ℕ) (by : total inSheet (entryOf row) + fieldsSize (sideOf 
 -- ---- the top loop
 
 top-size : (row : ℕ) (p : Loop) → sheetTop row .Ok p → length (sheetTop row .show p) ≡ length (sectionTop row .show p)
-unfolding sheetTop sectionTop fieldsSize
+unfolding topFor sectionTop fieldsSize
 top-size row p = go (eqb (rowAt row .top) 1)
   where
     go : (b : Bool) → (if b then sheetLoop bare else mute ([], [])) .Ok p
@@ -189,14 +189,14 @@ module _ (row : ℕ) (b : List ℕ × Body) (o : behindId row .Ok b) where
       omega arith
 
 -- the number of entries
-abbrev pub entriesIn : List ℕ × Body → ℕ
-entriesIn b = length (b .1 .1 .1 .1)
+abbrev pub numberIn : List ℕ × Body → ℕ
+numberIn b = length (b .1 .1 .1 .1)
 
 Sized : ℕ → List ℕ × Body → Type 0
-Sized row b = length (sectionBody row 0 .show (b .1)) + 4 * rowAt row .crc + cut row * entriesIn b ≡ length (behindId row .show b) + gain row
+Sized row b = length (sectionBody row 0 .show (b .1)) + 4 * rowAt row .crc + cut row * numberIn b ≡ length (behindId row .show b) + gain row
 
 size-of : (row : ℕ) (b : List ℕ × Body) → row < 6 → behindId row .Ok b → Sized row b
-unfolding Sized cell cut gain headOf entryOf sideOf total fieldsSize sheetEntries sectionEntries
+unfolding Sized cell cut gain headOf entryOf sideOf total fieldsSize entriesFor sectionEntries
 size-of zero b h o =
     let e = sized-entries 0 0 refl (b .1 .1 .1) (o .1 .1 .1) in
     omega (arith, behind-size 0 b o, body-size 0 b o)
@@ -214,8 +214,8 @@ size-of (suc (suc (suc (suc (suc zero))))) b h o = omega (arith, behind-size 5 b
 size-of (suc (suc (suc (suc (suc (suc n)))))) b h o = absurd (omega arith)
 
 -- section_length, from the length of the sheet and the number of entries
-pub section-size : (c : Content) → SheetOk c → sectionLength c + cut (rowIn c) * entriesIn (c .1) + 1 ≡ length (sheetOf c) + gain (rowIn c)
-unfolding SheetOk sheetOf sectionLength Sized
+pub section-size : (c : Content) → SheetOk c → sectionLength c + cut (rowIn c) * numberIn (c .1) + 1 ≡ length (sheetOf c) + gain (rowIn c)
+unfolding OkFor shownFor sectionLength Sized
 section-size c o = let e = size-of (rowIn c) (c .1) (o .0) (o .1) in omega arith
 
 -- ---- the number of the entries, where a table has no top loop
@@ -240,8 +240,8 @@ count-behind id k f h c l e g =
     let n : ℕ = length l in
     ap (λ x. numberAt 2 (id ∷ (x ++ (h ++ counted c .show l))) (k + 1)) (nothing f e) ∙ after-head id h (all c l) k (n / 256) (n % 256) g ∙ omega arith
 
-entries-cut : (row id : ℕ) (b : List ℕ × Body) → row < 6 → behindId row .Ok b → cut row * numberAt 2 (id ∷ behindId row .show b) (countAt row) ≡ cut row * entriesIn b
-unfolding cut countAt cell headOf total fieldsSize sheetTop sheetEntries eachShow
+entries-cut : (row id : ℕ) (b : List ℕ × Body) → row < 6 → behindId row .Ok b → cut row * numberAt 2 (id ∷ behindId row .show b) (countAt row) ≡ cut row * numberIn b
+unfolding cut countAt cell headOf total fieldsSize topFor entriesFor eachShow
 entries-cut zero id b h o = omega arith
 entries-cut (suc zero) id b h o =
     ap (λ n. 3 * n) (count-behind id 8 (sheetFields frame .show (b .0)) (each sheetItem (headOf 1) .show (b .1 .0)) (sheetEntry 1) (b .1 .1 .1 .1)
@@ -256,7 +256,7 @@ entries-cut (suc (suc (suc (suc (suc (suc n)))))) id b h o = absurd (omega arith
 
 -- section_length, from the sheet's bytes
 pub section-spare : (c : Content) → SheetOk c → sectionLength c + spare (rowIn c) (sheetOf c) ≡ length (sheetOf c) + gain (rowIn c)
-unfolding SheetOk sheetOf spare
+unfolding OkFor shownFor spare
 section-spare c o = let e = section-size c o in let f = entries-cut (rowIn c) (tableOf c) (c .1) (o .0) (o .1) in omega arith
 
 -- ---- row by row

@@ -22,9 +22,8 @@ use Rattle.sheet.specs.Content.{Entry, Loop, bare, status, entryOf, sideOf}
 use Rattle.sheet.specs.Sheet.{sheetEntry}
 use Rattle.sheet.specs.Section.{sectionEntry}
 use Rattle.turn.specs.Inner.Ways.{itemsFrom, itemsTo, loopFrom, loopTo, entryFrom, entryTo, sideIf, topIf, entriesShown, BesideOk, BesideFit, EntriesForth, EntriesBack, NumberIn, putNumber}
-use Rattle.contents.proofs.SectionLaws.{half-bare, entry-full}
+use Rattle.contents.proofs.SectionLaws.{half-bare, no-more, entry-full}
 use Rattle.contents.proofs.Accepted.{says}
-use Rattle.contents.proofs.AllOnes.{no-more}
 use Rattle.turn.proofs.PieceLaws.{part-within, part-byte, part-first-byte}
 use Rattle.turn.proofs.LoopLaws.{put-three}
 use Rattle.forms.specs.declared.Place.{Place}

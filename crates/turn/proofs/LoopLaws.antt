@@ -22,9 +22,8 @@ use Rattle.sheet.specs.Content.{Descriptor, Loop, bare, status}
 use Rattle.sheet.specs.Sheet.{descriptor, sheetLoop}
 use Rattle.sheet.specs.Section.{sectionLoop}
 use Rattle.turn.specs.Inner.Ways.{NumberIn, SizeAt, sideIf, sideAt, sideSize, sideBack, putNumber, loopFrom}
-use Rattle.contents.proofs.SectionLaws.{half-bare, descriptor-full}
+use Rattle.contents.proofs.SectionLaws.{half-bare, no-more, descriptor-full}
 use Rattle.contents.proofs.Accepted.{says}
-use Rattle.contents.proofs.AllOnes.{no-more}
 use Rattle.turn.proofs.PieceLaws.{part-within, part-byte, part-first-byte}
 use Rattle.forms.specs.declared.Place.{Place}
 

@@ -26,7 +26,7 @@ use Rattle.forms.specs.Fields.{Field, Fit, room, pack, sheetFields}
 use Rattle.forms.specs.Room.{put, sum}
 use Rattle.forms.proofs.Puts.{sum-fits, put-fits, put-put, length-put}
 use Rattle.sheet.specs.Content.{Content, frame, tableOf, frameOf, bodyOf, rowIn}
-use Rattle.sheet.specs.Sheet.{sheetBody, sheetOf, SheetOk}
+use Rattle.sheet.specs.Sheet.{sheetBody, sheetOf, shownFor, SheetOk, OkFor}
 use Rattle.sheet.specs.Section.{sectionBody, bodyBytes, sectionLength, front, seal, sectionOf, contentOf, readSheet}
 use Rattle.sheet.specs.Reads.{judgedSheet}
 use Rattle.turn.specs.Inner.Ways.{putNumber}
@@ -60,7 +60,7 @@ frame-ones (a ∷ b ∷ []) o = let e = o .0 in let f = o .1 .0 in omega arith
 frame-ones (a ∷ b ∷ c ∷ vs) o = absurd (o .1 .1)
 
 sheet-is : (c : Content) → Fit frame (frameOf c) → sheetOf c ≡ tableOf c ∷ sheetBody (rowIn c) .show (bodyOf c)
-unfolding sheetOf
+unfolding shownFor
 sheet-is c o = ap (λ l. tableOf c ∷ (l ++ sheetBody (rowIn c) .show (bodyOf c))) (frame-shown (frameOf c) o)
 
 -- a part behind one that is known
@@ -127,7 +127,7 @@ module _ (s o : List ℕ) (w : Bytes s) (lo : length o < 2 ^ 64) (n number : ℕ
     pub holds : Holds c
 
   fronted : (c : Content) → readSheet s ≡ reading.value c → n ≡ sectionLength c → number ≡ rowIn c → 4096 ≤ length o → Fronted c
-  unfolding sectionLength SheetOk
+  unfolding sectionLength OkFor
   fronted c r hn hr big =
       let h = held s c w r in
       let k = h .holds in
