@@ -6,26 +6,26 @@ use mathlib.Core.List.{List, [], _∷_, _++_, append-nil}
 use mathlib.Core.Bool.{Bool, true, false}
 use native.Mathlib.Omega.{arith}
 use borrow.Author.Tests.{ltb-false, le-ltb}
-use lib.ListN.{length, length-append}
+use lib.ListN.{length}
 use lib.Dec.{ltb}
 use Rattle.wire.specs.If.{if_then_else_}
 use Rattle.wire.specs.Bytes.{Bytes}
-use Rattle.wire.specs.Reading.{Reading, value, refused, _>>=_}
+use Rattle.wire.specs.Reading.{Reading, value, refused}
 use Rattle.wire.proofs.ReadingLaws.{value-is, never, through}
 use Rattle.tables.specs.Tables.{rowAt}
 use Rattle.forms.specs.Form.{Form, each}
 use Rattle.forms.specs.Fields.{Field, width, below, byteOf}
 use Rattle.forms.specs.Laws.{Lawful}
 use Rattle.forms.proofs.Lawful.{read-on}
-use Rattle.sheet.specs.Content.{frame, headOf, Body, Content, tableOf, frameOf, bodyOf, rowIn}
+use Rattle.sheet.specs.Content.{frame, headOf, Body, Content, tableOf, frameOf, bodyOf, rowIn, restIn}
 use Rattle.sheet.specs.Sheet.{bodyFor, OkFor, shownFor, sheetFor}
 use Rattle.sheet.specs.Section.{sectionItem, sectionTop, sectionBody, sectionLength, sectionOf, readSheetFor}
 use Rattle.sheet.proofs.SectionSize.{section-length}
 use Rattle.sheet.proofs.SheetLaws.{sheet-lawful}
 use Rattle.contents.specs.Holds.{entriesBytes, Holds}
 use Rattle.contents.specs.Ones.{OfItem, OfFields, lengthBits, Pairwise, Each, OfEntry}
-use Rattle.contents.proofs.SectionLaws.{Numbers, numbers-of, shown-alike}
-use Rattle.contents.proofs.TwoForms.{Alike, Kin, fields-kin, body-kin}
+use Rattle.contents.proofs.SectionLaws.{numbers-of, shown-alike}
+use Rattle.contents.proofs.TwoForms.{Kin, fields-kin, body-kin}
 
 -- how a body is shown does not depend on the number of bytes that its entries are said to have
 body-alike : (row n : ℕ) (b : Body) → sectionBody row n .show b ≡ sectionBody row 0 .show b
@@ -55,7 +55,7 @@ module _ (field : Field → Form ℕ) (lawful : (f : Field) → Lawful (field f)
         × (Pairwise O (lengthBits row) (q .1 .0 .0)
         × (Pairwise O (lengthBits row) (q .1 .1 .0) × Each (OfEntry O row) (q .1 .1 .1))))
         (bodyOf c)
-    whole-kin = body-kin field O k row n (bodyOf c) (ap length (shown-alike row n 0 (bodyOf c .1 .1)))
+    whole-kin = body-kin field O k row n (bodyOf c) (ap length (shown-alike row n 0 (restIn c)))
 
     -- section_length counts the body
     body-short : (most : ℕ) → sectionLength c ≤ most → length (sectionBody row n .show (bodyOf c)) ≤ most

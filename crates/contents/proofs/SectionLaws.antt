@@ -17,7 +17,7 @@ use Rattle.forms.specs.Laws.{Complete}
 use Rattle.forms.proofs.Lawful.{read-on, mute-lawful, raw-lawful, then-complete, such-complete, each-complete}
 use Rattle.forms.proofs.FieldLaws.{byte-complete, pack-lt, unpack-pack}
 use Rattle.forms.proofs.ListLaws.{Full, loop-complete, filling-read}
-use Rattle.sheet.specs.Content.{Item, plain, numbers, packed, bare, status, frame, headOf, entryOf, sideOf, Fields, Loop, Entries, Content, tableOf, frameOf, bodyOf, rowIn}
+use Rattle.sheet.specs.Content.{Item, plain, numbers, packed, bare, status, frame, headOf, entryOf, sideOf, Fields, Loop, Entries, Content, tableOf, frameOf, bodyOf, rowIn, restIn, topIn, headIn}
 use Rattle.sheet.specs.Sheet.{inOrder, descriptor}
 use Rattle.sheet.specs.Section.{sectionItem, sectionLoop, sectionEntry, sectionTop, sectionEntries, sectionBody, bodyBytes, sectionLength, front, seal, sectionOf, middle, contentOf}
 use Rattle.contents.specs.Holds.{entriesBytes, Holds}
@@ -191,15 +191,15 @@ shown-alike row n m e = go (eqb (rowAt row .fixed) 0) (eqb (rowAt row .top) 1)
 -- the head's bytes, those of the top loop, those of the entries
 pub body-length : (c : Content) → Holds c
     → 3 + length (bodyBytes c)
-    ≡ rowAt (rowIn c) .before + length (sectionTop (rowIn c) .show (bodyOf c .1 .0)) + length (entriesBytes c)
+    ≡ rowAt (rowIn c) .before + length (sectionTop (rowIn c) .show (topIn c)) + length (entriesBytes c)
 body-length c h =
     let row = rowIn c in
-    let x = each sectionItem (headOf row) .show (bodyOf c .0) in
-    let y = sectionTop row .show (bodyOf c .1 .0) in
+    let x = each sectionItem (headOf row) .show (headIn c) in
+    let y = sectionTop row .show (topIn c) in
     let z = entriesBytes c in
     let a = length-append x (y ++ z) in
     let b = length-append y z in
-    let s = items-size (headOf row) (bodyOf c .0) (h .body .0) in
+    let s = items-size (headOf row) (headIn c) (h .body .0) in
     let n = numbers-of row (h .known) .head in
     omega arith
 
@@ -253,13 +253,13 @@ content-again c h =
     let n : ℕ = 3 + length (bodyBytes c) - rowAt row .before in
     let l = body-length c h in
     let same : eqb (rowAt row .top) 1 ≡ false → length (entriesBytes c) ≡ n =
-    λ e. omega (arith, no-top row (bodyOf c .1 .0) e) in
+    λ e. omega (arith, no-top row (topIn c) e) in
     let ok : sectionBody row n .Ok (bodyOf c) =
-    (h .body .0, (h .body .1 .0, ok-at row (length (entriesBytes c)) n (bodyOf c .1 .1) same (h .body .1 .1))) in
+    (h .body .0, (h .body .1 .0, ok-at row (length (entriesBytes c)) n (restIn c) same (h .body .1 .1))) in
     let shows : sectionBody row n .show (bodyOf c) ++ [] ≡ bodyBytes c =
     append-nil (sectionBody row n .show (bodyOf c))
-    ∙ ap (λ x. each sectionItem (headOf row) .show (bodyOf c .0) ++ (sectionTop row .show (bodyOf c .1 .0) ++ x))
-    (shown-alike row n 0 (bodyOf c .1 .1)) in
+    ∙ ap (λ x. each sectionItem (headOf row) .show (headIn c) ++ (sectionTop row .show (topIn c) ++ x))
+    (shown-alike row n 0 (restIn c)) in
     let f = frame-lt c h in
     let m = h .most in
     let k = numbers-of row (h .known) in

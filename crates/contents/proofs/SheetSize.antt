@@ -1,19 +1,18 @@
 -- "Largest results": a sheet has at most 5,120 bytes, a section at most 4,096.
-use Prim.Native.Nat.{ℕ, zero, suc, _+_, _*_, _<_, _≤_}
-use mathlib.Core.Path.{_≡_, refl, sym, ap, _∙_, subst}
-use mathlib.Core.List.{List, [], _∷_, _++_}
+use Prim.Native.Nat.{ℕ, _+_, _*_, _<_, _≤_}
+use mathlib.Core.Path.{_≡_, sym, ap, subst}
+use mathlib.Core.List.{List, [], _∷_}
 use mathlib.Core.Bool.{Bool, true, false}
 use native.Mathlib.Omega.{arith}
 use native.Mathlib.Nat.{mul-suc}
 use lib.ListN.{length, length-append}
 use lib.Dec.{eqb}
-use Rattle.wire.specs.If.{if_then_else_}
 use Rattle.tables.specs.Tables.{cell, rowAt}
-use Rattle.forms.specs.Form.{mute, _then_, eachShow}
+use Rattle.forms.specs.Form.{eachShow}
 use Rattle.forms.specs.Fields.{sheetField}
-use Rattle.forms.specs.Lists.{loop, loopShow, filling, all, All, none, one}
+use Rattle.forms.specs.Lists.{loopShow, all, All, none, one}
 use Rattle.forms.proofs.FieldLaws.{field-lawful}
-use Rattle.sheet.specs.Content.{bare, entryOf, sideOf, Entry, Entries, Content, bodyOf, entriesIn, rowIn}
+use Rattle.sheet.specs.Content.{entryOf, sideOf, Entry, Entries, Content, entriesIn, rowIn, restIn}
 use Rattle.sheet.specs.Sheet.{sheetOf, SheetOk}
 use Rattle.sheet.specs.Section.{sectionItem, sectionLoop, sectionEntry, sectionEntries, sectionLength, sectionOf}
 use Rattle.sheet.specs.Inner.Lengths.{cut, gain}
@@ -21,8 +20,8 @@ use Rattle.sheet.proofs.SectionSize.{section-length}
 use Rattle.sheet.proofs.Sizes.{section-size}
 use Rattle.contents.specs.Holds.{Holds, entriesBytes}
 use Rattle.contents.specs.Ones.{Ones}
-use Rattle.contents.proofs.SectionLaws.{sizes, items-size, Numbers, each-row, numbers-of, entriesBy, body-length, shown-alike}
-use Rattle.contents.proofs.AnySheet.{SameSheet, same-sheet, holds-of}
+use Rattle.contents.proofs.SectionLaws.{sizes, items-size, each-row, numbers-of, entriesBy, body-length, shown-alike}
+use Rattle.contents.proofs.AnySheet.{same-sheet, holds-of}
 use Rattle.contents.proofs.Held.{ones-kin}
 
 -- an entry has at least the bytes before its loop
@@ -66,7 +65,7 @@ unfolding sectionLength
 shown-fits c o h =
     let row = rowIn c in
     let n : ℕ = length (entriesBytes c) in
-    let rest = bodyOf c .1 .1 in
+    let rest = restIn c in
     let same = ap length (shown-alike row n 0 rest) in
     let k = rest-at-least row n rest (h .body .1 .1) in
     let l = body-length c h in

@@ -1,8 +1,8 @@
 -- What the form of a part of a table in a section and its form in a sheet have in common, part by part, whichever way
 -- the sheet shows a field.
 use Prim.{Unit, tt}
-use Prim.Native.Nat.{ℕ, suc, _+_, _/_, _%_, _^_, _<_, _≤_}
-use mathlib.Core.Path.{_≡_, refl, sym, ap, ap₂, _∙_, subst}
+use Prim.Native.Nat.{ℕ, suc, _/_, _%_, _^_, _<_}
+use mathlib.Core.Path.{_≡_, refl, sym, ap, ap₂, subst}
 use mathlib.Core.List.{List, [], _∷_, _++_}
 use mathlib.Core.Bool.{Bool, true, false}
 use native.Mathlib.Omega.{arith}
@@ -262,11 +262,13 @@ module _ (field : Field → Form ℕ) (O : Field → ℕ → Type 0)
           sized-kin (sectionEntry row) (entryFor field row) (OfEntry O row) (entry-kin row) (entry-full row) bare p
       go false false e =
           then-kin p (none-kin (p .0))
-          (filled-kin (sectionEntry row) (entryFor field row) (OfEntry O row) (entry-kin row) (entry-full row) n (p .1) e)
+          (filled-kin (sectionEntry row) (entryFor field row) (OfEntry O row) (entry-kin row) (entry-full row) n (p .1)
+          e)
 
   pub body-kin : (row n : ℕ) (b : Body) → length (sectionEntries row n .show (b .1 .1)) ≡ n
       → Kin (sectionBody row n) (bodyFor field row)
-      (λ q. Pairwise (OfItem O) (headOf row) (q .0) × (Pairwise O (lengthBits row) (q .1 .0 .0) × OfEntries row (q .1 .1)))
+      (λ q. Pairwise (OfItem O) (headOf row) (q .0)
+      × (Pairwise O (lengthBits row) (q .1 .0 .0) × OfEntries row (q .1 .1)))
       b
   body-kin row n b e =
       then-kin b (items-kin (headOf row) (b .0))

@@ -13,8 +13,8 @@ use Rattle.forms.specs.Form.{rawRead, bothRead, suchRead, eachRead, eachShow}
 use Rattle.forms.specs.Fields.{belowRead, room, pack, unpack}
 use Rattle.forms.specs.Lists.{timesRead, all, countedRead, loopShow}
 use Rattle.sheet.specs.Content.{headOf, entryOf, sideOf}
-use Rattle.sheet.specs.Sheet.{descriptorRead, sheetTop, topFor, sheetEntries, entriesFor, sheetRead, readFor, sheetOf, shownFor}
-use Rattle.sheet.specs.Section.{sectionTop, sectionEntries, sectionLength, front, seal, sectionOf, contentOf, readSheet, readSheetFor}
+use Rattle.sheet.specs.Sheet.{descriptorRead, topFor, entriesFor, readFor, shownFor}
+use Rattle.sheet.specs.Section.{sectionTop, sectionEntries, sectionLength, front, seal, sectionOf, contentOf, readSheetFor}
 use Rattle.section.specs.Reading as section
 use Rattle.section.specs.Reading.{judged, read, opening, header, wrongSyntax, lengthOutside, sizeDiffers, crcFails, aboveLast, inside, topped, _andThen_}
 use Rattle.turn.specs.Turn.{gives, toSection, toSheet}

@@ -9,16 +9,16 @@ use Rattle.section.specs.Reading.{judged}
 use Rattle.contents.specs.Ones.{ReservedWereOnes}
 use Rattle.turn.specs.Turn.{Outcome, gives, toSection, toSheet, wrote, answer, roomAfter}
 use Rattle.turn.proofs.WholeLaws.{take-put}
-use Rattle.round_trips.specs.Rooms.{Written}
 use Rattle.round_trips.specs.Demand2.{SheetAndBack, SectionAndBack, WrittenAsOnes, BackOnlyIf, AnySectionAndBack}
 use Rattle.round_trips.proofs.RoundTrips as trips
-use Rattle.round_trips.proofs.Rooms.{Given, section-given, sheet-given}
+use Rattle.round_trips.proofs.Rooms.{section-given, sheet-given}
 use Rattle.round_trips.proofs.Unique.{section-once, sheet-once}
 use Rattle.turn.specs.declared.SectionAnswer.the-variants as section
 use Rattle.turn.specs.declared.SheetAnswer.the-variants as sheet
 
 -- bytes that are given stand at the front of the room
-front : (p p' s : List ℕ) (x : Outcome) → x ≡ gives s → length s ≤ length p → p' ≡ roomAfter p x → take (length s) p' ≡ s
+front : (p p' s : List ℕ) (x : Outcome) → x ≡ gives s → length s ≤ length p → p' ≡ roomAfter p x
+    → take (length s) p' ≡ s
 front p p' s x g h e = ap (take (length s)) (e ∙ ap (roomAfter p) g) ∙ take-put p s h
 
 pub sheet-and-back : SheetAndBack

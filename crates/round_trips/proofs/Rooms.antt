@@ -1,24 +1,19 @@
 -- What a call does to the room.
 use Prim.Native.Nat.{ℕ, _+_, _≤_}
-use mathlib.Core.Path.{_≡_, refl, sym, ap, ap₂, _∙_, subst}
+use mathlib.Core.Path.{_≡_, refl, sym, ap, _∙_, subst}
 use mathlib.Core.List.{List}
-use mathlib.Core.Bool.{Bool, true, false}
 use native.Mathlib.Omega.{arith}
-use borrow.Author.Tests.{ltb-false}
 use lib.ListN.{length, take, drop}
 use lib.Seq.{drop-at}
-use lib.Dec.{ltb}
-use Rattle.wire.specs.If.{if_then_else_}
 use Rattle.wire.specs.Bytes.{Bytes}
 use Rattle.forms.specs.Room.{put}
 use Rattle.forms.proofs.Puts.{put-fits, length-put}
-use Rattle.contents.proofs.Held.{Held, held}
-use Rattle.turn.specs.Turn.{Outcome, gives, refuses, sectionFrom, toSection, sheetFrom, sheetIf, toSheet, wrote, refused, answer, roomAfter}
+use Rattle.contents.proofs.Held.{held}
+use Rattle.turn.specs.Turn.{Outcome, gives, refuses, toSection, toSheet, wrote, refused, answer, roomAfter}
 use Rattle.turn.specs.Promise.{ToSection, ToSheet}
 use Rattle.turn.proofs.WholeLaws.{take-put}
 use Rattle.round_trips.specs.Rooms.{Written, SectionIsWritten, SheetIsWritten, RefusedSectionUnaltered, RefusedSheetUnaltered}
 use Rattle.round_trips.proofs.RoundTrips as trips
-use Rattle.round_trips.proofs.RoundTrips.{FromSheet, FromSection}
 use Rattle.turn.specs.declared.SectionAnswer.the-variants as section
 use Rattle.turn.specs.declared.SheetAnswer.the-variants as sheet
 
@@ -49,7 +44,8 @@ pub record Given (x : Outcome) (most n : ℕ) (o o' : List ℕ) : Type 0 where
   pub is : x ≡ gives bytes
   pub in-room : Written most n bytes o o'
 
-given : (most n : ℕ) (o o' : List ℕ) (x : Outcome) → ((t : List ℕ) → x ≡ gives t → (length t ≤ most) × (most ≤ length o))
+given : (most n : ℕ) (o o' : List ℕ) (x : Outcome)
+    → ((t : List ℕ) → x ≡ gives t → (length t ≤ most) × (most ≤ length o))
     → wrote n ≡ answer x → o' ≡ roomAfter o x → Given x most n o o'
 given most n o o' (gives t) fits e f =
     let k : length t ≡ n = sym cc in

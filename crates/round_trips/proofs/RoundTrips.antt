@@ -19,10 +19,10 @@ use Rattle.sheet.specs.Section.{sectionOf, contentOf, readSheet}
 use Rattle.contents.specs.Ones.{OnesIn, ReservedWereOnes}
 use Rattle.contents.specs.Holds.{Holds}
 use Rattle.contents.proofs.SectionLaws.{content-again}
-use Rattle.contents.proofs.Held.{Held, held, ones-of, OfSheet, of-sheet}
+use Rattle.contents.proofs.Held.{held, ones-of, of-sheet}
 use Rattle.contents.proofs.Accepted.{made-accepted}
 use Rattle.contents.proofs.SheetSize.{sheet-fits, section-fits}
-use Rattle.contents.proofs.ReadBack.{OfSection, of-accepted}
+use Rattle.contents.proofs.ReadBack.{of-accepted}
 use Rattle.turn.specs.Turn.{Outcome, gives, refuses, sectionFrom, toSection, sheetFrom, sheetIf, toSheet}
 use Rattle.turn.proofs.TurnLaws.{to-section, to-sheet}
 

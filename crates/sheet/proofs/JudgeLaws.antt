@@ -14,16 +14,16 @@ use Rattle.wire.specs.Bytes.{Bytes}
 use Rattle.wire.specs.Number.{numberAt}
 use Rattle.wire.specs.Reading.{Reading, value, refused, _>>=_}
 use Rattle.tables.specs.Tables.{cell, rowOf, rowAt}
-use Rattle.forms.specs.Form.{rawRead, raw, suchRead}
+use Rattle.forms.specs.Form.{Form, rawRead, raw, suchRead}
 use Rattle.forms.specs.Room.{sum}
-use Rattle.forms.specs.Fields.{sheetField}
+use Rattle.forms.specs.Fields.{Field, sheetField}
 use Rattle.forms.proofs.Lawful.{read-on, stays}
 use Rattle.forms.proofs.FieldLaws.{field-lawful}
 use Rattle.forms.proofs.Puts.{sum-fits, sum-past}
 use Rattle.sheet.specs.Content.{Content}
-use Rattle.sheet.specs.Sheet.{behindId, sheetRead, readFor, sheetOf}
+use Rattle.sheet.specs.Sheet.{behindFor, behindId, sheetRead, readFor, sheetOf}
 use Rattle.sheet.specs.Section.{sectionLength, readSheet, readSheetFor}
-use Rattle.sheet.specs.Reads.{judgedSheet}
+use Rattle.sheet.specs.Reads.{judgedFor, judgedSheet}
 use Rattle.sheet.specs.Inner.Places.{Ends, Known}
 use Rattle.sheet.specs.Inner.Lengths.{cut, gain, countAt, spare, lengthBy, judgedLength}
 use Rattle.sheet.proofs.SheetLaws.{sheet-lawful}
@@ -32,30 +32,32 @@ use Rattle.sheet.proofs.Sizes.{section-spare}
 -- ---- the table_id
 
 pub judged-empty : (s : List ℕ) → length s ≡ 0 → judgedSheet s ≡ refused 22
-unfolding judgedSheet readSheetFor readFor suchRead rawRead
+unfolding judgedFor readSheetFor readFor suchRead rawRead
 judged-empty [] e = refl
 judged-empty (a ∷ s) e = absurd (omega arith)
 
-module _ (a : ℕ) (t : List ℕ) where
+module _ (field : Field → Form ℕ) (a : ℕ) (t : List ℕ) where
   one-byte : rawRead 1 (a ∷ t) ≡ value (a ∷ [], t)
   unfolding rawRead
   one-byte = rw (le-leb 1 (length (a ∷ t)) (omega arith))
 
-  unknown-id : 6 ≤ rowOf a → judgedSheet (a ∷ t) ≡ refused 23
-  unfolding judgedSheet readSheetFor readFor suchRead
+  pub unknown-id : 6 ≤ rowOf a → judgedFor field (a ∷ t) ≡ refused 23
+  unfolding judgedFor readSheetFor readFor suchRead
   unknown-id h = stays _ (stays _ (stays _ (read-on _ one-byte ∙ rw (le-ltb (rowOf a) 6 h))))
 
   id-read : rowOf a < 6 → suchRead (raw 1) 23 (λ id. ltb (rowOf (getD id 0 0)) 6) (a ∷ t) ≡ value (a ∷ [], t)
   unfolding suchRead
   id-read h = read-on _ one-byte ∙ rw (lt-ltb (rowOf a) 6 h)
 
-  pub known-id : rowOf a < 6 → sheetRead (a ∷ t) ≡ (behindId (rowOf a) .read t >>= λ c. value ((a, c .0), c .1))
+  pub known-id : rowOf a < 6
+      → readFor field (a ∷ t) ≡ (behindFor field (rowOf a) .read t >>= λ c. value ((a, c .0), c .1))
   unfolding readFor
   known-id h = read-on _ (id-read h)
 
-pub judged-unknown : (s : List ℕ) → 0 < length s → 6 ≤ rowOf (getD s 0 0) → judgedSheet s ≡ refused 23
-judged-unknown [] h g = absurd (omega arith)
-judged-unknown (a ∷ t) h g = unknown-id a t g
+pub judged-unknown : (field : Field → Form ℕ) (s : List ℕ) → 0 < length s → 6 ≤ rowOf (getD s 0 0)
+    → judgedFor field s ≡ refused 23
+judged-unknown field [] h g = absurd (omega arith)
+judged-unknown field (a ∷ t) h g = unknown-id field a t g
 
 -- ---- behind it
 
@@ -64,8 +66,8 @@ module _ (a : ℕ) (t : List ℕ) (known : rowOf a < 6) where
   s = a ∷ t
 
   refused-behind : (k : ℕ) → behindId (rowOf a) .read t ≡ refused k → judgedSheet s ≡ refused k
-  unfolding judgedSheet readSheetFor
-  refused-behind k e = stays _ (stays _ (known-id a t known ∙ stays _ e))
+  unfolding judgedFor readSheetFor
+  refused-behind k e = stays _ (stays _ (known-id sheetField a t known ∙ stays _ e))
 
   module _ (e : ℕ) (p : Ends (behindId (rowOf a)) s 1 e) where
     content : Content
@@ -73,10 +75,10 @@ module _ (a : ℕ) (t : List ℕ) (known : rowOf a < 6) where
 
     whole-read : sheetRead s ≡ value (content, drop e s)
     unfolding content
-    whole-read = known-id a t known ∙ read-on _ (p .reads)
+    whole-read = known-id sheetField a t known ∙ read-on _ (p .reads)
 
     read-after : e < length s → judgedSheet s ≡ refused 25
-    unfolding judgedSheet readSheetFor
+    unfolding judgedFor readSheetFor
     read-after h = stays _ (read-on _ whole-read ∙ rw (lt-ltb 0 (length (drop e s)) (omega (arith, length-drop e s))))
 
     abbrev limit : ℕ
@@ -87,7 +89,7 @@ module _ (a : ℕ) (t : List ℕ) (known : rowOf a < 6) where
     read-whole h = read-on _ whole-read ∙ rw (le-ltb 0 (length (drop e s)) (omega (arith, length-drop e s)))
 
     read-to-the-end : e ≡ length s → judgedSheet s ≡ judgedLength limit (sectionLength content)
-    unfolding judgedSheet judgedLength
+    unfolding judgedFor judgedLength
     read-to-the-end h =
         ap (λ x. x >>= λ c. value (sectionLength c)) (read-whole h) ∙ go (ltb limit (sectionLength content))
       where

@@ -9,16 +9,15 @@ use lib.ListN.{length, getD}
 use lib.Dec.{ltb, eqb}
 use Rattle.wire.specs.If.{if_then_else_}
 use Rattle.wire.specs.Bytes.{Bytes}
-use Rattle.wire.specs.Reading.{Reading, value, _>>=_}
 use Rattle.wire.proofs.ReadingLaws.{value-is, through}
 use Rattle.tables.specs.Tables.{rowOf, rowAt}
-use Rattle.forms.specs.Form.{Form, mute, rawRead, raw, _then_, such, each}
+use Rattle.forms.specs.Form.{Form, rawRead, raw, _then_, such, each}
 use Rattle.forms.specs.Fields.{Field}
 use Rattle.forms.specs.Lists.{counted}
 use Rattle.forms.specs.Laws.{Lawful, Sound, Complete}
 use Rattle.forms.proofs.Lawful.{read-on, mute-lawful, raw-read, raw-shown, one-of, two-of, raw-lawful, then-lawful, such-lawful, each-lawful, bytes-behind}
 use Rattle.forms.proofs.ListLaws.{counted-lawful}
-use Rattle.sheet.specs.Content.{Item, plain, numbers, packed, bare, frame, headOf, entryOf, sideOf, Descriptor, Loop, Entry, Entries, Body, Content, tableOf, rowIn}
+use Rattle.sheet.specs.Content.{Item, plain, numbers, packed, bare, frame, headOf, entryOf, sideOf, Descriptor, Content, tableOf, rowIn}
 use Rattle.sheet.specs.Sheet.{inOrder, descriptorRead, descriptor, itemFor, loopFor, entryFor, topFor, entriesFor, bodyFor, behindFor, readFor, shownFor, OkFor, sheetFor}
 
 descriptor-sound : Sound descriptor
@@ -36,7 +35,10 @@ descriptor-sound s d t w e =
     let n : getD a 1 0 < 256 = subst Bytes es w 1 in
     let q : _≡_ {A = Descriptor × List ℕ} (record { tag = getD a 0 0; body = b }, u) (d, t) = value-is (y .2) in
     let g : s ≡ (getD a 0 0 ∷ length b ∷ b) ++ u = es ∙ ap₂ (λ m z. getD a 0 0 ∷ m ∷ z) (sym (k .1)) (k .0) in
-    subst (λ (z : Descriptor × List ℕ). (s ≡ (z .0 .tag ∷ length (z .0 .body) ∷ z .0 .body) ++ z .1) × (length (z .0 .body) < 256)) q (g, omega (arith, k .1))
+    subst
+    (λ (z : Descriptor × List ℕ). (s ≡ (z .0 .tag ∷ length (z .0 .body) ∷ z .0 .body) ++ z .1)
+    × (length (z .0 .body) < 256))
+    q (g, omega (arith, k .1))
 
 pub descriptor-complete : Complete descriptor
 unfolding descriptorRead
@@ -71,7 +73,9 @@ module _ (field : Field → Form ℕ) (lawful : (f : Field) → Lawful (field f)
   loop-lawful fs = then-lawful (each field fs) (counted descriptor) (fields-lawful fs) (counted-lawful descriptor descriptor-lawful)
 
   pub entry-lawful : (row : ℕ) → Lawful (entryFor field row)
-  entry-lawful row = then-lawful (each (itemFor field) (entryOf row)) (loopFor field (sideOf row)) (items-lawful (entryOf row)) (loop-lawful (sideOf row))
+  entry-lawful row =
+      then-lawful (each (itemFor field) (entryOf row)) (loopFor field (sideOf row)) (items-lawful (entryOf row))
+      (loop-lawful (sideOf row))
 
   pub top-lawful : (row : ℕ) → Lawful (topFor field row)
   unfolding topFor
@@ -96,7 +100,9 @@ module _ (field : Field → Form ℕ) (lawful : (f : Field) → Lawful (field f)
   unfolding readFor shownFor OkFor
   sheet-complete c r o =
       let id = tableOf c ∷ [] in
-      read-on _ (such-lawful (raw 1) 23 known (raw-lawful 1) .complete id (behindFor field (rowIn c) .show (c .1) ++ r) (refl, lt-ltb _ _ (o .0)))
+      read-on _
+      (such-lawful (raw 1) 23 known (raw-lawful 1) .complete id (behindFor field (rowIn c) .show (c .1) ++ r)
+      (refl, lt-ltb _ _ (o .0)))
       ∙ read-on _ (behind-lawful (rowIn c) .complete (c .1) r (o .1))
 
   sheet-sound : Sound (sheetFor field)

@@ -136,13 +136,17 @@ headIn c = bodyOf c .0
 abbrev pub topIn : Content → Loop
 topIn c = bodyOf c .1 .0
 
+-- what stands behind that: the entries, and the fields beside the length over them
+abbrev pub restIn : Content → Entries
+restIn c = bodyOf c .1 .1
+
 -- the fields beside the length over its entries
 abbrev pub secondIn : Content → List ℕ
-secondIn c = bodyOf c .1 .1 .0
+secondIn c = restIn c .0
 
 -- its entries
 abbrev pub entriesIn : Content → List Entry
-entriesIn c = bodyOf c .1 .1 .1
+entriesIn c = restIn c .1
 
 -- the row of its table
 abbrev pub rowIn : Content → ℕ

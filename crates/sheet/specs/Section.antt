@@ -1,6 +1,5 @@
 -- Sections, as a form of what a table contains: EN 300 468, clause 5.2.
-use Prim.Native.Nat.{ℕ, _+_, _-_, _*_, _/_, _%_, _≤_, _<_}
-use mathlib.Core.Path.{_≡_}
+use Prim.Native.Nat.{ℕ, _+_, _-_, _*_, _/_, _%_}
 use mathlib.Core.List.{List, [], _∷_, _++_}
 use lib.ListN.{length, getD, take, drop}
 use lib.Dec.{ltb, eqb}
@@ -9,9 +8,9 @@ use Rattle.wire.specs.Reading.{Reading, value, refused, _>>=_}
 use Rattle.crc.specs.Crc.{crc, bytesOf}
 use Rattle.tables.specs.Tables.{rowOf, rowAt}
 use Rattle.forms.specs.Form.{Form, mute, raw, _then_, such, each}
-use Rattle.forms.specs.Fields.{Field, sheetField, pack, unpack, Fit, byteOf}
+use Rattle.forms.specs.Fields.{Field, sheetField, pack, unpack, byteOf}
 use Rattle.forms.specs.Lists.{loop, filling}
-use Rattle.sheet.specs.Content.{Item, plain, numbers, packed, bare, frame, headOf, entryOf, sideOf, Fields, Loop, Entry, Entries, Body, Content, tableOf, frameOf, bodyOf, rowIn}
+use Rattle.sheet.specs.Content.{Item, plain, numbers, packed, bare, frame, headOf, entryOf, sideOf, Loop, Entry, Entries, Body, Content, tableOf, frameOf, bodyOf, rowIn}
 use Rattle.sheet.specs.Sheet.{inOrder, descriptor, sheetFor}
 
 -- an item of a head or an entry in a section; 7 is the section's refusal of a section_number above the last

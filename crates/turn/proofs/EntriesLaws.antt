@@ -5,23 +5,23 @@ use mathlib.Core.Path.{_≡_, refl, sym, ap, ap₂, _∙_, subst}
 use mathlib.Core.List.{List, [], _∷_, _++_, append-nil}
 use mathlib.Core.Bool.{Bool, true, false, not}
 use native.Mathlib.Omega.{arith}
-use lib.ListN.{length, getD, take, drop, length-append}
+use lib.ListN.{length, getD, take, drop}
 use Rattle.wire.specs.Bytes.{len12, len12At}
 use Rattle.wire.specs.Number.{numberAt}
 use Rattle.wire.specs.Parts.{Part}
 use Rattle.wire.proofs.PartLaws.{part-second, part-taken}
-use Rattle.tables.specs.Tables.{cell, rowAt}
-use Rattle.forms.specs.Form.{Form, mute, eachShow, EachOk}
-use Rattle.forms.specs.Fields.{Field, reserved, room, pack, Fit, sheetFields}
+use Rattle.tables.specs.Tables.{cell}
+use Rattle.forms.specs.Form.{mute, eachShow, EachOk}
+use Rattle.forms.specs.Fields.{room, pack, sheetFields}
 use Rattle.forms.specs.Lists.{all, All, none, one, times, countedShow, loopShow}
 use Rattle.forms.specs.Room.{put, sum}
 use Rattle.forms.specs.Inner.Turning.{Done, Turned}
 use Rattle.forms.proofs.Puts.{sum-fits, put-none, put-put, length-put}
 use Rattle.forms.proofs.Turns.{turned-then, turned-as, turned-nothing, turned-zero, turned-suc}
-use Rattle.sheet.specs.Content.{Entry, Loop, bare, status, entryOf, sideOf}
+use Rattle.sheet.specs.Content.{Entry, bare, entryOf, sideOf}
 use Rattle.sheet.specs.Sheet.{sheetEntry}
 use Rattle.sheet.specs.Section.{sectionEntry}
-use Rattle.turn.specs.Inner.Ways.{itemsFrom, itemsTo, loopFrom, loopTo, entryFrom, entryTo, sideIf, topIf, entriesShown, BesideOk, BesideFit, EntriesForth, EntriesBack, NumberIn, putNumber}
+use Rattle.turn.specs.Inner.Ways.{itemsFrom, itemsTo, loopFrom, loopTo, entryFrom, entryTo, sideIf, topIf, EntriesForth, EntriesBack, NumberIn, putNumber}
 use Rattle.contents.proofs.SectionLaws.{half-bare, no-more, entry-full}
 use Rattle.contents.proofs.Accepted.{says}
 use Rattle.turn.proofs.PieceLaws.{part-within, part-byte, part-first-byte}
@@ -56,9 +56,11 @@ side-status (suc (suc (suc (suc (suc zero))))) f g h = absurd (h refl)
 side-status (suc (suc (suc (suc (suc (suc row)))))) f g h = refl
 
 pub turned-entry : {s o o' o'' : List ℕ} {p q r : Place} (b st : Bool) (row : ℕ) → sideIf st ≡ sideOf row
-    → Turned (itemsFrom b (entryOf row)) (itemsTo b (entryOf row)) s p o q o' → Turned (loopFrom b (sideIf st)) (loopTo b (sideIf st)) s q o' r o''
+    → Turned (itemsFrom b (entryOf row)) (itemsTo b (entryOf row)) s p o q o'
+    → Turned (loopFrom b (sideIf st)) (loopTo b (sideIf st)) s q o' r o''
     → Turned (entryFrom b row) (entryTo b row) s p o r o''
-turned-entry {s = s} {o' = o'} {o'' = o''} {q = q} {r = r} b st row e t u = turned-then t (subst (λ fs. Turned (loopFrom b fs) (loopTo b fs) s q o' r o'') e u)
+turned-entry {s = s} {o' = o'} {o'' = o''} {q = q} {r = r} b st row e t u =
+    turned-then t (subst (λ fs. Turned (loopFrom b fs) (loopTo b fs) s q o' r o'') e u)
 
 -- ---- so many entries: what the rest comes to, the whole comes to
 
@@ -67,13 +69,19 @@ module _ (b : Bool) (row number : ℕ) (s : List ℕ) (o : List ℕ) (p : Place)
   Turning o' q left = (r : Place) (o'' : List ℕ) → Turned (times (entryFrom b row) left) (times (entryTo b row) left) s q o' r o''
       → Turned (times (entryFrom b row) number) (times (entryTo b row) number) s p o r o''
 
-  pub turning-on : {q q' : Place} {o' o'' : List ℕ} (left k : ℕ) → left ≡ suc k → Turned (entryFrom b row) (entryTo b row) s q o' q' o'' → Turning o' q left → Turning o'' q' k
+  pub turning-on : {q q' : Place} {o' o'' : List ℕ} (left k : ℕ) → left ≡ suc k
+      → Turned (entryFrom b row) (entryTo b row) s q o' q' o'' → Turning o' q left → Turning o'' q' k
   turning-on {q} {q'} {o'} {o''} left k e t f r x u =
-      f r x (subst (λ n. Turned (times (entryFrom b row) n) (times (entryTo b row) n) s q o' r x) (sym e) (turned-suc (entryFrom b row) (entryTo b row) k t u))
+      f r x
+      (subst (λ n. Turned (times (entryFrom b row) n) (times (entryTo b row) n) s q o' r x) (sym e)
+      (turned-suc (entryFrom b row) (entryTo b row) k t u))
 
-  pub turning-ends : {q : Place} {o' : List ℕ} (left : ℕ) → left ≡ 0 → Turning o' q left → Turned (times (entryFrom b row) number) (times (entryTo b row) number) s p o q o'
+  pub turning-ends : {q : Place} {o' : List ℕ} (left : ℕ) → left ≡ 0 → Turning o' q left
+      → Turned (times (entryFrom b row) number) (times (entryTo b row) number) s p o q o'
   turning-ends {q} {o'} left e f =
-      f q o' (subst (λ n. Turned (times (entryFrom b row) n) (times (entryTo b row) n) s q o' q o') (sym e) (turned-zero (entryFrom b row) (entryTo b row)))
+      f q o'
+      (subst (λ n. Turned (times (entryFrom b row) n) (times (entryTo b row) n) s q o' q o') (sym e)
+      (turned-zero (entryFrom b row) (entryTo b row)))
 
 -- ---- what is shown of them
 
@@ -83,7 +91,8 @@ sheet-shown row [] = refl
 sheet-shown row (e ∷ l) = ap (λ z. sheetEntry row .show e ++ z) (sheet-shown row l)
 
 -- the number that stands before them
-number-read : (row : ℕ) (s : List ℕ) (at : ℕ) (es : List Entry) → length es < 65536 → Part s at (countedShow (sheetEntry row) es) → numberAt 2 s at ≡ length es
+number-read : (row : ℕ) (s : List ℕ) (at : ℕ) (es : List Entry) → length es < 65536
+    → Part s at (countedShow (sheetEntry row) es) → numberAt 2 s at ≡ length es
 unfolding countedShow numberAt
 number-read row s at es h w =
     let k : ℕ = length es in
@@ -92,9 +101,11 @@ number-read row s at es h w =
     omega arith
 
 -- a number of two bytes, put
-pub number-put : (o : List ℕ) (to v : ℕ) → length o < 2 ^ 64 → to + 2 ≤ length o → putNumber o to v ≡ put o to (v / 256 % 256 ∷ v % 256 ∷ [])
+pub number-put : (o : List ℕ) (to v : ℕ) → length o < 2 ^ 64 → to + 2 ≤ length o
+    → putNumber o to v ≡ put o to (v / 256 % 256 ∷ v % 256 ∷ [])
 number-put o to v lo f =
-    ap (λ q. put (put o to (v / 256 % 256 ∷ [])) q (v % 256 ∷ [])) (sum-fits to 1 (omega arith)) ∙ put-put o to (v / 256 % 256 ∷ []) (omega arith) (v % 256 ∷ []) (omega arith)
+    ap (λ q. put (put o to (v / 256 % 256 ∷ [])) q (v % 256 ∷ [])) (sum-fits to 1 (omega arith))
+    ∙ put-put o to (v / 256 % 256 ∷ []) (omega arith) (v % 256 ∷ []) (omega arith)
 
 number-length : (o x : List ℕ) (to v : ℕ) → length o < 2 ^ 64 → to + 2 ≤ length o → x ≡ putNumber o to v → length x ≡ length o
 number-length o x to v lo f e = ap length (e ∙ number-put o to v lo f) ∙ length-put o to (v / 256 % 256 ∷ v % 256 ∷ []) (omega arith)
@@ -106,7 +117,8 @@ beside-ones [] o = absurd o
 beside-ones (v ∷ []) o = let e = o .0 in omega arith
 beside-ones (v ∷ w ∷ vs) o = absurd (o .1)
 
-module _ (row : ℕ) (s o : List ℕ) (ls : length s < 2 ^ 64) (lo : length o < 2 ^ 64) (p : Place) (end : ℕ) (number : ℕ) (hn : number ≡ numberAt 2 s (p .at)) where
+module _ (row : ℕ) (s o : List ℕ) (ls : length s < 2 ^ 64) (lo : length o < 2 ^ 64) (p : Place) (end : ℕ) (number : ℕ)
+    (hn : number ≡ numberAt 2 s (p .at)) where
   -- what turning the entries themselves gives
   entries-done : (es : List Entry) → All (entryFrom true row) es → length es < 65536 → Part s (p .at) (countedShow (sheetEntry row) es)
       → {z q : Place} {x o' : List ℕ} → z .at ≡ sum (p .at) 2 → z .to + length (all (sectionEntry row) es) ≤ length x
@@ -117,12 +129,16 @@ module _ (row : ℕ) (s o : List ℕ) (ls : length s < 2 ^ 64) (lo : length o < 
       let n = part-within (countedShow (sheetEntry row) es) w in
       let a : z .at ≡ p .at + 2 = hz ∙ sum-fits (p .at) 2 (omega arith) in
       let i : length es ≡ number = sym (hn ∙ number-read row s (p .at) es h w) in
-      let wb : Part s (p .at + 2) (all (sheetEntry row) es) = part-second (length es / 256 ∷ length es % 256 ∷ []) (all (sheetEntry row) es) w in
-      let wz : Part s (z .at) (all (entryFrom true row) es) = subst (λ l. Part s (z .at) l) (sym (sheet-shown row es)) (subst (λ k. Part s k (all (sheetEntry row) es)) (sym a) wb) in
+      let wb : Part s (p .at + 2) (all (sheetEntry row) es) =
+      part-second (length es / 256 ∷ length es % 256 ∷ []) (all (sheetEntry row) es) w in
+      let wz : Part s (z .at) (all (entryFrom true row) es) =
+      subst (λ l. Part s (z .at) l) (sym (sheet-shown row es))
+      (subst (λ k. Part s k (all (sheetEntry row) es)) (sym a) wb) in
       let d = t .turned es (i, oe) wz f in
       record { room = d .room; read = d .read ∙ ap (λ l. z .at + length l) (sheet-shown row es); written = d .written }
 
-  pub forth-top : {z q : Place} {x o' : List ℕ} → z .at ≡ sum (p .at) 2 → z .to ≡ sum (p .to) 2 → x ≡ putNumber o (p .to) (sum 0xF000 (end - z .to))
+  pub forth-top : {z q : Place} {x o' : List ℕ} → z .at ≡ sum (p .at) 2 → z .to ≡ sum (p .to) 2
+      → x ≡ putNumber o (p .to) (sum 0xF000 (end - z .to))
       → Turned (times (entryFrom true row) number) (times (entryTo true row) number) s z x q o' → EntriesForth true row s p end o q o'
   unfolding countedShow loopShow
   forth-top {z} {q} {x} {o'} ha ht hx t = record {
@@ -150,7 +166,8 @@ module _ (row : ℕ) (s o : List ℕ) (ls : length s < 2 ^ 64) (lo : length o < 
         };
   }
 
-  pub forth-plain : {z q : Place} {o' : List ℕ} → z .at ≡ sum (p .at) 2 → z .to ≡ p .to → Turned (times (entryFrom true row) number) (times (entryTo true row) number) s z o q o'
+  pub forth-plain : {z q : Place} {o' : List ℕ} → z .at ≡ sum (p .at) 2 → z .to ≡ p .to
+      → Turned (times (entryFrom true row) number) (times (entryTo true row) number) s z o q o'
       → EntriesForth false row s p end o q o'
   unfolding countedShow
   forth-plain {z} {q} {o'} ha ht t = record {
@@ -168,10 +185,13 @@ module _ (row : ℕ) (s o : List ℕ) (ls : length s < 2 ^ 64) (lo : length o < 
 
 module _ (row : ℕ) (s o : List ℕ) (ls : length s < 2 ^ 64) (lo : length o < 2 ^ 64) (p : Place) (end : ℕ) where
   -- the number and the entries, put
-  back-done : (es : List Entry) (at : ℕ) → All (sectionEntry row) es → length (all (sectionEntry row) es) < 4096 → Part s at (all (sectionEntry row) es)
-      → p .to + length (countedShow (sheetEntry row) es) ≤ length o → (k : ℕ) → k ≡ length es → {z q : Place} {x o' : List ℕ} → z .at ≡ at → z .to ≡ sum (p .to) 2
+  back-done : (es : List Entry) (at : ℕ) → All (sectionEntry row) es → length (all (sectionEntry row) es) < 4096
+      → Part s at (all (sectionEntry row) es)
+      → p .to + length (countedShow (sheetEntry row) es) ≤ length o → (k : ℕ) → k ≡ length es
+      → {z q : Place} {x o' : List ℕ} → z .at ≡ at → z .to ≡ sum (p .to) 2
       → x ≡ putNumber o (p .to) k → Turned (times (entryFrom false row) k) (times (entryTo false row) k) s z x q o'
-      → (o' ≡ put o (p .to) (countedShow (sheetEntry row) es)) × (q .at ≡ at + length (all (sectionEntry row) es)) × (q .to ≡ p .to + length (countedShow (sheetEntry row) es))
+      → (o' ≡ put o (p .to) (countedShow (sheetEntry row) es)) × (q .at ≡ at + length (all (sectionEntry row) es))
+      × (q .to ≡ p .to + length (countedShow (sheetEntry row) es))
   unfolding countedShow
   back-done es at oe small w f k ik {z} {q} {x} {o'} ha ht hx t =
       let body = all (sheetEntry row) es in
@@ -185,11 +205,17 @@ module _ (row : ℕ) (s o : List ℕ) (ls : length s < 2 ^ 64) (lo : length o < 
       let none = sym (put-none o (p .to) (omega arith)) in
       let pt = put-three o (p .to) [] k body lo (omega arith) o x (p .to) none zz hx in
       let hi : k / 256 % 256 ≡ length es / 256 = omega arith in
-      let hj : k % 256 ≡ length es % 256 = omega arith in
-      (d .room ∙ ap₂ (λ j l. put x j l) to sh ∙ pt .1 ∙ ap₂ (λ i j. put o (p .to) (i ∷ j ∷ body)) hi hj, d .read ∙ ap (λ j. j + length (all (sectionEntry row) es)) ha, d .written ∙ omega arith)
+      let hj : k % 256 ≡ length es % 256 = omega arith in (
+        d .room ∙ ap₂ (λ j l. put x j l) to sh ∙ pt .1 ∙ ap₂ (λ i j. put o (p .to) (i ∷ j ∷ body)) hi hj,
+        d .read ∙ ap (λ j. j + length (all (sectionEntry row) es)) ha,
+        d .written ∙ omega arith,
+      )
 
-  pub back-top : (k n : ℕ) {z q : Place} {x o' : List ℕ} → n ≡ len12At s (p .at) → NumberIn (sectionEntry row) (take n (drop (sum (p .at) 2) s)) k → z .at ≡ sum (p .at) 2
-      → z .to ≡ sum (p .to) 2 → x ≡ putNumber o (p .to) k → Turned (times (entryFrom false row) k) (times (entryTo false row) k) s z x q o' → EntriesBack true row s p end o q o'
+  pub back-top : (k n : ℕ) {z q : Place} {x o' : List ℕ} → n ≡ len12At s (p .at)
+      → NumberIn (sectionEntry row) (take n (drop (sum (p .at) 2) s)) k → z .at ≡ sum (p .at) 2
+      → z .to ≡ sum (p .to) 2 → x ≡ putNumber o (p .to) k
+      → Turned (times (entryFrom false row) k) (times (entryTo false row) k) s z x q o'
+      → EntriesBack true row s p end o q o'
   unfolding loopShow
   back-top k n {z} {q} {x} {o'} hn hk ha ht hx t = record {
     turned = λ vs es ov oe small w e f.
@@ -209,8 +235,11 @@ module _ (row : ℕ) (s o : List ℕ) (ls : length s < 2 ^ 64) (lo : length o < 
         record { room = d .0; read = omega arith; written = d .2 };
   }
 
-  pub back-plain : (k : ℕ) {z q : Place} {x o' : List ℕ} → NumberIn (sectionEntry row) (take (end - p .at) (drop (p .at) s)) k → z .at ≡ p .at
-      → z .to ≡ sum (p .to) 2 → x ≡ putNumber o (p .to) k → Turned (times (entryFrom false row) k) (times (entryTo false row) k) s z x q o' → EntriesBack false row s p end o q o'
+  pub back-plain : (k : ℕ) {z q : Place} {x o' : List ℕ}
+      → NumberIn (sectionEntry row) (take (end - p .at) (drop (p .at) s)) k → z .at ≡ p .at
+      → z .to ≡ sum (p .to) 2 → x ≡ putNumber o (p .to) k
+      → Turned (times (entryFrom false row) k) (times (entryTo false row) k) s z x q o'
+      → EntriesBack false row s p end o q o'
   back-plain k {z} {q} {x} {o'} hk ha ht hx t = record {
     turned = λ vs es ov oe small w e f.
         let body = all (sectionEntry row) es in
@@ -223,7 +252,8 @@ module _ (row : ℕ) (s o : List ℕ) (ls : length s < 2 ^ 64) (lo : length o < 
 -- ---- the top loop
 
 -- an entry without fields is its loop
-pub top-turned : {s o o' : List ℕ} {p q : Place} (b t : Bool) → t ≡ true → Turned (times (entryFrom b 5) 1) (times (entryTo b 5) 1) s p o q o'
+pub top-turned : {s o o' : List ℕ} {p q : Place} (b t : Bool) → t ≡ true
+    → Turned (times (entryFrom b 5) 1) (times (entryTo b 5) 1) s p o q o'
     → Turned (topIf b t) (topIf (not b) t) s p o q o'
 unfolding sideOf entryOf cell all eachShow EachOk
 top-turned {s} {o} {o'} {p} {q} b t e u =
@@ -232,12 +262,15 @@ top-turned {s} {o} {o'} {p} {q} b t e u =
 
 pub no-top-turned : {s o : List ℕ} {p : Place} (b t : Bool) → t ≡ false → Turned (topIf b t) (topIf (not b) t) s p o p o
 no-top-turned {s} {o} {p} b t e =
-    subst (λ x. Turned (topIf b x) (topIf (not b) x) s p o p o) (sym e) (turned-nothing (mute ([], [])) (mute ([], [])) s p o (λ a k. (refl, refl)))
+    subst (λ x. Turned (topIf b x) (topIf (not b) x) s p o p o) (sym e)
+    (turned-nothing (mute ([], [])) (mute ([], [])) s p o (λ a k. (refl, refl)))
 
 -- ---- with or without a length of their own
 
-pub forth-as : {row end : ℕ} {s o o' : List ℕ} {p q : Place} {u : Bool} (t : Bool) → t ≡ u → EntriesForth u row s p end o q o' → EntriesForth t row s p end o q o'
+pub forth-as : {row end : ℕ} {s o o' : List ℕ} {p q : Place} {u : Bool} (t : Bool) → t ≡ u
+    → EntriesForth u row s p end o q o' → EntriesForth t row s p end o q o'
 forth-as {row} {end} {s} {o} {o'} {p} {q} t e h = subst (λ b. EntriesForth b row s p end o q o') (sym e) h
 
-pub back-as : {row end : ℕ} {s o o' : List ℕ} {p q : Place} {u : Bool} (t : Bool) → t ≡ u → EntriesBack u row s p end o q o' → EntriesBack t row s p end o q o'
+pub back-as : {row end : ℕ} {s o o' : List ℕ} {p q : Place} {u : Bool} (t : Bool) → t ≡ u
+    → EntriesBack u row s p end o q o' → EntriesBack t row s p end o q o'
 back-as {row} {end} {s} {o} {o'} {p} {q} t e h = subst (λ b. EntriesBack b row s p end o q o') (sym e) h

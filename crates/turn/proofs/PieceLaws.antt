@@ -1,26 +1,25 @@
 -- Laws of the pieces that are turned by themselves.
-use Prim.Native.Nat.{ℕ, zero, suc, _+_, _-_, _*_, _/_, _%_, _^_, _<_, _≤_}
+use Prim.Native.Nat.{ℕ, _+_, _-_, _*_, _/_, _%_, _^_, _<_, _≤_}
 use mathlib.Core.Path.{_≡_, refl, sym, ap, ap₂, _∙_, subst}
 use mathlib.Core.List.{List, [], _∷_, _++_}
 use mathlib.Core.Bool.{Bool, true, false, not}
 use native.Mathlib.Omega.{arith}
 use lib.ListN.{length, getD, take, drop, length-append, List·getD-append}
 use lib.Seq.{getD-append-add}
-use Rattle.wire.specs.If.{if_then_else_}
 use Rattle.wire.specs.Parts.{Part}
 use Rattle.wire.proofs.PartLaws.{part-taken}
 use Rattle.forms.specs.Form.{Form, raw, eachShow, EachOk}
-use Rattle.forms.specs.Fields.{Field, kept, reserved, room, pack, Fit, sheetFields}
+use Rattle.forms.specs.Fields.{kept, reserved, room, pack}
 use Rattle.forms.specs.Room.{put, sum}
 use Rattle.forms.specs.Inner.Turning.{Done, Turned}
 use Rattle.forms.proofs.Puts.{sum-fits, put-put, put-none, copied-put}
 use Rattle.forms.proofs.Turns.{turned-never}
 use Rattle.copy.specs.Copy.{copies, copied}
 use Rattle.copy.proofs.Copies.{copies-not}
-use Rattle.sheet.specs.Content.{version, flags, filler}
+use Rattle.sheet.specs.Content.{filler}
 use Rattle.sheet.specs.Sheet.{sheetItem}
 use Rattle.sheet.specs.Section.{sectionItem}
-use Rattle.turn.specs.Inner.Ways.{itemFrom, itemTo, special, spanOf}
+use Rattle.turn.specs.Inner.Ways.{special, spanOf}
 use Rattle.forms.specs.declared.Place.{Place}
 
 -- ---- parts
@@ -53,17 +52,25 @@ module _ (s o : List ℕ) (ls : length s < 2 ^ 64) (lo : length o < 2 ^ 64) (p :
       let n = part-within x w in
       record { room = e; read = a ∙ sum-fits (p .at) (length x) (omega arith); written = b ∙ sum-fits (p .to) (length u) (omega arith) }
 
-  pub turned-raw : (n : ℕ) {q : Place} {o' : List ℕ} → o' ≡ copied s (p .at) n o (p .to) → q .at ≡ p .at + n → q .to ≡ p .to + n → Turned (raw n) (raw n) s p o q o'
+  pub turned-raw : (n : ℕ) {q : Place} {o' : List ℕ} → o' ≡ copied s (p .at) n o (p .to) → q .at ≡ p .at + n
+      → q .to ≡ p .to + n → Turned (raw n) (raw n) s p o q o'
   turned-raw n e a b = record {
     turned = λ x k w f.
         let h = part-within x w in
         let t : take n (drop (p .at) s) ≡ x = ap (λ m. take m (drop (p .at) s)) (sym k) ∙ part-taken w in
-        record { room = e ∙ copied-put s (p .at) n o (p .to) (omega arith) (omega arith) ∙ ap (put o (p .to)) t; read = omega (arith, a); written = omega (arith, b) };
+        record {
+          room = e ∙ copied-put s (p .at) n o (p .to) (omega arith) (omega arith) ∙ ap (put o (p .to)) t;
+          read = omega (arith, a);
+          written = omega (arith, b);
+        };
   }
 
   -- what is not copied is not there, or has no room
-  pub raw-not-there : (n : ℕ) {r : Bool} {q : Place} {o' : List ℕ} → r ≡ copies s (p .at) n o (p .to) → r ≡ false → Turned (raw n) (raw n) s p o q o'
-  raw-not-there n e g = turned-never (λ x k w f. let h = part-within x w in copies-not s (p .at) n o (p .to) e g (omega arith) (omega arith))
+  pub raw-not-there : (n : ℕ) {r : Bool} {q : Place} {o' : List ℕ} → r ≡ copies s (p .at) n o (p .to) → r ≡ false
+      → Turned (raw n) (raw n) s p o q o'
+  raw-not-there n e g =
+      turned-never (λ x k w f. let h = part-within x w in copies-not s (p .at) n o (p .to) e g (omega arith)
+      (omega arith))
 
 -- ---- a byte of reserved bits, a value and a flag
 
@@ -138,22 +145,29 @@ module _ (s o : List ℕ) (ls : length s < 2 ^ 64) (lo : length o < 2 ^ 64) (p :
   -- two bytes that are read there
   two-read : (a b : ℕ) → Part s (p .at) (a ∷ b ∷ []) → (getD s (p .at) 0 ≡ a) × (getD s (sum (p .at) 1) 0 ≡ b)
   two-read a b w =
-      let n = part-within (a ∷ b ∷ []) w in
-      (part-first-byte (a ∷ b ∷ []) w (omega arith), ap (λ k. getD s k 0) (sum-fits (p .at) 1 (omega arith)) ∙ part-byte (a ∷ b ∷ []) w 1 (omega arith))
+      let n = part-within (a ∷ b ∷ []) w in (
+        part-first-byte (a ∷ b ∷ []) w (omega arith),
+        ap (λ k. getD s k 0) (sum-fits (p .at) 1 (omega arith)) ∙ part-byte (a ∷ b ∷ []) w 1 (omega arith),
+      )
 
   -- two bytes that are written there, one after the other
   pub two-put : (a b : ℕ) → p .to + 2 ≤ length o → put (put o (p .to) (a ∷ [])) (sum (p .to) 1) (b ∷ []) ≡ put o (p .to) (a ∷ b ∷ [])
-  two-put a b f = ap (λ k. put (put o (p .to) (a ∷ [])) k (b ∷ [])) (sum-fits (p .to) 1 (omega arith)) ∙ put-put o (p .to) (a ∷ []) (omega arith) (b ∷ []) (omega arith)
+  two-put a b f =
+      ap (λ k. put (put o (p .to) (a ∷ [])) k (b ∷ [])) (sum-fits (p .to) 1 (omega arith))
+      ∙ put-put o (p .to) (a ∷ []) (omega arith) (b ∷ []) (omega arith)
 
-  pub turned-pack : (v : Bool) (x : ℕ) → x ≡ (256 - 2 * spanOf v + getD s (p .at) 0 * 2 + getD s (sum (p .at) 1) 0) % 256 → {q : Place} {o' : List ℕ}
-      → o' ≡ put o (p .to) (x ∷ []) → q .at ≡ sum (p .at) 2 → q .to ≡ sum (p .to) 1 → Turned (sheetItem (special v)) (sectionItem (special v)) s p o q o'
+  pub turned-pack : (v : Bool) (x : ℕ)
+      → x ≡ (256 - 2 * spanOf v + getD s (p .at) 0 * 2 + getD s (sum (p .at) 1) 0) % 256 → {q : Place} {o' : List ℕ}
+      → o' ≡ put o (p .to) (x ∷ []) → q .at ≡ sum (p .at) 2 → q .to ≡ sum (p .to) 1
+      → Turned (sheetItem (special v)) (sectionItem (special v)) s p o q o'
   turned-pack v x is {q} {o'} e a b = record {
     turned = λ vs k w f.
         let t = two-of v vs k in
         let y : List ℕ = t .kept-value ∷ t .kept-flag ∷ [] in
         let w' : Part s (p .at) y = subst (Part s (p .at)) (t .in-sheet) w in
         let r = two-read (t .kept-value) (t .kept-flag) w' in
-        let i : x ≡ (256 - 2 * spanOf v + t .kept-value * 2 + t .kept-flag) % 256 = is ∙ ap₂ (λ m n. (256 - 2 * spanOf v + m * 2 + n) % 256) (r .0) (r .1) in
+        let i : x ≡ (256 - 2 * spanOf v + t .kept-value * 2 + t .kept-flag) % 256 =
+        is ∙ ap₂ (λ m n. (256 - 2 * spanOf v + m * 2 + n) % 256) (r .0) (r .1) in
         let u : x ∷ [] ≡ sectionItem (special v) .show vs = ap (λ z. z ∷ []) i ∙ sym (t .in-section) in
         done s o ls lo p (sheetItem (special v) .show vs) (sectionItem (special v) .show vs) w f (e ∙ ap (put o (p .to)) u)
         (a ∙ ap (λ l. sum (p .at) (length l)) (sym (t .in-sheet))) (b ∙ ap (λ l. sum (p .to) (length l)) u);
@@ -166,7 +180,8 @@ module _ (s o : List ℕ) (ls : length s < 2 ^ 64) (lo : length o < 2 ^ 64) (p :
     turned = λ vs k w f.
         let t = byte-of v vs k in
         let r : getD s (p .at) 0 ≡ t .x = part-first-byte (t .x ∷ []) (subst (Part s (p .at)) (t .in-section) w) (omega arith) in
-        let u : i ∷ j ∷ [] ≡ sheetItem (special v) .show vs = ap₂ (λ m n. m ∷ n ∷ []) (hi ∙ ap (λ z. z / 2 % spanOf v) r) (hj ∙ ap (λ z. z % 2) r) ∙ sym (t .in-sheet) in
+        let u : i ∷ j ∷ [] ≡ sheetItem (special v) .show vs =
+        ap₂ (λ m n. m ∷ n ∷ []) (hi ∙ ap (λ z. z / 2 % spanOf v) r) (hj ∙ ap (λ z. z % 2) r) ∙ sym (t .in-sheet) in
         let l = ap length u in
         done s o ls lo p (sectionItem (special v) .show vs) (sheetItem (special v) .show vs) w f
         (e ∙ two-put i j (omega arith) ∙ ap (put o (p .to)) u)
@@ -175,11 +190,13 @@ module _ (s o : List ℕ) (ls : length s < 2 ^ 64) (lo : length o < 2 ^ 64) (p :
 
   -- ---- a byte of reserved bits
 
-  pub turned-fill : {q : Place} {o' : List ℕ} → o' ≡ put o (p .to) (255 ∷ []) → q .at ≡ p .at → q .to ≡ sum (p .to) 1 → Turned (sheetItem filler) (sectionItem filler) s p o q o'
+  pub turned-fill : {q : Place} {o' : List ℕ} → o' ≡ put o (p .to) (255 ∷ []) → q .at ≡ p .at → q .to ≡ sum (p .to) 1
+      → Turned (sheetItem filler) (sectionItem filler) s p o q o'
   unfolding eachShow EachOk pack room
   turned-fill {q} {o'} e a b = record { turned = λ vs k w f. go vs k w f }
     where
-      go : (vs : List ℕ) → sheetItem filler .Ok vs → Part s (p .at) (sheetItem filler .show vs) → p .to + 1 ≤ length o → Done p (sheetItem filler .show vs) (pack (reserved 8 ∷ []) vs ∷ []) o q o'
+      go : (vs : List ℕ) → sheetItem filler .Ok vs → Part s (p .at) (sheetItem filler .show vs) → p .to + 1 ≤ length o
+          → Done p (sheetItem filler .show vs) (pack (reserved 8 ∷ []) vs ∷ []) o q o'
       go [] k w f = absurd k
       go (x ∷ []) k w f =
           let i : 255 ≡ x * 1 + 0 = omega (arith, k .0) in
@@ -190,7 +207,8 @@ module _ (s o : List ℕ) (ls : length s < 2 ^ 64) (lo : length o < 2 ^ 64) (p :
   unfolding eachShow EachOk
   turned-skip {q} a b = record { turned = λ vs k w f. go vs k w f }
     where
-      go : (vs : List ℕ) → sectionItem filler .Ok vs → Part s (p .at) (sectionItem filler .show vs) → p .to + length (sheetItem filler .show vs) ≤ length o
+      go : (vs : List ℕ) → sectionItem filler .Ok vs → Part s (p .at) (sectionItem filler .show vs)
+          → p .to + length (sheetItem filler .show vs) ≤ length o
           → Done p (sectionItem filler .show vs) (sheetItem filler .show vs) o q o
       go [] k w f = absurd k
       go (x ∷ []) k w f =

@@ -1,8 +1,7 @@
 // A loop of descriptors: in a sheet the fields beside it, their number, the descriptors; in a section fields and size in two bytes, the descriptors.
 ghost use mathlib.Core.Path.{_≡_};
-ghost use mathlib.Core.Bool.{true, false, not};
+ghost use mathlib.Core.Bool.{true, false};
 ghost use Prim.Native.Nat.{_+_};
-ghost use Rattle.forms.specs.Room.{sum};
 ghost use Rattle.forms.specs.Inner.Turning.{Turned};
 ghost use Rattle.turn.specs.Inner.Ways.{sideIf, sideAt, sideSize, sideBack, putNumber, loopFrom, loopTo};
 use crate::counts::descriptors_in;

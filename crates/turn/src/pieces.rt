@@ -1,6 +1,5 @@
 // The pieces of a table that are turned by themselves. Each reads at one place and writes at the other.
 ghost use mathlib.Core.Path.{_≡_};
-ghost use mathlib.Core.Bool.{not};
 ghost use Prim.Native.Nat.{_+_, _-_, _*_, _/_, _%_};
 ghost use Rattle.forms.specs.Form.{raw};
 ghost use Rattle.forms.specs.Inner.Turning.{Turned};

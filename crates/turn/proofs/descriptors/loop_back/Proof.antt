@@ -19,35 +19,58 @@ lacks-requires c κs = search needs
 
 returns : tie.Need-returns
 returns c =
-    let a = c .before .before .before .before .before .args in
-    section-ends-early (a .s .now) (a .room .now) (c .before .before .before .before .before .good .1 .0 .0) (c .before .before .before .before .before .good .1 .1 .1 .0 .0) (a .p) (a .status) (lacking (length (a .s .now)) (a .p .at) 2 (c .before .lacks .ensures) (c .if1 .taken))
+    let start = c .before .before .before .before .before in let a = start .args in let good = start .good in
+    section-ends-early (a .s .now) (a .room .now) (good .1 .0 .0) (good .1 .1 .1 .0 .0) (a .p) (a .status)
+    (lacking (length (a .s .now)) (a .p .at) 2 (c .before .lacks .ensures) (c .if1 .taken))
 
 add-lacks : tie.Need-add-lacks
-add-lacks c = omega (arith, c .before .before .side-size .ensures, side-size-small (c .before .before .before .before .before .args .status))
+add-lacks c =
+    omega (
+      arith,
+      c .before .before .side-size .ensures,
+      side-size-small (c .before .before .before .before .before .args .status),
+    )
 
 lacks-requires-2 : tie.Need-lacks-requires-2
 lacks-requires-2 c κs = search needs
 
 returns-2 : tie.Need-returns-2
 returns-2 c =
-    let a = c .before .before .before .before .before .before .before .args in
-    let h = lacking (length (a .room .now)) (a .p .to) (c .before .before .before .before .side-size .result + 2) (c .before .lacks2 .ensures) (c .if2 .taken) in
-    no-room-for-sheet (a .s .now) (a .room .now) (c .before .before .before .before .before .before .before .good .1 .0 .0) (c .before .before .before .before .before .before .before .good .1 .1 .1 .0 .0) (a .p) (a .status) (omega (arith, h, c .before .before .before .before .side-size .ensures))
+    let side-size = c .before .before .before .before .side-size in
+    let p = c .before .before .before .before .before .before .before in let a = p .args in let good = p .good in
+    let h = lacking (length (a .room .now)) (a .p .to) (side-size .result + 2) (c .before .lacks2 .ensures) (c .if2 .taken) in
+    no-room-for-sheet (a .s .now) (a .room .now) (good .1 .0 .0) (good .1 .1 .1 .0 .0) (a .p) (a .status)
+    (omega (arith, h, side-size .ensures))
 
 add-from : tie.Need-add-from
 add-from c =
-    let a = c .before .before .before .before .before .before .before .before .args in
-    omega (arith, had (length (a .s .now)) (a .p .at) 2 (c .before .before .before .before .lacks .ensures) (c .before .before .before .if1 .left), c .before .before .before .before .before .before .before .before .good .1 .0 .0)
+    let if1 = c .before .before .before .if1 in
+    let lacks = c .before .before .before .before .lacks in
+    let p = c .before .before .before .before .before .before .before .before in let a = p .args in
+    let good = p .good in
+    omega (arith, had (length (a .s .now)) (a .p .at) 2 (lacks .ensures) (if1 .left), good .1 .0 .0)
 
 add-at : tie.Need-add-at
 add-at c =
-    let a = c .before .before .before .before .before .before .before .before .before .args in
-    omega (arith, had (length (a .room .now)) (a .p .to) (c .before .before .before .before .before .before .side-size .result + 2) (c .before .before .before .lacks2 .ensures) (c .before .before .if2 .left), c .before .before .before .before .before .before .before .before .before .good .1 .1 .1 .0 .0)
+    let lacks2 = c .before .before .before .lacks2 in
+    let p = c .before .before .before .before .before .before in let side-size = p .side-size in
+    let p = p .before .before .before in let a = p .args in let good = p .good in
+    omega (
+      arith,
+      had (length (a .room .now)) (a .p .to) (side-size .result + 2) (lacks2 .ensures) (c .before .before .if2 .left),
+      good .1 .1 .1 .0 .0,
+    )
 
 add-to : tie.Need-add-to
 add-to c =
-    let a = c .before .before .before .before .before .before .before .before .before .args in
-    omega (arith, had (length (a .room .now)) (a .p .to) (c .before .before .before .before .before .before .side-size .result + 2) (c .before .before .before .lacks2 .ensures) (c .before .before .if2 .left), c .before .before .before .before .before .before .before .before .before .good .1 .1 .1 .0 .0)
+    let lacks2 = c .before .before .before .lacks2 in
+    let p = c .before .before .before .before .before .before in let side-size = p .side-size in
+    let p = p .before .before .before in let a = p .args in let good = p .good in
+    omega (
+      arith,
+      had (length (a .room .now)) (a .p .to) (side-size .result + 2) (lacks2 .ensures) (c .before .before .if2 .left),
+      good .1 .1 .1 .0 .0,
+    )
 
 length12-at-requires : tie.Need-length12-at-requires
 length12-at-requires c κs = search needs
@@ -72,33 +95,75 @@ copy-few-requires c κs = search needs
 
 add-t24 : tie.Need-add-t24
 add-t24 c =
-    let a = c .before .before .before .before .before .before .before .before .before .before .before .before .before .before .before .before .before .before .before .before .before .before .before .before .before .before .args in
-    omega (arith, copies-fits (a .s .now) (a .p .at + 2) (c .before .before .before .before .before .before .before .before .before .before .before .before .before .before .before .before .length12-at .result) _ (a .p .to + c .before .before .before .before .before .before .before .before .before .before .before .before .before .before .before .before .before .before .before .before .before .before .before .side-size .result + 2) (c .before .before .before .copy-few .ensures .0) (c .if3 .taken), c .before .before .before .before .before .before .before .before .before .before .before .before .before .before .before .before .before .before .before .before .before .before .before .before .before .before .good .1 .0 .0)
+    let copy-few = c .before .before .before .copy-few in
+    let p = c .before .before .before .before .before .before .before .before .before .before .before .before in
+    let p = p .before .before .before .before in let length12-at = p .length12-at in
+    let p = p .before .before .before .before .before .before .before in let side-size = p .side-size in
+    let p = p .before .before .before in let a = p .args in let good = p .good in
+    omega (
+      arith,
+      copies-fits (a .s .now) (a .p .at + 2) (length12-at .result) _ (a .p .to + side-size .result + 2)
+          (copy-few .ensures .0) (c .if3 .taken),
+      good .1 .0 .0,
+    )
 
 add-t25 : tie.Need-add-t25
 add-t25 c =
-    let a = c .before .before .before .before .before .before .before .before .before .before .before .before .before .before .before .before .before .before .before .before .before .before .before .before .before .before .args in
-    omega (arith, copies-fits (a .s .now) (a .p .at + 2) (c .before .before .before .before .before .before .before .before .before .before .before .before .before .before .before .before .length12-at .result) _ (a .p .to + c .before .before .before .before .before .before .before .before .before .before .before .before .before .before .before .before .before .before .before .before .before .before .before .side-size .result + 2) (c .before .before .before .copy-few .ensures .0) (c .if3 .taken), c .before .before .before .before .before .before .before .before .before .before .before .before .before .before .before .before .before .before .before .before .before .before .before .before .before .before .good .1 .1 .1 .0 .0)
+    let copy-few = c .before .before .before .copy-few in
+    let p = c .before .before .before .before .before .before .before .before .before .before .before .before in
+    let p = p .before .before .before .before in let length12-at = p .length12-at in
+    let p = p .before .before .before .before .before .before .before in let side-size = p .side-size in
+    let p = p .before .before .before in let a = p .args in let good = p .good in
+    omega (
+      arith,
+      copies-fits (a .s .now) (a .p .at + 2) (length12-at .result) _ (a .p .to + side-size .result + 2)
+          (copy-few .ensures .0) (c .if3 .taken),
+      good .1 .1 .1 .0 .0,
+    )
 
 same-length : tie.Need-same-length
 same-length c = search needs
 
 returns-3 : tie.Need-returns-3
 returns-3 c =
-    let a = c .before .before .before .before .before .before .before .before .before .before .before .before .before .before .before .before .before .before .before .before .before .before .before .before .before .before .args in
-    turned-loop-back (a .s .now) (a .room .now) (c .before .before .before .before .before .before .before .before .before .before .before .before .before .before .before .before .before .before .before .before .before .before .before .before .before .before .good .1 .0 .0) (c .before .before .before .before .before .before .before .before .before .before .before .before .before .before .before .before .before .before .before .before .before .before .before .before .before .before .good .1 .1 .1 .0 .0) (a .p) (a .status) (c .before .before .before .before .before .before .before .before .before .before .before .before .before .before .before .before .length12-at .result) (c .before .before .before .before .before .before .before .before .descriptors-in .result) (a .p .to + c .before .before .before .before .before .before .before .before .before .before .before .before .before .before .before .before .before .before .before .before .before .before .before .side-size .result) _ _
-    (c .before .before .before .before .before .before .before .before .before .before .before .before .before .before .before .before .length12-at .ensures .same) (subst (λ l. NumberIn descriptor l (c .before .before .before .before .before .before .before .before .descriptors-in .result)) (c .before .before .before .before .before .before .before .before .before .part .ensures) (c .before .before .before .before .before .before .before .before .descriptors-in .ensures)) (ap (λ k. a .p .to + k) (c .before .before .before .before .before .before .before .before .before .before .before .before .before .before .before .before .before .before .before .before .before .before .before .side-size .ensures))
-    (c .before .before .before .before .before .before .before .before .before .before .before .before .before .side-back .ensures ∙ cc (c .before .before .before .before .before .before .before .before .before .before .before .before .before .before .before .byte-at .ensures)) (c .before .before .before .before .before .before .before .put-number .ensures) (c .before .before .before .copy-few .ensures .1) refl refl
+    let copy-few = c .before .before .before .copy-few in
+    let p = c .before .before .before .before .before .before .before in let put-number = p .put-number in
+    let descriptors-in = p .before .descriptors-in in
+    let part = p .before .before .part in
+    let p = p .before .before .before .before .before .before in let side-back = p .side-back in
+    let byte-at = p .before .before .byte-at in
+    let length12-at = p .before .before .before .length12-at in
+    let p = p .before .before .before .before .before .before .before .before .before .before in
+    let side-size = p .side-size in
+    let p = p .before .before .before in let a = p .args in let good = p .good in
+    turned-loop-back (a .s .now) (a .room .now) (good .1 .0 .0) (good .1 .1 .1 .0 .0) (a .p) (a .status)
+    (length12-at .result) (descriptors-in .result) (a .p .to + side-size .result) _ _
+    (length12-at .ensures .same)
+    (subst (λ l. NumberIn descriptor l (descriptors-in .result)) (part .ensures) (descriptors-in .ensures))
+    (ap (λ k. a .p .to + k) (side-size .ensures))
+    (side-back .ensures ∙ cc (byte-at .ensures)) (put-number .ensures) (copy-few .ensures .1) refl refl
 
 same-length-2 : tie.Need-same-length-2
 same-length-2 c = search needs
 
 returns-4 : tie.Need-returns-4
 returns-4 c =
-    let a = c .before .before .before .before .before .before .before .before .before .before .before .before .before .before .before .before .before .before .before .before .before .before .before .before .before .before .args in
-    loop-back-not-there (a .s .now) (a .room .now) (c .before .before .before .before .before .before .before .before .before .before .before .before .before .before .before .before .before .before .before .before .before .before .before .before .before .before .good .1 .0 .0) (c .before .before .before .before .before .before .before .before .before .before .before .before .before .before .before .before .before .before .before .before .before .before .before .before .before .before .good .1 .1 .1 .0 .0) (a .p) (a .status) (c .before .before .before .before .before .before .before .before .before .before .before .before .before .before .before .before .length12-at .result) (c .before .before .before .before .before .before .before .before .descriptors-in .result) (a .p .to + c .before .before .before .before .before .before .before .before .before .before .before .before .before .before .before .before .before .before .before .before .before .before .before .side-size .result) _ _
-    (c .before .before .before .before .before .before .before .before .before .before .before .before .before .before .before .before .length12-at .ensures .same) (subst (λ l. NumberIn descriptor l (c .before .before .before .before .before .before .before .before .descriptors-in .result)) (c .before .before .before .before .before .before .before .before .before .part .ensures) (c .before .before .before .before .before .before .before .before .descriptors-in .ensures)) (ap (λ k. a .p .to + k) (c .before .before .before .before .before .before .before .before .before .before .before .before .before .before .before .before .before .before .before .before .before .before .before .side-size .ensures))
-    (c .before .before .before .before .before .before .before .before .before .before .before .before .before .side-back .ensures ∙ cc (c .before .before .before .before .before .before .before .before .before .before .before .before .before .before .before .byte-at .ensures)) (c .before .before .before .before .before .before .before .put-number .ensures) (c .before .before .before .copy-few .ensures .0) (c .if3 .left)
+    let copy-few = c .before .before .before .copy-few in
+    let p = c .before .before .before .before .before .before .before in let put-number = p .put-number in
+    let descriptors-in = p .before .descriptors-in in
+    let part = p .before .before .part in
+    let p = p .before .before .before .before .before .before in let side-back = p .side-back in
+    let byte-at = p .before .before .byte-at in
+    let length12-at = p .before .before .before .length12-at in
+    let p = p .before .before .before .before .before .before .before .before .before .before in
+    let side-size = p .side-size in
+    let p = p .before .before .before in let a = p .args in let good = p .good in
+    loop-back-not-there (a .s .now) (a .room .now) (good .1 .0 .0) (good .1 .1 .1 .0 .0) (a .p) (a .status)
+    (length12-at .result) (descriptors-in .result) (a .p .to + side-size .result) _ _
+    (length12-at .ensures .same)
+    (subst (λ l. NumberIn descriptor l (descriptors-in .result)) (part .ensures) (descriptors-in .ensures))
+    (ap (λ k. a .p .to + k) (side-size .ensures))
+    (side-back .ensures ∙ cc (byte-at .ensures)) (put-number .ensures) (copy-few .ensures .0) (c .if3 .left)
 
 pub loop-back-spec : {M : Type 1} → statement M
 loop-back-spec =

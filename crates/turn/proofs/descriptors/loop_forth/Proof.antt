@@ -20,32 +20,44 @@ lacks-requires c κs = search needs
 
 returns : tie.Need-returns
 returns c =
-    let a = c .before .before .before .before .before .args in
-    let h = lacking (length (a .s .now)) (a .p .at) (c .before .before .side-size .result + 2) (c .before .lacks .ensures) (c .if1 .taken) in
-    sheet-ends-early (a .s .now) (a .room .now) (c .before .before .before .before .before .good .1 .0 .0) (c .before .before .before .before .before .good .1 .1 .1 .0 .0) (a .p) (a .status) (omega (arith, h, c .before .before .side-size .ensures))
+    let side-size = c .before .before .side-size in
+    let p = c .before .before .before .before .before in let a = p .args in let good = p .good in
+    let h = lacking (length (a .s .now)) (a .p .at) (side-size .result + 2) (c .before .lacks .ensures) (c .if1 .taken) in
+    sheet-ends-early (a .s .now) (a .room .now) (good .1 .0 .0) (good .1 .1 .1 .0 .0) (a .p) (a .status)
+    (omega (arith, h, side-size .ensures))
 
 lacks-requires-2 : tie.Need-lacks-requires-2
 lacks-requires-2 c κs = search needs
 
 returns-2 : tie.Need-returns-2
 returns-2 c =
-    let a = c .before .before .before .before .before .before .before .args in
-    no-room-for-section (a .s .now) (a .room .now) (c .before .before .before .before .before .before .before .good .1 .0 .0) (c .before .before .before .before .before .before .before .good .1 .1 .1 .0 .0) (a .p) (a .status) (lacking (length (a .room .now)) (a .p .to) 2 (c .before .lacks2 .ensures) (c .if2 .taken))
+    let start = c .before .before .before .before .before .before .before in let a = start .args in
+    let good = start .good in
+    no-room-for-section (a .s .now) (a .room .now) (good .1 .0 .0) (good .1 .1 .1 .0 .0) (a .p) (a .status)
+    (lacking (length (a .room .now)) (a .p .to) 2 (c .before .lacks2 .ensures) (c .if2 .taken))
 
 add-at : tie.Need-add-at
 add-at c =
-    let a = c .before .before .before .before .before .before .before .before .args in
-    omega (arith, had (length (a .s .now)) (a .p .at) (c .before .before .before .before .before .side-size .result + 2) (c .before .before .before .before .lacks .ensures) (c .before .before .before .if1 .left), c .before .before .before .before .before .before .before .before .good .1 .0 .0)
+    let if1 = c .before .before .before .if1 in
+    let lacks = c .before .before .before .before .lacks in
+    let p = c .before .before .before .before .before in let side-size = p .side-size in
+    let p = p .before .before .before in let a = p .args in let good = p .good in
+    omega (arith, had (length (a .s .now)) (a .p .at) (side-size .result + 2) (lacks .ensures) (if1 .left), good .1 .0 .0)
 
 add-from : tie.Need-add-from
 add-from c =
-    let a = c .before .before .before .before .before .before .before .before .args in
-    omega (arith, had (length (a .s .now)) (a .p .at) (c .before .before .before .before .before .side-size .result + 2) (c .before .before .before .before .lacks .ensures) (c .before .before .before .if1 .left), c .before .before .before .before .before .before .before .before .good .1 .0 .0)
+    let if1 = c .before .before .before .if1 in
+    let lacks = c .before .before .before .before .lacks in
+    let p = c .before .before .before .before .before in let side-size = p .side-size in
+    let p = p .before .before .before in let a = p .args in let good = p .good in
+    omega (arith, had (length (a .s .now)) (a .p .at) (side-size .result + 2) (lacks .ensures) (if1 .left), good .1 .0 .0)
 
 add-to : tie.Need-add-to
 add-to c =
-    let a = c .before .before .before .before .before .before .before .before .before .args in
-    omega (arith, had (length (a .room .now)) (a .p .to) 2 (c .before .before .before .lacks2 .ensures) (c .before .before .if2 .left), c .before .before .before .before .before .before .before .before .before .good .1 .1 .1 .0 .0)
+    let lacks2 = c .before .before .before .lacks2 in
+    let p = c .before .before .before .before .before .before .before .before .before in let a = p .args in
+    let good = p .good in
+    omega (arith, had (length (a .room .now)) (a .p .to) 2 (lacks2 .ensures) (c .before .before .if2 .left), good .1 .1 .1 .0 .0)
 
 descriptors-size-requires : tie.Need-descriptors-size-requires
 descriptors-size-requires c κs = search needs
@@ -54,7 +66,9 @@ side-requires : tie.Need-side-requires
 side-requires c κs = search needs
 
 mul-past : tie.Need-mul-past
-mul-past c = omega (arith, c .side .ensures, side-small (c .before .before .before .before .before .before .before .before .before .before .before .before .args .status) (c .before .before .before .before .before .before .before .before .before .before .before .before .args .s .now) (c .before .before .before .before .before .before .before .before .before .before .before .before .args .p .at))
+mul-past c =
+    let args = c .before .before .before .before .before .before .before .before .before .before .before .before .args in
+    omega (arith, c .side .ensures, side-small (args .status) (args .s .now) (args .p .at))
 
 past-requires : tie.Need-past-requires
 past-requires c κs = search needs
@@ -67,31 +81,67 @@ copy-few-requires c κs = search needs
 
 add-t21 : tie.Need-add-t21
 add-t21 c =
-    let a = c .before .before .before .before .before .before .before .before .before .before .before .before .before .before .before .before .before .before .before .before .before .args in
-    omega (arith, copies-fits (a .s .now) (a .p .at + c .before .before .before .before .before .before .before .before .before .before .before .before .before .before .before .before .before .before .side-size .result + 2) (c .before .before .before .before .before .before .before .before .before .before .before .descriptors-size .result) _ (a .p .to + 2) (c .before .before .before .copy-few .ensures .0) (c .if3 .taken), c .before .before .before .before .before .before .before .before .before .before .before .before .before .before .before .before .before .before .before .before .before .good .1 .0 .0)
+    let copy-few = c .before .before .before .copy-few in
+    let p = c .before .before .before .before .before .before .before .before .before .before .before in
+    let descriptors-size = p .descriptors-size in
+    let p = p .before .before .before .before .before .before .before in let side-size = p .side-size in
+    let p = p .before .before .before in let a = p .args in let good = p .good in
+    omega (
+      arith,
+      copies-fits (a .s .now) (a .p .at + side-size .result + 2) (descriptors-size .result) _ (a .p .to + 2)
+          (copy-few .ensures .0) (c .if3 .taken),
+      good .1 .0 .0,
+    )
 
 add-t22 : tie.Need-add-t22
 add-t22 c =
-    let a = c .before .before .before .before .before .before .before .before .before .before .before .before .before .before .before .before .before .before .before .before .before .args in
-    omega (arith, copies-fits (a .s .now) (a .p .at + c .before .before .before .before .before .before .before .before .before .before .before .before .before .before .before .before .before .before .side-size .result + 2) (c .before .before .before .before .before .before .before .before .before .before .before .descriptors-size .result) _ (a .p .to + 2) (c .before .before .before .copy-few .ensures .0) (c .if3 .taken), c .before .before .before .before .before .before .before .before .before .before .before .before .before .before .before .before .before .before .before .before .before .good .1 .1 .1 .0 .0)
+    let copy-few = c .before .before .before .copy-few in
+    let p = c .before .before .before .before .before .before .before .before .before .before .before in
+    let descriptors-size = p .descriptors-size in
+    let p = p .before .before .before .before .before .before .before in let side-size = p .side-size in
+    let p = p .before .before .before in let a = p .args in let good = p .good in
+    omega (
+      arith,
+      copies-fits (a .s .now) (a .p .at + side-size .result + 2) (descriptors-size .result) _ (a .p .to + 2)
+          (copy-few .ensures .0) (c .if3 .taken),
+      good .1 .1 .1 .0 .0,
+    )
 
 same-length : tie.Need-same-length
 same-length c = search needs
 
 returns-3 : tie.Need-returns-3
 returns-3 c =
-    let a = c .before .before .before .before .before .before .before .before .before .before .before .before .before .before .before .before .before .before .before .before .before .args in
-    turned-loop-forth (a .s .now) (a .room .now) (c .before .before .before .before .before .before .before .before .before .before .before .before .before .before .before .before .before .before .before .before .before .good .1 .0 .0) (c .before .before .before .before .before .before .before .before .before .before .before .before .before .before .before .before .before .before .before .before .before .good .1 .1 .1 .0 .0) (a .p) (a .status) (a .p .at + c .before .before .before .before .before .before .before .before .before .before .before .before .before .before .before .before .before .before .side-size .result) (c .before .before .before .before .before .before .before .before .before .before .before .descriptors-size .result) _
-    (ap (λ k. a .p .at + k) (c .before .before .before .before .before .before .before .before .before .before .before .before .before .before .before .before .before .before .side-size .ensures)) (c .before .before .before .before .before .before .before .before .before .before .before .descriptors-size .ensures) (c .before .before .before .before .before .before .before .put-number .ensures ∙ cc (c .before .before .before .before .before .before .before .before .past .ensures, c .before .before .before .before .before .before .before .before .before .side .ensures)) (c .before .before .before .copy-few .ensures .1) refl refl
+    let copy-few = c .before .before .before .copy-few in
+    let p = c .before .before .before .before .before .before .before in let put-number = p .put-number in
+    let past = p .before .past in
+    let side = p .before .before .side in
+    let descriptors-size = p .before .before .before .before .descriptors-size in
+    let p = p .before .before .before .before .before .before .before .before .before .before .before in
+    let side-size = p .side-size in
+    let p = p .before .before .before in let a = p .args in let good = p .good in
+    turned-loop-forth (a .s .now) (a .room .now) (good .1 .0 .0) (good .1 .1 .1 .0 .0) (a .p) (a .status)
+    (a .p .at + side-size .result) (descriptors-size .result) _
+    (ap (λ k. a .p .at + k) (side-size .ensures)) (descriptors-size .ensures)
+    (put-number .ensures ∙ cc (past .ensures, side .ensures)) (copy-few .ensures .1) refl refl
 
 same-length-2 : tie.Need-same-length-2
 same-length-2 c = search needs
 
 returns-4 : tie.Need-returns-4
 returns-4 c =
-    let a = c .before .before .before .before .before .before .before .before .before .before .before .before .before .before .before .before .before .before .before .before .before .args in
-    loop-forth-not-there (a .s .now) (a .room .now) (c .before .before .before .before .before .before .before .before .before .before .before .before .before .before .before .before .before .before .before .before .before .good .1 .0 .0) (c .before .before .before .before .before .before .before .before .before .before .before .before .before .before .before .before .before .before .before .before .before .good .1 .1 .1 .0 .0) (a .p) (a .status) (a .p .at + c .before .before .before .before .before .before .before .before .before .before .before .before .before .before .before .before .before .before .side-size .result) (c .before .before .before .before .before .before .before .before .before .before .before .descriptors-size .result) _
-    (ap (λ k. a .p .at + k) (c .before .before .before .before .before .before .before .before .before .before .before .before .before .before .before .before .before .before .side-size .ensures)) (c .before .before .before .before .before .before .before .before .before .before .before .descriptors-size .ensures) (c .before .before .before .before .before .before .before .put-number .ensures ∙ cc (c .before .before .before .before .before .before .before .before .past .ensures, c .before .before .before .before .before .before .before .before .before .side .ensures)) (c .before .before .before .copy-few .ensures .0) (c .if3 .left)
+    let copy-few = c .before .before .before .copy-few in
+    let p = c .before .before .before .before .before .before .before in let put-number = p .put-number in
+    let past = p .before .past in
+    let side = p .before .before .side in
+    let descriptors-size = p .before .before .before .before .descriptors-size in
+    let p = p .before .before .before .before .before .before .before .before .before .before .before in
+    let side-size = p .side-size in
+    let p = p .before .before .before in let a = p .args in let good = p .good in
+    loop-forth-not-there (a .s .now) (a .room .now) (good .1 .0 .0) (good .1 .1 .1 .0 .0) (a .p) (a .status)
+    (a .p .at + side-size .result) (descriptors-size .result) _
+    (ap (λ k. a .p .at + k) (side-size .ensures)) (descriptors-size .ensures)
+    (put-number .ensures ∙ cc (past .ensures, side .ensures)) (copy-few .ensures .0) (c .if3 .left)
 
 pub loop-forth-spec : {M : Type 1} → statement M
 loop-forth-spec =

@@ -30,7 +30,19 @@ mul-result-2 : tie.Need-mul-result-2
 mul-result-2 c = search needs
 
 returns : tie.Need-returns
-returns c = cc (c .before .before .before .wide .ensures .same, c .wide2 .ensures .same, c .before .before .before .before .byte-at .ensures, c .before .byte-at2 .ensures, c .before .before .past .ensures) ∙ ap (λ b. sideAt b (c .before .before .before .before .before .before .before .args .s .now) (c .before .before .before .before .before .before .before .args .at)) (sym (c .before .before .before .before .before .if1 .taken))
+returns c =
+    let wide = c .before .before .before .wide in
+    let byte-at = c .before .before .before .before .byte-at in
+    let p = c .before .before .before .before .before in let if1 = p .if1 in
+    let args = p .before .before .args in
+    cc (
+      wide .ensures .same,
+      c .wide2 .ensures .same,
+      byte-at .ensures,
+      c .before .byte-at2 .ensures,
+      c .before .before .past .ensures,
+    )
+    ∙ ap (λ b. sideAt b (args .s .now) (args .at)) (sym (if1 .taken))
 
 returns-2 : tie.Need-returns-2
 returns-2 c = search needs

@@ -18,7 +18,13 @@ same-length : tie.Need-same-length
 same-length c = search needs
 
 returns : tie.Need-returns
-returns c = cc (c .before .before .put-byte2 .ensures, c .before .before .before .before .before .before .before .put-byte .ensures, c .before .before .before .past .ensures) ∙ ap (λ b. sideBack b (c .before .before .before .before .before .before .before .before .before .before .before .args .x) (c .before .before .before .before .before .before .before .before .before .before .before .args .room .now) (c .before .before .before .before .before .before .before .before .before .before .before .args .to)) (sym (c .before .before .before .before .before .before .before .before .before .if1 .taken))
+returns c =
+    let past = c .before .before .before .past in
+    let p = c .before .before .before .before .before .before .before in let put-byte = p .put-byte in
+    let if1 = p .before .before .if1 in
+    let args = p .before .before .before .before .args in
+    cc (c .before .before .put-byte2 .ensures, put-byte .ensures, past .ensures)
+    ∙ ap (λ b. sideBack b (args .x) (args .room .now) (args .to)) (sym (if1 .taken))
 
 returns-2 : tie.Need-returns-2
 returns-2 c = search needs

@@ -12,7 +12,10 @@ same-length : tie.Need-same-length
 same-length c = search needs
 
 returns : tie.Need-returns
-returns c = forth (λ b. loopFrom b (sideIf (c .before .before .before .before .before .before .before .args .status))) (c .before .before .before .before .before .before .before .args .forth) (c .before .before .before .before .if1 .taken) (c .before .before .loop-forth .ensures)
+returns c =
+    let if1 = c .before .before .before .before .if1 in
+    let args = c .before .before .before .before .before .before .before .args in
+    forth (λ b. loopFrom b (sideIf (args .status))) (args .forth) (if1 .taken) (c .before .before .loop-forth .ensures)
 
 loop-back-requires : tie.Need-loop-back-requires
 loop-back-requires c κs = search needs
@@ -21,7 +24,10 @@ same-length-2 : tie.Need-same-length-2
 same-length-2 c = search needs
 
 returns-2 : tie.Need-returns-2
-returns-2 c = back (λ b. loopFrom b (sideIf (c .before .before .before .before .before .before .before .args .status))) (c .before .before .before .before .before .before .before .args .forth) (c .before .before .before .before .if1 .left) (c .before .before .loop-back .ensures)
+returns-2 c =
+    let if1 = c .before .before .before .before .if1 in
+    let args = c .before .before .before .before .before .before .before .args in
+    back (λ b. loopFrom b (sideIf (args .status))) (args .forth) (if1 .left) (c .before .before .loop-back .ensures)
 
 pub turn-loop-spec : {M : Type 1} → statement M
 turn-loop-spec =

@@ -1,6 +1,5 @@
 -- `turn::entries::entries_back` meets its contract.
-use mathlib.Core.Path.{refl, _∙_, ap, ap₂, subst}
-use Prim.Native.Nat.{_<_}
+use mathlib.Core.Path.{refl, _∙_, ap, subst}
 use lib.ListN.{take, drop}
 use Rattle.sheet.specs.Section.{sectionEntry}
 use Rattle.turn.specs.Inner.Ways.{NumberIn}
@@ -35,10 +34,21 @@ same-length c = search needs
 
 returns : tie.Need-returns
 returns c =
-    back-as (c .before .before .before .before .before .before .before .before .before .before .before .before .before .before .before .before .args .top) (c .before .before .before .before .before .before .before .before .before .before .before .before .if1 .taken)
-    (back-top (c .before .before .before .before .before .before .before .before .before .before .before .before .before .before .before .before .args .row) (c .before .before .before .before .before .before .before .before .before .before .before .before .before .before .before .before .args .s .now) (c .before .before .before .before .before .before .before .before .before .before .before .before .before .before .before .before .args .room .now) (c .before .before .before .before .before .before .before .before .before .before .before .before .before .before .before .before .good .1 .1 .1 .0 .0) (c .before .before .before .before .before .before .before .before .before .before .before .before .before .before .before .before .good .1 .1 .1 .1 .1 .1 .0 .0) (c .before .before .before .before .before .before .before .before .before .before .before .before .before .before .before .before .args .p) (c .before .before .before .before .before .before .before .before .before .before .before .before .before .before .before .before .args .end) (c .before .before .before .before .before .before .before .before .entries-in .result) (c .before .before .before .before .before .before .before .before .before .before .length12-at .result) (c .before .before .before .before .before .before .before .before .before .before .length12-at .ensures .same)
-    (subst (λ l. NumberIn (sectionEntry (c .before .before .before .before .before .before .before .before .before .before .before .before .before .before .before .before .args .row)) l (c .before .before .before .before .before .before .before .before .entries-in .result)) (c .before .before .before .before .before .before .before .before .before .part .ensures ∙ ap (λ q. take (c .before .before .before .before .before .before .before .before .before .before .length12-at .result) (drop q (c .before .before .before .before .before .before .before .before .before .before .before .before .before .before .before .before .args .s .now))) (c .before .before .before .before .before .before .before .before .before .before .before .past2 .ensures)) (c .before .before .before .before .before .before .before .before .entries-in .ensures))
-    (c .before .before .before .before .before .before .before .before .before .before .before .past2 .ensures) (c .before .before .before .before .before .before .before .before .before .before .before .before .before .past .ensures) (c .before .before .before .before .before .before .put-number .ensures) (c .before .before .entries .ensures))
+    let p = c .before .before .before .before .before .before in let put-number = p .put-number in
+    let entries-in = p .before .before .entries-in in
+    let part = p .before .before .before .part in
+    let length12-at = p .before .before .before .before .length12-at in
+    let p = p .before .before .before .before .before in let past2 = p .past2 in
+    let if1 = p .before .if1 in
+    let past = p .before .before .past in
+    let start = p .before .before .before .before .before in let args = start .args in let good = start .good in
+    back-as (args .top) (if1 .taken)
+    (back-top (args .row) (args .s .now) (args .room .now) (good .1 .1 .1 .0 .0) (good .1 .1 .1 .1 .1 .1 .0 .0)
+    (args .p) (args .end) (entries-in .result) (length12-at .result) (length12-at .ensures .same)
+    (subst (λ l. NumberIn (sectionEntry (args .row)) l (entries-in .result))
+    (part .ensures ∙ ap (λ q. take (length12-at .result) (drop q (args .s .now))) (past2 .ensures))
+    (entries-in .ensures))
+    (past2 .ensures) (past .ensures) (put-number .ensures) (c .before .before .entries .ensures))
 
 less-requires : tie.Need-less-requires
 less-requires c κs = search needs
@@ -60,10 +70,22 @@ same-length-2 c = search needs
 
 returns-2 : tie.Need-returns-2
 returns-2 c =
-    back-as (c .before .before .before .before .before .before .before .before .before .before .before .before .before .before .before .args .top) (c .before .before .before .before .before .before .before .before .before .before .before .if1 .left)
-    (back-plain (c .before .before .before .before .before .before .before .before .before .before .before .before .before .before .before .args .row) (c .before .before .before .before .before .before .before .before .before .before .before .before .before .before .before .args .s .now) (c .before .before .before .before .before .before .before .before .before .before .before .before .before .before .before .args .room .now) (c .before .before .before .before .before .before .before .before .before .before .before .before .before .before .before .good .1 .1 .1 .0 .0) (c .before .before .before .before .before .before .before .before .before .before .before .before .before .before .before .good .1 .1 .1 .1 .1 .1 .0 .0) (c .before .before .before .before .before .before .before .before .before .before .before .before .before .before .before .args .p) (c .before .before .before .before .before .before .before .before .before .before .before .before .before .before .before .args .end) (c .before .before .before .before .before .before .before .before .entries-in2 .result)
-    (subst (λ l. NumberIn (sectionEntry (c .before .before .before .before .before .before .before .before .before .before .before .before .before .before .before .args .row)) l (c .before .before .before .before .before .before .before .before .entries-in2 .result)) (c .before .before .before .before .before .before .before .before .before .part2 .ensures ∙ ap (λ q. take q (drop (c .before .before .before .before .before .before .before .before .before .before .before .before .before .before .before .args .p .at) (c .before .before .before .before .before .before .before .before .before .before .before .before .before .before .before .args .s .now))) (c .before .before .before .before .before .before .before .before .before .before .less .ensures)) (c .before .before .before .before .before .before .before .before .entries-in2 .ensures))
-    refl (c .before .before .before .before .before .before .before .before .before .before .before .before .past .ensures) (c .before .before .before .before .before .before .put-number2 .ensures) (c .before .before .entries2 .ensures))
+    let p = c .before .before .before .before .before .before in let put-number2 = p .put-number2 in
+    let entries-in2 = p .before .before .entries-in2 in
+    let part2 = p .before .before .before .part2 in
+    let less = p .before .before .before .before .less in
+    let p = p .before .before .before .before .before in let if1 = p .if1 in
+    let past = p .before .past in
+    let start = p .before .before .before .before in let args = start .args in let good = start .good in
+    back-as (args .top) (if1 .left)
+    (back-plain (args .row) (args .s .now) (args .room .now) (good .1 .1 .1 .0 .0) (good .1 .1 .1 .1 .1 .1 .0 .0)
+    (args .p) (args .end) (entries-in2 .result)
+    (subst (λ l. NumberIn (sectionEntry (args .row)) l (entries-in2 .result))
+    (part2 .ensures ∙ ap (λ q. take q (drop (args .p .at) (args .s .now))) (less .ensures)) (entries-in2 .ensures))
+    refl (past .ensures) (put-number2 .ensures) (c .before .before .entries2 .ensures))
 
 pub entries-back-spec : {M : Type 1} → statement M
-entries-back-spec = tie.close (tie.spec past-requires past-requires-2 length12-at-requires part-requires entries-in-requires put-number-requires entries-requires same-length returns less-requires part-requires-2 entries-in-requires-2 put-number-requires-2 entries-requires-2 same-length-2 returns-2)
+entries-back-spec =
+    tie.close (tie.spec past-requires past-requires-2 length12-at-requires part-requires entries-in-requires
+    put-number-requires entries-requires same-length returns less-requires part-requires-2 entries-in-requires-2
+    put-number-requires-2 entries-requires-2 same-length-2 returns-2)

@@ -34,9 +34,18 @@ same-length c = search needs
 
 returns : tie.Need-returns
 returns c =
-    forth-as (c .before .before .before .before .before .before .before .before .before .before .before .before .before .before .before .before .args .top) (c .before .before .before .before .before .before .before .before .before .before .before .if1 .taken)
-    (forth-top (c .before .before .before .before .before .before .before .before .before .before .before .before .before .before .before .before .args .row) (c .before .before .before .before .before .before .before .before .before .before .before .before .before .before .before .before .args .s .now) (c .before .before .before .before .before .before .before .before .before .before .before .before .before .before .before .before .args .room .now) (c .before .before .before .before .before .before .before .before .before .before .before .before .before .before .before .before .good .1 .1 .0 .0) (c .before .before .before .before .before .before .before .before .before .before .before .before .before .before .before .before .good .1 .1 .1 .1 .1 .0 .0) (c .before .before .before .before .before .before .before .before .before .before .before .before .before .before .before .before .args .p) (c .before .before .before .before .before .before .before .before .before .before .before .before .before .before .before .before .args .end) (c .before .before .before .before .before .before .before .before .before .before .before .before .before .number16-at .result) (c .before .before .before .before .before .before .before .before .before .before .before .before .before .number16-at .ensures)
-    (c .before .before .before .before .before .before .before .before .before .before .before .before .past .ensures) (c .before .before .before .before .before .before .before .before .before .before .past2 .ensures) (cc (c .before .before .before .before .before .before .put-number .ensures, c .before .before .before .before .before .before .before .past3 .ensures, c .before .before .before .before .before .before .before .before .less .ensures)) (c .before .before .entries .ensures))
+    let p = c .before .before .before .before .before .before in let put-number = p .put-number in
+    let past3 = p .before .past3 in
+    let less = p .before .before .less in
+    let past2 = p .before .before .before .before .past2 in
+    let p = p .before .before .before .before .before in let if1 = p .if1 in
+    let past = p .before .past in
+    let number16-at = p .before .before .number16-at in
+    let p = p .before .before .before .before .before in let args = p .args in let good = p .good in
+    forth-as (args .top) (if1 .taken)
+    (forth-top (args .row) (args .s .now) (args .room .now) (good .1 .1 .0 .0) (good .1 .1 .1 .1 .1 .0 .0) (args .p)
+    (args .end) (number16-at .result) (number16-at .ensures)
+    (past .ensures) (past2 .ensures) (cc (put-number .ensures, past3 .ensures, less .ensures)) (c .before .before .entries .ensures))
 
 entries-requires-2 : tie.Need-entries-requires-2
 entries-requires-2 c κs = search needs
@@ -46,9 +55,16 @@ same-length-2 c = search needs
 
 returns-2 : tie.Need-returns-2
 returns-2 c =
-    forth-as (c .before .before .before .before .before .before .before .before .before .args .top) (c .before .before .before .before .if1 .left)
-    (forth-plain (c .before .before .before .before .before .before .before .before .before .args .row) (c .before .before .before .before .before .before .before .before .before .args .s .now) (c .before .before .before .before .before .before .before .before .before .args .room .now) (c .before .before .before .before .before .before .before .before .before .good .1 .1 .0 .0) (c .before .before .before .before .before .before .before .before .before .good .1 .1 .1 .1 .1 .0 .0) (c .before .before .before .before .before .before .before .before .before .args .p) (c .before .before .before .before .before .before .before .before .before .args .end) (c .before .before .before .before .before .before .number16-at .result) (c .before .before .before .before .before .before .number16-at .ensures)
-    (c .before .before .before .before .before .past .ensures) refl (c .before .before .entries2 .ensures))
+    let if1 = c .before .before .before .before .if1 in
+    let p = c .before .before .before .before .before in let past = p .past in
+    let number16-at = p .before .number16-at in
+    let start = p .before .before .before .before in let args = start .args in let good = start .good in
+    forth-as (args .top) (if1 .left)
+    (forth-plain (args .row) (args .s .now) (args .room .now) (good .1 .1 .0 .0) (good .1 .1 .1 .1 .1 .0 .0) (args .p)
+    (args .end) (number16-at .result) (number16-at .ensures)
+    (past .ensures) refl (c .before .before .entries2 .ensures))
 
 pub entries-forth-spec : {M : Type 1} → statement M
-entries-forth-spec = tie.close (tie.spec number16-at-requires cast-number past-requires past-requires-2 less-requires past-requires-3 put-number-requires entries-requires same-length returns entries-requires-2 same-length-2 returns-2)
+entries-forth-spec =
+    tie.close (tie.spec number16-at-requires cast-number past-requires past-requires-2 less-requires past-requires-3
+    put-number-requires entries-requires same-length returns entries-requires-2 same-length-2 returns-2)

@@ -17,7 +17,12 @@ same-length : tie.Need-same-length
 same-length c = search needs
 
 returns : tie.Need-returns
-returns c = turned-entry (c .before .before .before .before .before .before .before .before .before .before .before .args .forth) (c .before .before .before .before .has-status .result) (c .before .before .before .before .before .before .before .before .before .before .before .args .row) (c .before .before .before .before .has-status .ensures) (c .before .before .before .before .before .before .before .entry-fields .ensures) (c .before .before .turn-loop .ensures)
+returns c =
+    let has-status = c .before .before .before .before .has-status in
+    let p = c .before .before .before .before .before .before .before in let entry-fields = p .entry-fields in
+    let args = p .before .before .before .before .args in
+    turned-entry (args .forth) (has-status .result) (args .row) (has-status .ensures) (entry-fields .ensures)
+    (c .before .before .turn-loop .ensures)
 
 pub entry-spec : {M : Type 1} → statement M
 entry-spec = tie.close (tie.spec entry-fields-requires has-status-requires turn-loop-requires same-length returns)

@@ -11,10 +11,15 @@ same-length : tie.Need-same-length
 same-length c = search needs
 
 returns : tie.Need-returns
-returns c = top-turned (c .before .before .before .before .before .before .before .args .forth) (c .before .before .before .before .before .before .before .args .top) (c .before .before .before .before .if1 .taken) (c .before .before .entries .ensures)
+returns c =
+    let if1 = c .before .before .before .before .if1 in
+    let args = c .before .before .before .before .before .before .before .args in
+    top-turned (args .forth) (args .top) (if1 .taken) (c .before .before .entries .ensures)
 
 returns-2 : tie.Need-returns-2
-returns-2 c = no-top-turned (c .before .before .before .args .forth) (c .before .before .before .args .top) (c .if1 .left)
+returns-2 c =
+    let args = c .before .before .before .args in
+    no-top-turned (args .forth) (args .top) (c .if1 .left)
 
 pub top-loop-spec : {M : Type 1} → statement M
 top-loop-spec = tie.close (tie.spec entries-requires same-length returns returns-2)

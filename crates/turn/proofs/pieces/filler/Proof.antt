@@ -17,13 +17,23 @@ same-length : tie.Need-same-length
 same-length c = search needs
 
 returns : tie.Need-returns
-returns c = forth (λ b. itemFrom b filler) (c .before .before .before .before .before .before .before .before .args .forth) (c .before .before .before .before .before .if1 .taken) (turned-fill (c .before .before .before .before .before .before .before .before .args .s .now) (c .before .before .before .before .before .before .before .before .args .room .now) (c .before .before .before .before .before .before .before .before .good .1 .0 .0) (c .before .before .before .before .before .before .before .before .good .1 .1 .1 .0 .0) (c .before .before .before .before .before .before .before .before .args .p) (c .before .before .before .put-byte .ensures) refl (c .past .ensures))
+returns c =
+    let put-byte = c .before .before .before .put-byte in
+    let p = c .before .before .before .before .before in let if1 = p .if1 in
+    let start = p .before .before .before in let args = start .args in let good = start .good in
+    forth (λ b. itemFrom b filler) (args .forth) (if1 .taken)
+    (turned-fill (args .s .now) (args .room .now) (good .1 .0 .0) (good .1 .1 .1 .0 .0) (args .p)
+    (put-byte .ensures) refl (c .past .ensures))
 
 past-requires-2 : tie.Need-past-requires-2
 past-requires-2 c κs = search needs
 
 returns-2 : tie.Need-returns-2
-returns-2 c = back (λ b. itemFrom b filler) (c .before .before .before .before .args .forth) (c .before .if1 .left) (turned-skip (c .before .before .before .before .args .s .now) (c .before .before .before .before .args .room .now) (c .before .before .before .before .good .1 .0 .0) (c .before .before .before .before .good .1 .1 .1 .0 .0) (c .before .before .before .before .args .p) (c .past2 .ensures) refl)
+returns-2 c =
+    let start = c .before .before .before .before in let args = start .args in let good = start .good in
+    back (λ b. itemFrom b filler) (args .forth) (c .before .if1 .left)
+    (turned-skip (args .s .now) (args .room .now) (good .1 .0 .0) (good .1 .1 .1 .0 .0) (args .p)
+    (c .past2 .ensures) refl)
 
 pub filler-spec : {M : Type 1} → statement M
 filler-spec =

@@ -29,7 +29,17 @@ same-length : tie.Need-same-length
 same-length c = search needs
 
 returns : tie.Need-returns
-returns c = turned-pack (c .before .before .before .before .before .before .before .before .before .before .before .before .args .s .now) (c .before .before .before .before .before .before .before .before .before .before .before .before .args .room .now) (c .before .before .before .before .before .before .before .before .before .before .before .before .good .1 .0 .0) (c .before .before .before .before .before .before .before .before .before .before .before .before .good .1 .1 .1 .0 .0) (c .before .before .before .before .before .before .before .before .before .before .before .before .args .p) (c .before .before .before .before .before .before .before .before .before .before .before .before .args .version) (c .before .before .before .before .before .joined .result) (cc (c .before .before .before .before .before .joined .ensures, c .before .before .before .before .before .before .before .before .byte-at .ensures, c .before .before .before .before .before .before .byte-at2 .ensures, c .before .before .before .before .before .before .before .past .ensures)) (c .before .before .before .before .put-byte .ensures) (c .before .past2 .ensures) (c .past3 .ensures)
+returns c =
+    let put-byte = c .before .before .before .before .put-byte in
+    let p = c .before .before .before .before .before in let joined = p .joined in
+    let byte-at2 = p .before .byte-at2 in
+    let past = p .before .before .past in
+    let byte-at = p .before .before .before .byte-at in
+    let p = p .before .before .before .before .before .before .before in let args = p .args in
+    let good = p .good in
+    turned-pack (args .s .now) (args .room .now) (good .1 .0 .0) (good .1 .1 .1 .0 .0) (args .p) (args .version)
+    (joined .result) (cc (joined .ensures, byte-at .ensures, byte-at2 .ensures, past .ensures)) (put-byte .ensures)
+    (c .before .past2 .ensures) (c .past3 .ensures)
 
 pub pack-two-spec : {M : Type 1} → statement M
 pack-two-spec =

@@ -12,7 +12,10 @@ same-length : tie.Need-same-length
 same-length c = search needs
 
 returns : tie.Need-returns
-returns c = forth (λ b. itemFrom b (special (c .before .before .before .before .before .before .before .args .version))) (c .before .before .before .before .before .before .before .args .forth) (c .before .before .before .before .if1 .taken) (c .before .before .pack-two .ensures)
+returns c =
+    let if1 = c .before .before .before .before .if1 in
+    let args = c .before .before .before .before .before .before .before .args in
+    forth (λ b. itemFrom b (special (args .version))) (args .forth) (if1 .taken) (c .before .before .pack-two .ensures)
 
 unpack-two-requires : tie.Need-unpack-two-requires
 unpack-two-requires c κs = search needs
@@ -21,7 +24,10 @@ same-length-2 : tie.Need-same-length-2
 same-length-2 c = search needs
 
 returns-2 : tie.Need-returns-2
-returns-2 c = back (λ b. itemFrom b (special (c .before .before .before .before .before .before .before .args .version))) (c .before .before .before .before .before .before .before .args .forth) (c .before .before .before .before .if1 .left) (c .before .before .unpack-two .ensures)
+returns-2 c =
+    let if1 = c .before .before .before .before .if1 in
+    let args = c .before .before .before .before .before .before .before .args in
+    back (λ b. itemFrom b (special (args .version))) (args .forth) (if1 .left) (c .before .before .unpack-two .ensures)
 
 pub packed-spec : {M : Type 1} → statement M
 packed-spec =

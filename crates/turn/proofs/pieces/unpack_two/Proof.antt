@@ -30,7 +30,16 @@ same-length : tie.Need-same-length
 same-length c = search needs
 
 returns : tie.Need-returns
-returns c = turned-unpack (c .before .before .before .before .before .before .before .before .before .before .before .before .before .before .before .args .s .now) (c .before .before .before .before .before .before .before .before .before .before .before .before .before .before .before .args .room .now) (c .before .before .before .before .before .before .before .before .before .before .before .before .before .before .before .good .1 .0 .0) (c .before .before .before .before .before .before .before .before .before .before .before .before .before .before .before .good .1 .1 .1 .0 .0) (c .before .before .before .before .before .before .before .before .before .before .before .before .before .before .before .args .p) (c .before .before .before .before .before .before .before .before .before .before .before .before .before .before .before .args .version) (c .before .before .before .before .before .before .before .before .before .before .value-of .result) (c .before .before .before .before .before .before .before .before .before .before .before .before .byte-at .result % 2) (cc (c .before .before .before .before .before .before .before .before .before .before .value-of .ensures, c .before .before .before .before .before .before .before .before .before .before .before .before .byte-at .ensures)) (cc (c .before .before .before .before .before .before .before .before .before .before .before .before .byte-at .ensures)) (cc (c .before .before .before .before .put-byte2 .ensures, c .before .before .before .before .before .before .before .before .before .put-byte .ensures, c .before .before .before .before .before .past .ensures)) (c .before .past2 .ensures) (c .past3 .ensures)
+returns c =
+    let put-byte2 = c .before .before .before .before .put-byte2 in
+    let p = c .before .before .before .before .before in let past = p .past in
+    let put-byte = p .before .before .before .before .put-byte in
+    let p = p .before .before .before .before .before in let value-of = p .value-of in
+    let byte-at = p .before .before .byte-at in
+    let p = p .before .before .before .before .before in let args = p .args in let good = p .good in
+    turned-unpack (args .s .now) (args .room .now) (good .1 .0 .0) (good .1 .1 .1 .0 .0) (args .p) (args .version)
+    (value-of .result) (byte-at .result % 2) (cc (value-of .ensures, byte-at .ensures)) (cc (byte-at .ensures))
+    (cc (put-byte2 .ensures, put-byte .ensures, past .ensures)) (c .before .past2 .ensures) (c .past3 .ensures)
 
 pub unpack-two-spec : {M : Type 1} → statement M
 unpack-two-spec =

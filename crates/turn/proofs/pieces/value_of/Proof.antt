@@ -17,7 +17,9 @@ rem-result : tie.Need-rem-result
 rem-result c = omega (arith, c .span .ensures, span-small (c .before .before .args .version))
 
 cast-result : tie.Need-cast-result
-cast-result c = record { fits = subst (λ z. z < 256) (cc (c .span .ensures, c .before .wide .ensures .same)) (value-small (c .before .before .args .version) (c .before .before .args .x)) }
+cast-result c =
+    let args = c .before .before .args in
+    record { fits = subst (λ z. z < 256) (cc (c .span .ensures, c .before .wide .ensures .same)) (value-small (args .version) (args .x)) }
 
 returns : tie.Need-returns
 returns c = cc (c .span .ensures, c .before .wide .ensures .same)
