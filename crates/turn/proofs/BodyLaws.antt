@@ -18,7 +18,7 @@ use Rattle.forms.specs.Inner.Turning.{Done, Turned}
 use Rattle.forms.proofs.Puts.{put-none}
 use Rattle.forms.proofs.Turns.{done-both, done-length}
 use Rattle.sheet.specs.Content.{Entry, Entries, Loop, Body, bare, headOf}
-use Rattle.sheet.specs.Sheet.{sheetItem, sheetLoop, sheetEntry, sheetTop, sheetEntries, sheetBody}
+use Rattle.sheet.specs.Sheet.{sheetItem, sheetLoop, sheetEntry, sheetTop, topFor, sheetEntries, entriesFor, sheetBody}
 use Rattle.sheet.specs.Section.{sectionItem, sectionLoop, sectionEntry, sectionTop, sectionEntries, sectionBody}
 use Rattle.turn.specs.Inner.Ways.{itemsFrom, itemsTo, entryFrom, topIf, entriesShown, BesideOk, BesideFit, EntriesForth, EntriesBack}
 use Rattle.turn.specs.Inner.Bodies.{SectionOk, BodyForth, BodyBack}
@@ -42,7 +42,7 @@ with-entries (suc (suc (suc (suc (suc (suc row)))))) h f = absurd (omega arith)
 
 module _ (row : ℕ) (t : Bool) (ht : t ≡ eqb (rowAt row .top) 1) (l : Loop) where
   top-both : sheetTop row .Ok l → sectionTop row .Ok l → topIf true t .Ok l
-  unfolding sheetTop sectionTop
+  unfolding topFor sectionTop
   top-both = go t (eqb (rowAt row .top) 1) ht
     where
       go : (x y : Bool) → x ≡ y → (if y then sheetLoop bare else mute ([], [])) .Ok l
@@ -63,7 +63,7 @@ module _ (row : ℕ) (t : Bool) (ht : t ≡ eqb (rowAt row .top) 1) (l : Loop) w
       go false false e b = b
 
   top-shown : (topIf true t .show l ≡ sheetTop row .show l) × (topIf false t .show l ≡ sectionTop row .show l)
-  unfolding sheetTop sectionTop
+  unfolding topFor sectionTop
   top-shown = go t (eqb (rowAt row .top) 1) ht
     where
       go : (x y : Bool) → x ≡ y
@@ -105,7 +105,7 @@ module _ (row : ℕ) (t : Bool) (ht : t ≡ eqb (rowAt row .top) 1) (hf : eqb (r
     pub in-section : sectionEntries row 0 .show e ≡ entriesShown t row (e .0) (e .1)
 
   in-section-forms : (n : ℕ) → sectionEntries row n .Ok e → InSection
-  unfolding sheetEntries sectionEntries loopShow
+  unfolding entriesFor sectionEntries loopShow
   in-section-forms n o = go t (eqb (rowAt row .top) 1) (eqb (rowAt row .fixed) 0) refl refl refl o
     where
       go : (x y z : Bool) → t ≡ x → eqb (rowAt row .top) 1 ≡ y → eqb (rowAt row .fixed) 0 ≡ z
@@ -132,7 +132,7 @@ module _ (row : ℕ) (t : Bool) (ht : t ≡ eqb (rowAt row .top) 1) (hf : eqb (r
       go false true false p q r o = let k : _≡_ {A = ℕ} 0 1 = cc (ht) in absurd (omega arith)
 
   in-both-forms : (n : ℕ) → sheetEntries row .Ok e → sectionEntries row n .Ok e → InBoth
-  unfolding sheetEntries sectionEntries
+  unfolding entriesFor sectionEntries
   in-both-forms n o u = go t (eqb (rowAt row .top) 1) (eqb (rowAt row .fixed) 0) refl refl refl o u
     where
       go : (x y z : Bool) → t ≡ x → eqb (rowAt row .top) 1 ≡ y → eqb (rowAt row .fixed) 0 ≡ z
@@ -158,7 +158,7 @@ module _ (row : ℕ) (t : Bool) (ht : t ≡ eqb (rowAt row .top) 1) (hf : eqb (r
 -- no entries are no bytes
 none-forms : (row n : ℕ) (e : Entries) → eqb (rowAt row .fixed) 0 ≡ true
     → (sheetEntries row .show e ≡ []) × (sectionEntries row n .show e ≡ [])
-unfolding sheetEntries sectionEntries
+unfolding entriesFor sectionEntries
 none-forms row n e h = (rw h refl, rw h refl)
 
 -- ---- three pieces

@@ -26,9 +26,9 @@ use Rattle.forms.specs.Fields.{Fit, room, pack, sheetFields}
 use Rattle.forms.specs.Room.{put, sum}
 use Rattle.forms.proofs.Puts.{sum-fits, put-fits, put-put, length-put}
 use Rattle.sheet.specs.Content.{Content, frame, tableOf, frameOf, bodyOf, rowIn}
-use Rattle.sheet.specs.Sheet.{sheetBody, sheetOf, SheetOk}
+use Rattle.sheet.specs.Sheet.{sheetBody, sheetOf, shownFor, SheetOk, OkFor}
 use Rattle.sheet.specs.Section.{bodyBytes, sectionLength, front, seal, sectionOf, contentOf, readSheet}
-use Rattle.sheet.specs.Reads.{judgedSheet}
+use Rattle.sheet.specs.Reads.{judgedFor, judgedSheet}
 use Rattle.turn.specs.Inner.Ways.{putNumber}
 use Rattle.turn.specs.Inner.Bodies.{BodyForth, BodyBack, SectionWritten, SheetWritten, AcceptedWritten}
 use Rattle.turn.specs.Turn as turn
@@ -60,7 +60,7 @@ frame-ones (a ∷ b ∷ []) o = let e = o .0 in let f = o .1 .0 in omega arith
 frame-ones (a ∷ b ∷ c ∷ vs) o = absurd (o .1 .1)
 
 sheet-is : (c : Content) → Fit frame (frameOf c) → sheetOf c ≡ tableOf c ∷ sheetBody (rowIn c) .show (bodyOf c)
-unfolding sheetOf
+unfolding shownFor
 sheet-is c o = ap (λ l. tableOf c ∷ (l ++ sheetBody (rowIn c) .show (bodyOf c))) (frame-shown (frameOf c) o)
 
 -- a part behind one that is known
@@ -127,7 +127,7 @@ module _ (s o : List ℕ) (w : Bytes s) (lo : length o < 2 ^ 64) (n number : ℕ
     pub holds : Holds c
 
   fronted : (c : Content) → readSheet s ≡ reading.value c → n ≡ sectionLength c → number ≡ rowIn c → 4096 ≤ length o → Fronted c
-  unfolding sectionLength SheetOk
+  unfolding sectionLength OkFor
   fronted c r hn hr big =
       let h = held s c w r in
       let k = h .holds in
@@ -301,7 +301,7 @@ refused-through (reading.value a) f k e = absurd (never e)
 refused-through (reading.refused j) f k e = ap reading.refused (refused-is e)
 
 pub section-refused : (n : ℕ) (s : List ℕ) (k : ℕ) → 4096 ≤ n → judgedSheet s ≡ reading.refused k → turn.toSection n s ≡ turn.refuses k 0
-unfolding turn.toSection judgedSheet
+unfolding turn.toSection judgedFor
 section-refused n s k h e = let r = refused-through (readSheet s) sectionLength k e in rw (le-ltb n 4096 h, r) refl
 
 -- what an accepted sheet gives
@@ -314,7 +314,7 @@ pub record Made (n : ℕ) (s : List ℕ) (k : ℕ) : Type 0 where
   pub bytes : sum k 3 ≡ length (sectionOf content)
 
 pub section-made : (n : ℕ) (s : List ℕ) (k : ℕ) → Bytes s → 4096 ≤ n → judgedSheet s ≡ reading.value k → Made n s k
-unfolding judgedSheet
+unfolding judgedFor
 section-made n s k w h e =
     let x = through (readSheet s) _ k e in
     let c = x .0 in
