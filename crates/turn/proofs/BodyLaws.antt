@@ -21,11 +21,11 @@ use Rattle.forms.specs.Inner.Turning.{Done, Turned}
 use Rattle.forms.proofs.Puts.{put-none}
 use Rattle.forms.proofs.Turns.{done-both, done-length}
 use Rattle.sheet.specs.Content.{Entry, Entries, Loop, Body, bare, headOf}
-use Rattle.sheet.specs.Sheet.{sheetItem, sheetLoop, sheetEntry, sheetTop, sheetEntries, sheetBody}
+use Rattle.sheet.specs.Sheet.{sheetItem, sheetLoop, sheetEntry, sheetTop, topFor, sheetEntries, entriesFor, sheetBody}
 use Rattle.sheet.specs.Section.{sectionItem, sectionLoop, sectionEntry, sectionTop, sectionEntries, sectionBody}
 use Rattle.turn.specs.Inner.Ways.{itemsFrom, itemsTo, entryFrom, topIf, entriesShown, BesideOk, BesideFit, EntriesForth, EntriesBack, EntrySizes}
 use Rattle.turn.specs.Inner.Bodies.{SectionOk, BodyForth, BodyBack}
-use Rattle.turn.proofs.Held.{no-fields}
+use Rattle.contents.proofs.Held.{no-fields}
 use Rattle.forms.specs.declared.Place.{Place}
 
 -- ---- rows
@@ -60,7 +60,7 @@ module _ {s o o' : List ℕ} {p q : Place} (row : ℕ) {top : Bool} (ht : top �
   top-forth : Turned (topIf true top) (topIf false top) s p o q o' → sheetTop row .Ok l → sectionTop row .Ok l
       → Part s (p .at) (sheetTop row .show l) → p .to + length (sectionTop row .show l) ≤ length o
       → Done p (sheetTop row .show l) (sectionTop row .show l) o q o'
-  unfolding sheetTop sectionTop
+  unfolding topFor sectionTop
   top-forth t = go (topOf row) (subst (λ b. Turned (topIf true b) (topIf false b) s p o q o') ht t)
     where
       go : (b : Bool) → Turned (topIf true b) (topIf false b) s p o q o' → sheets b .Ok l → sections b .Ok l
@@ -71,7 +71,7 @@ module _ {s o o' : List ℕ} {p q : Place} (row : ℕ) {top : Bool} (ht : top �
 
   top-back : Turned (topIf false top) (topIf true top) s p o q o' → sectionTop row .Ok l → Part s (p .at) (sectionTop row .show l)
       → p .to + length (sheetTop row .show l) ≤ length o → Done p (sectionTop row .show l) (sheetTop row .show l) o q o'
-  unfolding sheetTop sectionTop
+  unfolding topFor sectionTop
   top-back t = go (topOf row) (subst (λ b. Turned (topIf false b) (topIf true b) s p o q o') ht t)
     where
       go : (b : Bool) → Turned (topIf false b) (topIf true b) s p o q o' → sections b .Ok l → Part s (p .at) (sections b .show l)
@@ -239,7 +239,7 @@ module _ (number : ℕ) {row : Row} (hr : row ≡ rowAt number) {top : Bool} (ht
 
   pub body-forth : (row .fixed ≡ 0 → ⊥) → Turned (itemsFrom true (headOf number)) (itemsTo true (headOf number)) s p o q o₁
       → Turned (topIf true top) (topIf false top) s q o₁ r o₂ → EntriesForth top number s r end o₂ v o₃ → BodyForth number s p end o v o₃
-  unfolding sheetEntries sectionEntries
+  unfolding entriesFor sectionEntries
   body-forth n h u m = record {
     turned = λ b ok sok w e small f.
         forth-parts h u b ok sok w e f
@@ -256,7 +256,7 @@ module _ (number : ℕ) {row : Row} (hr : row ≡ rowAt number) {top : Bool} (ht
 
   pub body-back : (row .fixed ≡ 0 → ⊥) → Turned (itemsFrom false (headOf number)) (itemsTo false (headOf number)) s p o q o₁
       → Turned (topIf false top) (topIf true top) s q o₁ r o₂ → EntriesBack top number s r end o₂ v o₃ → BodyBack number s p end o v o₃
-  unfolding sheetEntries sectionEntries
+  unfolding entriesFor sectionEntries
   body-back n h u m = record {
     turned = λ b sok w e small start f.
         back-parts h u b sok w e f
@@ -275,7 +275,7 @@ module _ (number : ℕ) {row : Row} (hr : row ≡ rowAt number) {top : Bool} (ht
     {s o o₁ o₂ : List ℕ} {p q r : Place} {end : ℕ} where
   pub body-forth-none : row .fixed ≡ 0 → Turned (itemsFrom true (headOf number)) (itemsTo true (headOf number)) s p o q o₁
       → Turned (topIf true top) (topIf false top) s q o₁ r o₂ → BodyForth number s p end o r o₂
-  unfolding sheetEntries sectionEntries
+  unfolding entriesFor sectionEntries
   body-forth-none e h u = record {
     turned = λ b ok sok w k small f.
         forth-parts number hr ht {o₃ = o₂} {v = r} h u b ok sok w k f
@@ -286,7 +286,7 @@ module _ (number : ℕ) {row : Row} (hr : row ≡ rowAt number) {top : Bool} (ht
 
   pub body-back-none : row .fixed ≡ 0 → Turned (itemsFrom false (headOf number)) (itemsTo false (headOf number)) s p o q o₁
       → Turned (topIf false top) (topIf true top) s q o₁ r o₂ → BodyBack number s p end o r o₂
-  unfolding sheetEntries sectionEntries
+  unfolding entriesFor sectionEntries
   body-back-none e h u = record {
     turned = λ b sok w k small start f.
         back-parts number hr ht {o₃ = o₂} {v = r} h u b sok w k f

@@ -22,9 +22,8 @@ use Rattle.sheet.specs.Sheet.{sheetEntry}
 use Rattle.sheet.specs.Section.{sectionEntry}
 use Rattle.turn.specs.Inner.Fields.{Shape, running, bared}
 use Rattle.turn.specs.Inner.Ways.{entryFrom, entryTo, entriesShown, behindOwn, ownSize, ownPut, BesideOk, BesideFit, EntriesForth, EntriesBack, NumberIn, putNumber}
-use Rattle.turn.proofs.SectionLaws.{half-bare, entry-full}
-use Rattle.turn.proofs.Accepted.{says}
-use Rattle.turn.proofs.AllOnes.{no-more}
+use Rattle.contents.proofs.SectionLaws.{half-bare, no-more, entry-full}
+use Rattle.contents.proofs.Accepted.{says}
 use Rattle.turn.proofs.PieceLaws.{part-within, part-byte, part-first-byte, number-put}
 use Rattle.forms.specs.declared.Place.{Place}
 

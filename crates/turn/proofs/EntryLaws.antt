@@ -17,8 +17,8 @@ use Rattle.sheet.specs.Content.{Entry, entryOf, sideOf}
 use Rattle.sheet.specs.Sheet.{descriptor}
 use Rattle.sheet.specs.Section.{sectionItem, sectionEntry}
 use Rattle.turn.specs.Inner.Ways.{EntrySizes}
-use Rattle.turn.proofs.SectionLaws.{half-side, items-size, sizes, numbers-of}
-use Rattle.turn.proofs.Accepted.{says}
+use Rattle.contents.proofs.SectionLaws.{half-side, items-size, sizes, numbers-of}
+use Rattle.contents.proofs.Accepted.{says}
 
 pub fixed-small : (fixed row : ℕ) → EntrySizes fixed row → (2 ≤ fixed) × (fixed ≤ 12)
 unfolding cell

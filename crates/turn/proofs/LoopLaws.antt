@@ -19,9 +19,8 @@ use Rattle.sheet.specs.Sheet.{descriptor}
 use Rattle.sheet.specs.Section.{sectionLoop}
 use Rattle.turn.specs.Inner.Fields.{Shape, keptSize, joinedAt, partedOf, Parted}
 use Rattle.turn.specs.Inner.Ways.{NumberIn, SizeAt, putNumber, Numbered, LoopTurned, loopFrom}
-use Rattle.turn.proofs.SectionLaws.{descriptor-full}
-use Rattle.turn.proofs.Accepted.{says}
-use Rattle.turn.proofs.AllOnes.{no-more}
+use Rattle.contents.proofs.SectionLaws.{no-more, descriptor-full}
+use Rattle.contents.proofs.Accepted.{says}
 use Rattle.turn.proofs.PieceLaws.{part-within, part-byte, part-first-byte, number-put, shape-room, packed-small, fields-shown, fields-size, fields-joined}
 use Rattle.forms.specs.declared.Place.{Place}
 

@@ -25,7 +25,10 @@ slice-aggregate-result-2 : tie.Need-slice-aggregate-result-2
 slice-aggregate-result-2 c = search needs
 
 returns : tie.Need-returns
-returns c = c .part .ensures ∙ sym (ap (λ x. bodyOf (c .before .before .before .before .before .args .section .now) (toldFound x)) (c .before .before .found .given .1))
+returns c =
+    let after-found = c .before .before in
+    let args = after-found .before .before .before .args in
+    c .part .ensures ∙ sym (ap (λ x. bodyOf (args .section .now) (toldFound x)) (after-found .found .given .1))
 
 returns-2 : tie.Need-returns-2
 returns-2 c = search needs

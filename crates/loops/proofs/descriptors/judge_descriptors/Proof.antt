@@ -27,31 +27,65 @@ enum-known-step : tie.Need-enum-known-step Inv-loop μ-loop
 enum-known-step c = search needs
 
 add-p : tie.Need-add-p Inv-loop μ-loop
-add-p c = omega (arith, told-on (c .before .before .before .before .before .before .before .args .bytes .now) (c .before .before .before .before .before .loop .p) _ _ (c .before .before .before .step-at .ensures) (c .before .step .given .1) _ _ _ refl)
+add-p c =
+    let after-step-at = c .before .before .before in
+    let at-loop = after-step-at .before .before in
+    let args = at-loop .before .before .args in
+    omega (
+      arith,
+      told-on (args .bytes .now) (at-loop .loop .p) _ _ (after-step-at .step-at .ensures) (c .before .step .given .1)
+          _ _ _ refl,
+    )
 
 loop-less : tie.Need-loop-less Inv-loop μ-loop
-loop-less c = omega (arith, told-on (c .before .before .before .before .before .before .before .args .bytes .now) (c .before .before .before .before .before .loop .p) _ _ (c .before .before .before .step-at .ensures) (c .before .step .given .1) _ _ _ refl)
+loop-less c =
+    let after-step-at = c .before .before .before in
+    let at-loop = after-step-at .before .before in
+    let args = at-loop .before .before .args in
+    omega (
+      arith,
+      told-on (args .bytes .now) (at-loop .loop .p) _ _ (after-step-at .step-at .ensures) (c .before .step .given .1)
+          _ _ _ refl,
+    )
 
 loop-again : tie.Need-loop-again Inv-loop μ-loop
 loop-again c =
-    let l = c .before .before .before .before .before .loop in
-    l .inv ∙ ap answer (by-told (c .before .before .before .before .before .before .before .args .bytes .now) (l .p) _ _ (c .before .before .before .step-at .ensures) (c .before .step .given .1) (le-of-lt (c .before .before .before .before .loop-test .taken)))
+    let after-step-at = c .before .before .before in
+    let loop-test = after-step-at .before .loop-test in
+    let at-loop = after-step-at .before .before in
+    let args = at-loop .before .before .args in
+    at-loop .loop .inv
+    ∙ ap answer
+    (by-told (args .bytes .now) (at-loop .loop .p) _ _ (after-step-at .step-at .ensures) (c .before .step .given .1)
+    (le-of-lt (loop-test .taken)))
 
 enum-told : tie.Need-enum-told Inv-loop μ-loop
 enum-told c = search needs
 
 returns : tie.Need-returns Inv-loop μ-loop
 returns c =
-    let l = c .before .before .before .before .loop in
-    sym (l .inv ∙ ap answer (by-told (c .before .before .before .before .before .before .args .bytes .now) (l .p) _ _ (c .before .before .step-at .ensures) (c .enum-told .given .1) (le-of-lt (c .before .before .before .loop-test .taken))))
+    let step-at = c .before .before .step-at in
+    let turn = c .before .before .before in
+    let l = turn .before .loop in
+    let args = turn .before .before .before .args in
+    sym (l .inv
+    ∙ ap answer
+    (by-told (args .bytes .now) (l .p) _ _ (step-at .ensures) (c .enum-told .given .1)
+    (le-of-lt (turn .loop-test .taken))))
 
 enum-known-step-2 : tie.Need-enum-known-step-2 Inv-loop μ-loop
 enum-known-step-2 c = search needs
 
 returns-2 : tie.Need-returns-2 Inv-loop μ-loop
 returns-2 c =
-    let l = c .before .before .before .before .before .loop in
-    sym (l .inv ∙ ap answer (by-told (c .before .before .before .before .before .before .before .args .bytes .now) (l .p) _ _ (c .before .before .before .step-at .ensures) (c .before .step2 .given .1) (le-of-lt (c .before .before .before .before .loop-test .taken))))
+    let after-step-at = c .before .before .before in
+    let loop-test = after-step-at .before .loop-test in
+    let at-loop = after-step-at .before .before in
+    let args = at-loop .before .before .args in
+    sym (at-loop .loop .inv
+    ∙ ap answer
+    (by-told (args .bytes .now) (at-loop .loop .p) _ _ (after-step-at .step-at .ensures)
+    (c .before .step2 .given .1) (le-of-lt (loop-test .taken))))
 
 returns-3 : tie.Need-returns-3 Inv-loop μ-loop
 returns-3 c =

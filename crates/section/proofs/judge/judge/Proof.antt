@@ -22,8 +22,10 @@ row-of-requires c κs = search needs
 
 returns-2 : tie.Need-returns-2
 returns-2 c =
-    let s = c .before .before .before .before .before .args .section .now in
-    sym (judged-opening s 2 0 (opening-unknown s (c .before .before .before .if1 .left) (omega arith)))
+    let else1 = c .before .before .before in
+    let args = else1 .before .before .args in
+    let s = args .section .now in
+    sym (judged-opening s 2 0 (opening-unknown s (else1 .if1 .left) (omega arith)))
 
 row-at-requires : tie.Need-row-at-requires
 row-at-requires c κs = search needs
@@ -39,31 +41,36 @@ before-crc-requires c κs = search needs
 
 judge-inside-requires : tie.Need-judge-inside-requires
 judge-inside-requires c κs =
-    subst (λ (r : Row). FixedTwo (r .fixed)) (sym (c .before .before .before .before .row-at .ensures)) (fixed-two _)
+    let after-judge-header = c .before .before .before in
+    let row-at = after-judge-header .before .row-at in
+    subst (λ (r : Row). FixedTwo (r .fixed)) (sym (row-at .ensures)) (fixed-two _)
 
 returns-3 : tie.Need-returns-3
 returns-3 c =
-    let is-accepted = c .before .before .before .is-accepted in
-    let judge-header = c .before .before .before .before .judge-header in
-    let p = c .before .before .before .before .before in let row = p .row-at in
-    let row-of = p .before .before .row-of in
-    let if1 = p .before .before .before .before .if1 in
-    let args = p .before .before .before .before .before .before .args in
+    let if3 = c .before .before .if3 in
+    let after-is-accepted = c .before .before .before in
+    let judge-header = after-is-accepted .before .judge-header in
+    let after-row-at = after-is-accepted .before .before in
+    let after-row-of = after-row-at .before .before in
+    let else1 = after-row-of .before .before in
+    let args = else1 .before .before .args in
     let s = args .section .now in
-    went-on _ _ _ _ (judge-header .ensures) (is-accepted .ensures) _ (c .before .before .if3 .taken)
+    went-on _ _ _ _ (judge-header .ensures) (after-is-accepted .is-accepted .ensures) _ (if3 .taken)
     (c .judge-inside .ensures)
-    ∙ sym (judged-on s _ _ (row .ensures ∙ ap rowAt (row-of .ensures)) (c .before .before-crc .ensures)
-    (opening-known s (if1 .left) (omega arith)))
+    ∙ sym (judged-on s _ _ (after-row-at .row-at .ensures ∙ ap rowAt (after-row-of .row-of .ensures)) (c .before .before-crc .ensures)
+    (opening-known s (else1 .if1 .left) (omega arith)))
 
 returns-4 : tie.Need-returns-4
 returns-4 c =
-    let row = c .before .before .before .row-at in
-    let p = c .before .before .before .before .before in let row-of = p .row-of in
-    let if1 = p .before .before .if1 in
-    let args = p .before .before .before .before .args in
+    let judge-header = c .before .before .judge-header in
+    let after-row-at = c .before .before .before in
+    let after-row-of = after-row-at .before .before in
+    let else1 = after-row-of .before .before in
+    let args = else1 .before .before .args in
     let s = args .section .now in
-    stopped _ _ _ _ (c .before .before .judge-header .ensures) (c .before .is-accepted .ensures) (c .if3 .left)
-    ∙ sym (judged-on s _ _ (row .ensures ∙ ap rowAt (row-of .ensures)) refl (opening-known s (if1 .left) (omega arith)))
+    stopped _ _ _ _ (judge-header .ensures) (c .before .is-accepted .ensures) (c .if3 .left)
+    ∙ sym (judged-on s _ _ (after-row-at .row-at .ensures ∙ ap rowAt (after-row-of .row-of .ensures)) refl
+    (opening-known s (else1 .if1 .left) (omega arith)))
 
 pub judge-spec : {M : Type 1} → statement M
 judge-spec =

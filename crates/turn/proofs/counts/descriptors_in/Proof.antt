@@ -4,7 +4,7 @@ use Prim.Native.Nat.{_+_, _-_}
 use native.Mathlib.Omega.{arith}
 use lib.ListN.{length}
 use Rattle.sheet.specs.Sheet.{descriptor}
-use Rattle.turn.proofs.SectionLaws.{descriptor-full}
+use Rattle.contents.proofs.SectionLaws.{descriptor-full}
 use Rattle.turn.proofs.CountLaws.{Counting, count-begins, count-on, count-less, count-ends, descriptor-size}
 use borrow.Author.Needs.{needs}
 use Rattle.turn.proofs.counts.descriptors_in.Statement.{statement}

@@ -5,7 +5,7 @@ use native.Mathlib.Omega.{arith}
 use lib.ListN.{length}
 use Rattle.wire.specs.Bytes.{len12At}
 use Rattle.sheet.specs.Section.{sectionEntry}
-use Rattle.turn.proofs.SectionLaws.{entry-full}
+use Rattle.contents.proofs.SectionLaws.{entry-full}
 use Rattle.turn.proofs.CountLaws.{Counting, count-begins, count-on, count-less, count-ends}
 use Rattle.turn.proofs.EntryLaws.{fixed-small, entry-size}
 use borrow.Author.Needs.{needs}
