@@ -40,7 +40,7 @@ use Rattle.contents.proofs.Held.{held}
 use Rattle.contents.proofs.SheetSize.{sheet-fits}
 use Rattle.contents.proofs.ReadBack.{of-accepted}
 use Rattle.turn.proofs.TurnLaws.{to-section, to-sheet}
-use Rattle.turn.proofs.EntriesLaws.{number-put}
+use Rattle.turn.proofs.PieceLaws.{number-put}
 use Rattle.forms.specs.declared.Place.{Place}
 
 -- ---- the frame

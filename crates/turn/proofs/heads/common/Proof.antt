@@ -2,6 +2,7 @@
 use mathlib.Core.List.{_∷_}
 use lib.ListN.{drop}
 use Rattle.sheet.specs.Content.{plain, numbers, version, headOf}
+use Rattle.turn.specs.Inner.Fields.{versioned}
 use Rattle.turn.proofs.HeadLaws.{common-items, an-item, plain-item, numbers-item, as-items}
 use borrow.Author.Needs.{needs}
 use Rattle.turn.proofs.heads.common.Statement.{statement}
@@ -32,7 +33,7 @@ returns c =
     let more = drop 3 (headOf (args .row)) in
     as-items b (common-items (args .row) pre)
     (an-item b (plain 2) (version ∷ numbers ∷ more) (plain-item b 2 (the-plain .ensures))
-    (an-item b version (numbers ∷ more) (packed .ensures)
+    (an-item b version (numbers ∷ more) (packed .ensures .turned versioned)
     (an-item b numbers more (numbers-item b (plain2 .ensures)) (c .before .before .ids .ensures))))
 
 pub common-spec : {M : Type 1} → statement M

@@ -2,6 +2,7 @@
 use mathlib.Core.List.{[], _∷_}
 use Rattle.tables.proofs.RowLaws.{numbered-below, unnumbered-from}
 use Rattle.sheet.specs.Content.{plain, flags}
+use Rattle.turn.specs.Inner.Fields.{flagged}
 use Rattle.turn.proofs.HeadLaws.{sdt-entry, eit-entry, nit-entry, no-entry, no-items, an-item, last-item, plain-item, as-items}
 use borrow.Author.Needs.{needs}
 use Rattle.turn.proofs.heads.entry_fields.Statement.{statement}
@@ -23,7 +24,7 @@ returns c =
     let args = p .before .before .before .before .before .args in
     as-items (args .forth) (sdt-entry (args .row) (if1 .taken))
     (an-item (args .forth) (plain 2) (flags ∷ []) (plain-item (args .forth) 2 (the-plain .ensures))
-    (last-item (args .forth) flags (c .before .before .packed .ensures)))
+    (last-item (args .forth) flags (c .before .before .packed .ensures .turned flagged)))
 
 plain-requires-2 : tie.Need-plain-requires-2
 plain-requires-2 c κs = search needs

@@ -1,6 +1,7 @@
 -- `turn::heads::ids` meets its contract.
 use mathlib.Core.List.{[], _∷_}
 use Rattle.sheet.specs.Content.{plain, filler}
+use Rattle.turn.specs.Inner.Fields.{filled}
 use Rattle.turn.proofs.HeadLaws.{sdt-ids, eit-ids, no-ids, no-items, an-item, last-item, plain-item, as-items}
 use borrow.Author.Needs.{needs}
 use Rattle.turn.proofs.heads.ids.Statement.{statement}
@@ -9,8 +10,8 @@ use Rattle.turn.proofs.heads.ids.Tie as tie
 plain-requires : tie.Need-plain-requires
 plain-requires c κs = search needs
 
-filler-requires : tie.Need-filler-requires
-filler-requires c κs = search needs
+packed-requires : tie.Need-packed-requires
+packed-requires c κs = search needs
 
 same-length : tie.Need-same-length
 same-length c = search needs
@@ -22,7 +23,7 @@ returns c =
     let args = p .before .before .before .before .before .args in
     as-items (args .forth) (sdt-ids (args .row) (if1 .taken))
     (an-item (args .forth) (plain 2) (filler ∷ []) (plain-item (args .forth) 2 (the-plain .ensures))
-    (last-item (args .forth) filler (c .before .before .filler .ensures)))
+    (last-item (args .forth) filler (c .before .before .packed .ensures .turned filled)))
 
 plain-requires-2 : tie.Need-plain-requires-2
 plain-requires-2 c κs = search needs
@@ -47,7 +48,7 @@ ids-spec =
     tie.close
     (tie.spec
     plain-requires
-    filler-requires
+    packed-requires
     same-length
     returns
     plain-requires-2
