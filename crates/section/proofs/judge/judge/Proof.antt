@@ -75,15 +75,5 @@ returns-4 c =
 pub judge-spec : {M : Type 1} → statement M
 judge-spec =
     tie.close
-    (tie.spec
-    returns
-    shared-slice-read-row-of
-    row-of-requires
-    returns-2
-    row-at-requires
-    judge-header-requires
-    is-accepted-requires
-    before-crc-requires
-    judge-inside-requires
-    returns-3
-    returns-4)
+    (tie.spec returns shared-slice-read-row-of row-of-requires returns-2 row-at-requires judge-header-requires
+    is-accepted-requires before-crc-requires judge-inside-requires returns-3 returns-4)
