@@ -19,11 +19,11 @@ use Rattle.sheet.specs.Content.{Item, plain, numbers, version, frame, headOf, F
 use Rattle.sheet.specs.Sheet.{sheetItem, sheetTop, sheetEntries, sheetOf}
 use Rattle.sheet.specs.Section.{sectionItem, sectionTop, sectionEntries, sectionLength, seal, sectionOf}
 use Rattle.sheet.proofs.SectionSize.{second, front-is}
-use Rattle.turn.specs.Holds.{Holds}
+use Rattle.contents.specs.Holds.{Holds}
 use Rattle.turn.proofs.HeadLaws.{common-items}
-use Rattle.turn.proofs.Held.{held}
-use Rattle.turn.proofs.SectionLaws.{first-byte}
-use Rattle.turn.proofs.RoundTrips.{from-sheet, from-section}
+use Rattle.contents.proofs.Held.{held}
+use Rattle.contents.proofs.SectionLaws.{first-byte}
+use Rattle.round_trips.proofs.RoundTrips.{from-sheet, from-section}
 use Rattle.agreed.specs.Agreed.{sheetSubTable, Shows, SectionShown, SheetShown}
 
 -- ---- the fields that the four tables have
@@ -251,7 +251,7 @@ section-shown n s t w e numbered =
 
 pub sheet-shown : SheetShown
 sheet-shown n s t w e numbered =
-    let x = from-section n s t w e .1 in
+    let x = from-section n s t w e in
     let c = x .content in
     let below = numbered-row c (ap hasNoSubTable (x .is) ∙ numbered) in
     subst (λ z. Shows t z) (x .is)

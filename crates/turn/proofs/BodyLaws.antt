@@ -1,18 +1,17 @@
 -- Laws of whole bodies: head, top loop and entries, one behind the other.
-use Prim.Native.Nat.{ℕ, zero, suc, _+_, _-_, _*_, _<_, _≤_}
-use mathlib.Core.Path.{_≡_, refl, sym, ap, ap₂, _∙_, subst}
-use mathlib.Core.List.{List, [], _∷_, _++_, append-nil}
-use mathlib.Core.Bool.{Bool, true, false, not}
+use Prim.Native.Nat.{ℕ, zero, suc, _+_, _<_, _≤_}
+use mathlib.Core.Path.{_≡_, refl, sym, ap, _∙_, subst}
+use mathlib.Core.List.{List, [], _∷_, _++_}
+use mathlib.Core.Bool.{Bool, true, false}
 use native.Mathlib.Omega.{arith}
-use borrow.Author.Tests.{eq-eqb, ne-eqb}
 use lib.ListN.{length, length-append}
 use lib.Dec.{eqb}
 use Rattle.wire.specs.If.{if_then_else_}
 use Rattle.wire.specs.Parts.{Part}
 use Rattle.wire.proofs.PartLaws.{part-first, part-second}
 use Rattle.tables.specs.Tables.{cell, rowAt}
-use Rattle.forms.specs.Form.{Form, mute, _then_, eachShow, EachOk}
-use Rattle.forms.specs.Fields.{Field, Fit, sheetField, sheetFields}
+use Rattle.forms.specs.Form.{mute, _then_, eachShow, EachOk}
+use Rattle.forms.specs.Fields.{Fit, sheetFields}
 use Rattle.forms.specs.Lists.{all, All, none, one, counted, countedShow, loop, loopShow, filling}
 use Rattle.forms.specs.Room.{put}
 use Rattle.forms.specs.Inner.Turning.{Done, Turned}
@@ -21,9 +20,9 @@ use Rattle.forms.proofs.Turns.{done-both, done-length}
 use Rattle.sheet.specs.Content.{Entry, Entries, Loop, Body, bare, headOf}
 use Rattle.sheet.specs.Sheet.{sheetItem, sheetLoop, sheetEntry, sheetTop, sheetEntries, sheetBody}
 use Rattle.sheet.specs.Section.{sectionItem, sectionLoop, sectionEntry, sectionTop, sectionEntries, sectionBody}
-use Rattle.turn.specs.Inner.Ways.{itemsFrom, itemsTo, loopFrom, entryFrom, topIf, entriesShown, BesideOk, BesideFit, EntriesForth, EntriesBack, EntrySizes}
+use Rattle.turn.specs.Inner.Ways.{itemsFrom, itemsTo, entryFrom, topIf, entriesShown, BesideOk, BesideFit, EntriesForth, EntriesBack}
 use Rattle.turn.specs.Inner.Bodies.{SectionOk, BodyForth, BodyBack}
-use Rattle.turn.proofs.Held.{no-fields}
+use Rattle.contents.proofs.Held.{no-fields}
 use Rattle.forms.specs.declared.Place.{Place}
 
 -- ---- rows
@@ -46,7 +45,8 @@ module _ (row : ℕ) (t : Bool) (ht : t ≡ eqb (rowAt row .top) 1) (l : Loop) w
   unfolding sheetTop sectionTop
   top-both = go t (eqb (rowAt row .top) 1) ht
     where
-      go : (x y : Bool) → x ≡ y → (if y then sheetLoop bare else mute ([], [])) .Ok l → (if y then sectionLoop bare else mute ([], [])) .Ok l → topIf true x .Ok l
+      go : (x y : Bool) → x ≡ y → (if y then sheetLoop bare else mute ([], [])) .Ok l
+          → (if y then sectionLoop bare else mute ([], [])) .Ok l → topIf true x .Ok l
       go true true e a b = (a, b)
       go true false e a b = let z : _≡_ {A = ℕ} 0 1 = cc in absurd (omega arith)
       go false true e a b = let z : _≡_ {A = ℕ} 0 1 = cc in absurd (omega arith)
@@ -66,7 +66,9 @@ module _ (row : ℕ) (t : Bool) (ht : t ≡ eqb (rowAt row .top) 1) (l : Loop) w
   unfolding sheetTop sectionTop
   top-shown = go t (eqb (rowAt row .top) 1) ht
     where
-      go : (x y : Bool) → x ≡ y → (topIf true x .show l ≡ (if y then sheetLoop bare else mute ([], [])) .show l) × (topIf false x .show l ≡ (if y then sectionLoop bare else mute ([], [])) .show l)
+      go : (x y : Bool) → x ≡ y
+          → (topIf true x .show l ≡ (if y then sheetLoop bare else mute ([], [])) .show l)
+          × (topIf false x .show l ≡ (if y then sectionLoop bare else mute ([], [])) .show l)
       go true true e = (refl, refl)
       go true false e = let z : _≡_ {A = ℕ} 0 1 = cc in absurd (omega arith)
       go false true e = let z : _≡_ {A = ℕ} 0 1 = cc in absurd (omega arith)
@@ -107,7 +109,10 @@ module _ (row : ℕ) (t : Bool) (ht : t ≡ eqb (rowAt row .top) 1) (hf : eqb (r
   in-section-forms n o = go t (eqb (rowAt row .top) 1) (eqb (rowAt row .fixed) 0) refl refl refl o
     where
       go : (x y z : Bool) → t ≡ x → eqb (rowAt row .top) 1 ≡ y → eqb (rowAt row .fixed) 0 ≡ z
-          → (if z then mute ([], []) else if y then loop (sectionEntry row) bare else mute [] then filling (sectionEntry row) n) .Ok e → InSection
+          → (if z then mute ([], []) else if y then loop (sectionEntry row) bare else mute [] then filling
+          (sectionEntry row) n) .Ok
+          e
+          → InSection
       go x y true p q r o = let k : _≡_ {A = ℕ} 0 1 = cc (hf) in absurd (omega arith)
       go true true false p q r o = record {
         beside = subst (λ b. BesideFit b (e .0)) (sym p) (o .0);
@@ -132,7 +137,10 @@ module _ (row : ℕ) (t : Bool) (ht : t ≡ eqb (rowAt row .top) 1) (hf : eqb (r
     where
       go : (x y z : Bool) → t ≡ x → eqb (rowAt row .top) 1 ≡ y → eqb (rowAt row .fixed) 0 ≡ z
           → (if z then mute ([], []) else sheetFields (if y then bare else []) then counted (sheetEntry row)) .Ok e
-          → (if z then mute ([], []) else if y then loop (sectionEntry row) bare else mute [] then filling (sectionEntry row) n) .Ok e → InBoth
+          → (if z then mute ([], []) else if y then loop (sectionEntry row) bare else mute [] then filling
+          (sectionEntry row) n) .Ok
+          e
+          → InBoth
       go x y true p q r o u = let k : _≡_ {A = ℕ} 0 1 = cc (hf) in absurd (omega arith)
       go true true false p q r o u = record {
         beside = subst (λ b. BesideOk b (e .0)) (sym p) (o .0);
@@ -148,14 +156,16 @@ module _ (row : ℕ) (t : Bool) (ht : t ≡ eqb (rowAt row .top) 1) (hf : eqb (r
       go false true false p q r o u = let k : _≡_ {A = ℕ} 0 1 = cc (ht) in absurd (omega arith)
 
 -- no entries are no bytes
-none-forms : (row n : ℕ) (e : Entries) → eqb (rowAt row .fixed) 0 ≡ true → (sheetEntries row .show e ≡ []) × (sectionEntries row n .show e ≡ [])
+none-forms : (row n : ℕ) (e : Entries) → eqb (rowAt row .fixed) 0 ≡ true
+    → (sheetEntries row .show e ≡ []) × (sectionEntries row n .show e ≡ [])
 unfolding sheetEntries sectionEntries
 none-forms row n e h = (rw h refl, rw h refl)
 
 -- ---- three pieces
 
 module _ {p q r v : Place} {o o₁ o₂ o₃ : List ℕ} where
-  three : (x y z a b c : List ℕ) → p .to + length (a ++ (b ++ c)) ≤ length o → Done p x a o q o₁ → Done q y b o₁ r o₂ → Done r z c o₂ v o₃ → Done p (x ++ (y ++ z)) (a ++ (b ++ c)) o v o₃
+  three : (x y z a b c : List ℕ) → p .to + length (a ++ (b ++ c)) ≤ length o → Done p x a o q o₁ → Done q y b o₁ r o₂
+      → Done r z c o₂ v o₃ → Done p (x ++ (y ++ z)) (a ++ (b ++ c)) o v o₃
   three x y z a b c f d e g =
       let la = length-append a (b ++ c) in
       let lb = length-append b c in
@@ -169,8 +179,10 @@ done-as {p} {q} {o} {o'} {x} {y} {a} {b} e f d = subst (λ u. Done p u b o q o')
 
 module _ (row : ℕ) (t : Bool) (ht : t ≡ eqb (rowAt row .top) 1) {s o o₁ o₂ o₃ : List ℕ} {p q r v : Place} (end : ℕ) where
   -- head and top loop, and then the entries' bytes
-  forth-parts : Turned (itemsFrom true (headOf row)) (itemsTo true (headOf row)) s p o q o₁ → Turned (topIf true t) (topIf false t) s q o₁ r o₂
-      → (b : Body) → sheetBody row .Ok b → SectionOk row b → Part s (p .at) (sheetBody row .show b) → p .to + length (sectionBody row 0 .show b) ≡ end → end ≤ length o
+  forth-parts : Turned (itemsFrom true (headOf row)) (itemsTo true (headOf row)) s p o q o₁
+      → Turned (topIf true t) (topIf false t) s q o₁ r o₂
+      → (b : Body) → sheetBody row .Ok b → SectionOk row b → Part s (p .at) (sheetBody row .show b)
+      → p .to + length (sectionBody row 0 .show b) ≡ end → end ≤ length o
       → (Part s (r .at) (sheetEntries row .show (b .1 .1)) → r .to + length (sectionEntries row 0 .show (b .1 .1)) ≡ end → end ≤ length o₂
       → Done r (sheetEntries row .show (b .1 .1)) (sectionEntries row 0 .show (b .1 .1)) o₂ v o₃)
       → Done p (sheetBody row .show b) (sectionBody row 0 .show b) o v o₃
@@ -192,17 +204,22 @@ module _ (row : ℕ) (t : Bool) (ht : t ≡ eqb (rowAt row .top) 1) {s o o₁ o�
       let ts = top-shown row t ht (b .1 .0) in
       let wy : Part s (q .at) (topIf true t .show (b .1 .0)) = subst (Part s (q .at)) (sym (ts .0)) (part-first y z wyz') in
       let lt = ap length (ts .1) in
-      let i : Done q y m o₁ r o₂ = done-as (ts .0) (ts .1) (u .turned (b .1 .0) (top-both row t ht (b .1 .0) (ok .1 .0) (sok .1 .0)) wy (omega arith)) in
+      let i : Done q y m o₁ r o₂ =
+      done-as (ts .0) (ts .1)
+      (u .turned (b .1 .0) (top-both row t ht (b .1 .0) (ok .1 .0) (sok .1 .0)) wy (omega arith)) in
       let i-room = done-length y m (omega arith) i in
       let iw = i .written in
       let wz : Part s (r .at) z = subst (λ k. Part s k z) (sym (i .read)) (part-second y z wyz') in
       let j = g wz (omega arith) (omega arith) in
       three x y z a m c (omega arith) d i j
 
-  back-parts : Turned (itemsFrom false (headOf row)) (itemsTo false (headOf row)) s p o q o₁ → Turned (topIf false t) (topIf true t) s q o₁ r o₂
-      → (b : Body) → SectionOk row b → Part s (p .at) (sectionBody row 0 .show b) → p .at + length (sectionBody row 0 .show b) ≡ end → p .to + length (sheetBody row .show b) ≤ length o
+  back-parts : Turned (itemsFrom false (headOf row)) (itemsTo false (headOf row)) s p o q o₁
+      → Turned (topIf false t) (topIf true t) s q o₁ r o₂
+      → (b : Body) → SectionOk row b → Part s (p .at) (sectionBody row 0 .show b)
+      → p .at + length (sectionBody row 0 .show b) ≡ end → p .to + length (sheetBody row .show b) ≤ length o
       → (Part s (r .at) (sectionEntries row 0 .show (b .1 .1)) → r .at + length (sectionEntries row 0 .show (b .1 .1)) ≡ end
-      → r .to + length (sheetEntries row .show (b .1 .1)) ≤ length o₂ → Done r (sectionEntries row 0 .show (b .1 .1)) (sheetEntries row .show (b .1 .1)) o₂ v o₃)
+      → r .to + length (sheetEntries row .show (b .1 .1)) ≤ length o₂
+      → Done r (sectionEntries row 0 .show (b .1 .1)) (sheetEntries row .show (b .1 .1)) o₂ v o₃)
       → Done p (sectionBody row 0 .show b) (sheetBody row .show b) o v o₃
   back-parts h u b sok w e f g =
       let a = eachShow sheetItem (headOf row) (b .0) in
@@ -225,7 +242,8 @@ module _ (row : ℕ) (t : Bool) (ht : t ≡ eqb (rowAt row .top) 1) {s o o₁ o�
       let ts = top-shown row t ht (b .1 .0) in
       let wy : Part s (q .at) (topIf false t .show (b .1 .0)) = subst (Part s (q .at)) (sym (ts .1)) (part-first y z wyz') in
       let lt = ap length (ts .0) in
-      let i : Done q y m o₁ r o₂ = done-as (ts .1) (ts .0) (u .turned (b .1 .0) (top-section row t ht (b .1 .0) (sok .1 .0)) wy (omega arith)) in
+      let i : Done q y m o₁ r o₂ =
+      done-as (ts .1) (ts .0) (u .turned (b .1 .0) (top-section row t ht (b .1 .0) (sok .1 .0)) wy (omega arith)) in
       let i-room = done-length y m (omega arith) i in
       let iw = i .written in
       let ir = i .read in
@@ -267,7 +285,8 @@ module _ (row : ℕ) (t : Bool) (ht : t ≡ eqb (rowAt row .top) 1) {s o o₁ o�
         let x = in-section-forms row t ht hf (b .1 .1) _ (sok .1 .1) in
         let y = in-both-forms row t ht hf (b .1 .1) _ (ok .1 .1) (sok .1 .1) in
         done-as (sym (x .in-sheet)) (sym (x .in-section))
-        (m .turned (b .1 .1 .0) (b .1 .1 .1) (y .beside) (y .entries) (y .few) (subst (Part s (r .at)) (x .in-sheet) wz) (ap (λ l. r .to + length l) (sym (x .in-section)) ∙ k) small g));
+        (m .turned (b .1 .1 .0) (b .1 .1 .1) (y .beside) (y .entries) (y .few) (subst (Part s (r .at)) (x .in-sheet) wz)
+        (ap (λ l. r .to + length l) (sym (x .in-section)) ∙ k) small g));
   }
 
   pub body-back : eqb (rowAt row .fixed) 0 ≡ false → Turned (itemsFrom false (headOf row)) (itemsTo false (headOf row)) s p o q o₁
@@ -278,7 +297,8 @@ module _ (row : ℕ) (t : Bool) (ht : t ≡ eqb (rowAt row .top) 1) {s o o₁ o�
         (λ wz k g.
         let x = in-section-forms row t ht hf (b .1 .1) _ (sok .1 .1) in
         let l = x .small in
-        let x' = length-append (eachShow sectionItem (headOf row) (b .0)) (sectionTop row .show (b .1 .0) ++ sectionEntries row 0 .show (b .1 .1)) in
+        let x' = length-append (eachShow sectionItem (headOf row) (b .0))
+        (sectionTop row .show (b .1 .0) ++ sectionEntries row 0 .show (b .1 .1)) in
         let y' = length-append (sectionTop row .show (b .1 .0)) (sectionEntries row 0 .show (b .1 .1)) in
         done-as (sym (x .in-section)) (sym (x .in-sheet))
         (m .turned (b .1 .1 .0) (b .1 .1 .1) (x .beside) (x .entries) (omega arith) (subst (Part s (r .at)) (x .in-section) wz)

@@ -1,18 +1,15 @@
 -- Laws of counting: items that fill bytes, one by one, and the bytes of so many descriptors.
-use Prim.Native.Nat.{ℕ, zero, suc, _+_, _-_, _*_, _/_, _%_, _^_, _<_, _≤_}
-use mathlib.Core.Path.{_≡_, refl, sym, ap, ap₂, _∙_, subst}
-use mathlib.Core.List.{List, [], _∷_, _++_, append-assoc}
-use mathlib.Core.Bool.{Bool, true, false}
+use Prim.Native.Nat.{ℕ, suc, _+_, _-_, _*_, _/_, _%_, _^_, _<_, _≤_}
+use mathlib.Core.Path.{_≡_, refl, sym, ap, _∙_, subst}
+use mathlib.Core.List.{List, [], _∷_, _++_}
 use native.Mathlib.Omega.{arith}
-use borrow.Author.Tests.{leb-true, leb-false}
 use lib.ListN.{length, getD, drop, length-append, length-drop}
 use lib.Seq.{drop-at, drop-drop, getD-drop}
 use lib.Dec.{leb}
-use Rattle.wire.specs.If.{if_then_else_}
 use Rattle.wire.specs.Parts.{Part}
-use Rattle.wire.specs.Number.{numberAt, number, bytesAt}
+use Rattle.wire.specs.Number.{numberAt, number}
 use Rattle.wire.proofs.IfLaws.{if-case}
-use Rattle.wire.proofs.PartLaws.{part-first, part-second}
+use Rattle.wire.proofs.PartLaws.{part-second}
 use Rattle.forms.specs.Form.{Form}
 use Rattle.forms.specs.Lists.{all, All, none, one, countedShow}
 use Rattle.forms.specs.Room.{sum}
@@ -46,7 +43,9 @@ module _ {A : Type 0} (c : Form A) (full : Full c) (l : List ℕ) where
   count-begins m o e = record { rest = m; ok = o; bytes = e; number = omega arith }
 
   -- one more, if its size is what it says
-  pub count-on : (p k n : ℕ) → ((a : A) (r : List ℕ) → c .Ok a → c .show a ++ r ≡ drop p l → n ≡ sum p (length (c .show a))) → p < length l → length l < 2 ^ 64
+  pub count-on : (p k n : ℕ)
+      → ((a : A) (r : List ℕ) → c .Ok a → c .show a ++ r ≡ drop p l → n ≡ sum p (length (c .show a))) → p < length l
+      → length l < 2 ^ 64
       → Counting p k → Counting n (k + 1)
   unfolding all
   count-on p k n size h b f m o e = go (f m o e)
@@ -61,7 +60,11 @@ module _ {A : Type 0} (c : Form A) (full : Full c) (l : List ℕ) where
               let z = ap length q in
               let w = length-append (c .show a) (all c r) in
               let i : n ≡ p + length (c .show a) = size a (all c r) oa q ∙ sum-fits p (length (c .show a)) (omega arith) in
-              let t : all c r ≡ drop n l = sym (drop-at (c .show a) (all c r) (length (c .show a)) refl) ∙ ap (drop (length (c .show a))) q ∙ drop-drop (length (c .show a)) p l ∙ ap (λ k. drop k l) (sym i) in
+              let t : all c r ≡ drop n l =
+              sym (drop-at (c .show a) (all c r) (length (c .show a)) refl)
+              ∙ ap (drop (length (c .show a))) q
+              ∙ drop-drop (length (c .show a)) p l
+              ∙ ap (λ k. drop k l) (sym i) in
               record { rest = r; ok = os; bytes = t; number = omega arith }
 
   -- none is left
@@ -82,8 +85,10 @@ module _ {A : Type 0} (c : Form A) (full : Full c) (l : List ℕ) where
               absurd (omega arith)
 
 -- a descriptor says its size
-pub descriptor-size : (d : Descriptor) (r l : List ℕ) (p : ℕ) → descriptor .show d ++ r ≡ drop p l → 2 + getD l (p + 1) 0 ≡ length (descriptor .show d)
-descriptor-size d r l p e = let i : getD l (p + 1) 0 ≡ length (d .body) = sym (getD-drop p l 1 0) ∙ ap (λ z. getD z 1 0) (sym e) in omega arith
+pub descriptor-size : (d : Descriptor) (r l : List ℕ) (p : ℕ) → descriptor .show d ++ r ≡ drop p l
+    → 2 + getD l (p + 1) 0 ≡ length (descriptor .show d)
+descriptor-size d r l p e =
+    let i : getD l (p + 1) 0 ≡ length (d .body) = sym (getD-drop p l 1 0) ∙ ap (λ z. getD z 1 0) (sym e) in omega arith
 
 -- ---- the bytes of so many descriptors
 
@@ -107,16 +112,25 @@ module _ (s : List ℕ) (at : ℕ) where
       let j : getD s (at + 1) 0 ≡ k % 256 = part-byte (countedShow descriptor m) w 1 (omega arith) in
       let e : k ≡ getD s at 0 * 256 + getD s (at + 1) 0 = omega arith in
       let z : at + 2 + 0 ≡ at + 2 = omega arith in
-      record { rest = m; ok = o; number = e; there = subst (λ p. Part s p (all descriptor m)) (sym z) (part-second (k / 256 ∷ k % 256 ∷ []) (all descriptor m) w); size = omega arith }
+      record {
+        rest = m;
+        ok = o;
+        number = e;
+        there = subst (λ p. Part s p (all descriptor m)) (sym z)
+            (part-second (k / 256 ∷ k % 256 ∷ []) (all descriptor m) w);
+        size = omega arith;
+      }
 
-  pub size-on : (n left next : ℕ) → length s < 2 ^ 64 → next ≡ sum n (2 + getD s (sum (sum at 3) n) 0) → Sizing n (suc left) → Sizing next left
+  pub size-on : (n left next : ℕ) → length s < 2 ^ 64 → next ≡ sum n (2 + getD s (sum (sum at 3) n) 0)
+      → Sizing n (suc left) → Sizing next left
   unfolding all
   size-on n left next b e f m o h w = go (f m o h w)
     where
       go : Still n (suc left) m → Still next left m
       go x = on (x .rest) (x .ok) (x .number) (x .there) (x .size)
         where
-          on : (r : List Descriptor) → All descriptor r → length r ≡ suc left → Part s (at + 2 + n) (all descriptor r) → n + length (all descriptor r) ≡ length (all descriptor m) → Still next left m
+          on : (r : List Descriptor) → All descriptor r → length r ≡ suc left → Part s (at + 2 + n) (all descriptor r)
+              → n + length (all descriptor r) ≡ length (all descriptor m) → Still next left m
           on [] none k t z = absurd (omega arith)
           on (d ∷ r) (one od os) k t z =
               let y : List ℕ = d .tag ∷ length (d .body) ∷ d .body in
@@ -125,10 +139,19 @@ module _ (s : List ℕ) (at : ℕ) where
               let g1 : sum at 3 ≡ at + 3 = sum-fits at 3 (omega arith) in
               let g2 : sum (at + 3) n ≡ at + 3 + n = sum-fits (at + 3) n (omega arith) in
               let g3 : at + 3 + n ≡ at + 2 + n + 1 = omega arith in
-              let i : getD s (sum (sum at 3) n) 0 ≡ length (d .body) = ap (λ q. getD s (sum q n) 0) g1 ∙ ap (λ q. getD s q 0) (g2 ∙ g3) ∙ part-byte (all descriptor (d ∷ r)) t 1 (omega arith) in
+              let i : getD s (sum (sum at 3) n) 0 ≡ length (d .body) =
+              ap (λ q. getD s (sum q n) 0) g1
+              ∙ ap (λ q. getD s q 0) (g2 ∙ g3)
+              ∙ part-byte (all descriptor (d ∷ r)) t 1 (omega arith) in
               let j : next ≡ n + length y = e ∙ ap (λ q. sum n (2 + q)) i ∙ sum-fits n (2 + length (d .body)) (omega arith) ∙ omega arith in
               let p : at + 2 + n + length y ≡ at + 2 + next = omega arith in
-              record { rest = r; ok = os; number = omega arith; there = subst (λ q. Part s q (all descriptor r)) p (part-second y (all descriptor r) t); size = omega arith }
+              record {
+                rest = r;
+                ok = os;
+                number = omega arith;
+                there = subst (λ q. Part s q (all descriptor r)) p (part-second y (all descriptor r) t);
+                size = omega arith;
+              }
 
   pub size-ends : (n : ℕ) → Sizing n 0 → SizeAt s at n
   unfolding all
@@ -137,6 +160,7 @@ module _ (s : List ℕ) (at : ℕ) where
       go : Still n 0 m → n ≡ length (all descriptor m)
       go x = none-left (x .rest) (x .number) (x .size)
         where
-          none-left : (r : List Descriptor) → length r ≡ 0 → n + length (all descriptor r) ≡ length (all descriptor m) → n ≡ length (all descriptor m)
+          none-left : (r : List Descriptor) → length r ≡ 0 → n + length (all descriptor r) ≡ length (all descriptor m)
+              → n ≡ length (all descriptor m)
           none-left [] k z = omega arith
           none-left (d ∷ r) k z = absurd (omega arith)

@@ -1,10 +1,10 @@
 -- Laws of whole sections and sheets, written at a room's start.
 use Prim.Native.Nat.{ℕ, zero, suc, _+_, _-_, _*_, _/_, _%_, _^_, _<_, _≤_}
 use mathlib.Core.Path.{_≡_, refl, sym, ap, ap₂, _∙_, subst}
-use mathlib.Core.List.{List, [], _∷_, _++_, append-nil, append-assoc}
+use mathlib.Core.List.{List, [], _∷_, _++_, append-nil}
 use mathlib.Core.Bool.{Bool, true, false}
 use native.Mathlib.Omega.{arith}
-use borrow.Author.Tests.{eqb-true, eqb-false, lt-ltb, le-ltb}
+use borrow.Author.Tests.{eqb-true, lt-ltb, le-ltb}
 use lib.ListN.{length, getD, take, drop, length-append}
 use lib.Seq.{take-at}
 use lib.Dec.{eqb, ltb, lit<}
@@ -22,24 +22,25 @@ use Rattle.tables.specs.Tables.{rowOf, rowAt}
 use Rattle.verdict.specs.Verdict as verdict
 use Rattle.section.specs.Reading.{judged}
 use Rattle.forms.specs.Form.{eachShow, EachOk}
-use Rattle.forms.specs.Fields.{Field, Fit, room, pack, sheetFields}
+use Rattle.forms.specs.Fields.{Fit, room, pack, sheetFields}
 use Rattle.forms.specs.Room.{put, sum}
 use Rattle.forms.proofs.Puts.{sum-fits, put-fits, put-put, length-put}
 use Rattle.sheet.specs.Content.{Content, frame, tableOf, frameOf, bodyOf, rowIn}
 use Rattle.sheet.specs.Sheet.{sheetBody, sheetOf, SheetOk}
-use Rattle.sheet.specs.Section.{sectionBody, bodyBytes, sectionLength, front, seal, sectionOf, contentOf, readSheet}
+use Rattle.sheet.specs.Section.{bodyBytes, sectionLength, front, seal, sectionOf, contentOf, readSheet}
 use Rattle.sheet.specs.Reads.{judgedSheet}
 use Rattle.turn.specs.Inner.Ways.{putNumber}
 use Rattle.turn.specs.Inner.Bodies.{BodyForth, BodyBack, SectionWritten, SheetWritten, AcceptedWritten}
 use Rattle.turn.specs.Turn as turn
 use Rattle.turn.specs.Answers.{toldRefusal}
 use Rattle.sheet.proofs.SectionSize.{front-is, front-length, second, section-length, seal-length}
-use Rattle.turn.specs.Holds.{Holds}
-use Rattle.turn.proofs.SectionLaws.{numbers-of, first-byte, frame-lt}
-use Rattle.turn.proofs.Held.{Held, held}
-use Rattle.turn.proofs.SheetSize.{sheet-fits}
-use Rattle.turn.proofs.RoundTrips.{FromSection, of-accepted, to-section, to-sheet}
-use Rattle.turn.proofs.EntriesLaws.{number-put}
+use Rattle.contents.specs.Holds.{Holds}
+use Rattle.contents.proofs.SectionLaws.{numbers-of, first-byte}
+use Rattle.contents.proofs.Held.{held}
+use Rattle.contents.proofs.SheetSize.{sheet-fits}
+use Rattle.contents.proofs.ReadBack.{of-accepted}
+use Rattle.turn.proofs.TurnLaws.{to-section, to-sheet}
+use Rattle.turn.proofs.PieceLaws.{number-put}
 use Rattle.forms.specs.declared.Place.{Place}
 
 -- ---- the frame
@@ -138,7 +139,8 @@ module _ (s o : List ℕ) (w : Bytes s) (lo : length o < 2 ^ 64) (n number : ℕ
       let fl = front-length c in
       let n-is : n ≡ L + 4 * rowAt (rowIn c) .crc = hn in
       let e3 : sum n 3 ≡ n + 3 = sum-fits n 3 (omega arith) in
-      let cb : (if eqb (rowAt number .crc) 1 then 4 else 0) ≡ 4 * rowAt (rowIn c) .crc = ap (λ i. if eqb (rowAt i .crc) 1 then 4 else 0) hr ∙ crc-bytes (rowAt (rowIn c) .crc) (m .crc-bit) in
+      let cb : (if eqb (rowAt number .crc) 1 then 4 else 0) ≡ 4 * rowAt (rowIn c) .crc =
+      ap (λ i. if eqb (rowAt i .crc) 1 then 4 else 0) hr ∙ crc-bytes (rowAt (rowIn c) .crc) (m .crc-bit) in
       let e-is : end ≡ 3 + L = omega arith in
       let body = sheetBody (rowIn c) .show (bodyOf c) in
       let si : s ≡ tableOf c ∷ (body ++ []) = h .shows ∙ sheet-is c (k .frame-fits) ∙ ap (λ l. tableOf c ∷ l) (sym (append-nil body)) in
@@ -150,13 +152,20 @@ module _ (s o : List ℕ) (w : Bytes s) (lo : length o < 2 ^ 64) (n number : ℕ
       let x : ℕ = v / 256 % 256 in
       let y : ℕ = v % 256 in
       let p₂ : o₂ ≡ put o₁ 1 (x ∷ y ∷ []) = h₂ ∙ ap (putNumber o₁ 1) hv ∙ number-put o₁ 1 v (omega arith) (omega arith) in
-      let p₃ : o₂ ≡ put o 0 (getD s 0 0 ∷ x ∷ y ∷ []) = p₂ ∙ ap (λ z. put z 1 (x ∷ y ∷ [])) h₁ ∙ put-put o 0 (getD s 0 0 ∷ []) (omega arith) (x ∷ y ∷ []) (omega arith) in
+      let p₃ : o₂ ≡ put o 0 (getD s 0 0 ∷ x ∷ y ∷ []) =
+      p₂
+      ∙ ap (λ z. put z 1 (x ∷ y ∷ [])) h₁
+      ∙ put-put o 0 (getD s 0 0 ∷ []) (omega arith) (x ∷ y ∷ []) (omega arith) in
       let l₂ : length o₂ ≡ length o = ap length p₃ ∙ length-put o 0 (getD s 0 0 ∷ x ∷ y ∷ []) (omega arith) in
-      let t : BodyForth (rowIn c) s (record { at = 1; to = 3 }) end o₂ q o₃ = subst (λ i. BodyForth i s (record { at = 1; to = 3 }) end o₂ q o₃) hr h₃ in
+      let t : BodyForth (rowIn c) s (record { at = 1; to = 3 }) end o₂ q o₃ =
+      subst (λ i. BodyForth i s (record { at = 1; to = 3 }) end o₂ q o₃) hr h₃ in
       let d = t .turned (bodyOf c) (h .ok .1 .1) (k .body) part (sym e-is) (omega arith) (omega arith) in
       let ff = frame-ones (frameOf c) (h .ok .1 .0) in
       let sb = syntax-bits (rowAt (rowIn c) .syntax) n (m .syntax) (omega arith) in
-      let hx : x ≡ second c = ap (λ i. ((if eqb (rowAt i .syntax) 1 then 0xF000 else 0x7000) + n) / 256 % 256) hr ∙ sb ∙ ap₂ (λ i j. rowAt (rowIn c) .syntax * 128 + i * 16 + j / 256) (sym ff) hn in
+      let hx : x ≡ second c =
+      ap (λ i. ((if eqb (rowAt i .syntax) 1 then 0xF000 else 0x7000) + n) / 256 % 256) hr
+      ∙ sb
+      ∙ ap₂ (λ i j. rowAt (rowIn c) .syntax * 128 + i * 16 + j / 256) (sym ff) hn in
       let hy : y ≡ sectionLength c % 256 = lead-mod (eqb (rowAt number .syntax) 1) n ∙ ap (λ i. i % 256) hn in
       let hz : getD s 0 0 ≡ tableOf c = ap (λ z. getD z 0 0) si in
       record {
@@ -167,7 +176,8 @@ module _ (s o : List ℕ) (w : Bytes s) (lo : length o < 2 ^ 64) (n number : ℕ
       }
 
   pub written-sealed : (o₄ : List ℕ) → eqb (rowAt number .crc) 1 ≡ true
-      → o₄ ≡ putNumber (putNumber o₃ end (crc (take end o₃) / 65536)) (sum end 2) (crc (take end o₃) % 65536) → SectionWritten s n number o o₄
+      → o₄ ≡ putNumber (putNumber o₃ end (crc (take end o₃) / 65536)) (sum end 2) (crc (take end o₃) % 65536)
+      → SectionWritten s n number o o₄
   unfolding sectionOf seal
   written-sealed o₄ hc h₄ = record {
     written = λ c r hn hr big.
@@ -229,7 +239,8 @@ module _ (s o : List ℕ) (w : Bytes s) (number : ℕ) (o₁ o₂ : List ℕ) (q
         let ql = seal-length c (k .known) in
         let km = k .most in
         let mm = m .most in
-        let cb : (if eqb (rowAt number .crc) 1 then 4 else 0) ≡ 4 * rowAt (rowIn c) .crc = ap (λ i. if eqb (rowAt i .crc) 1 then 4 else 0) hr ∙ crc-bytes (rowAt (rowIn c) .crc) (m .crc-bit) in
+        let cb : (if eqb (rowAt number .crc) 1 then 4 else 0) ≡ 4 * rowAt (rowIn c) .crc =
+        ap (λ i. if eqb (rowAt i .crc) 1 then 4 else 0) hr ∙ crc-bytes (rowAt (rowIn c) .crc) (m .crc-bit) in
         let e-is : 3 + length b ≡ end = omega arith in
         let hd = tableOf c ∷ second c ∷ (sectionLength c % 256) ∷ [] in
         let si : s ≡ hd ++ (b ++ seal c) = sym is ∙ ap (λ z. z ++ seal c) (front-is c) in
@@ -239,11 +250,18 @@ module _ (s o : List ℕ) (w : Bytes s) (number : ℕ) (o₁ o₂ : List ℕ) (q
         let sh = sheet-is c (k .frame-fits) in
         let lsh = ap length sh in
         let p₁ : length o₁ ≡ length o = ap length h₁ ∙ length-put o 0 (getD s 0 0 ∷ []) (omega arith) in
-        let t : BodyBack (rowIn c) s (record { at = 3; to = 1 }) end o₁ q o₂ = subst (λ i. BodyBack i s (record { at = 3; to = 1 }) end o₁ q o₂) hr h₂ in
+        let t : BodyBack (rowIn c) s (record { at = 3; to = 1 }) end o₁ q o₂ =
+        subst (λ i. BodyBack i s (record { at = 3; to = 1 }) end o₁ q o₂) hr h₂ in
         let d = t .turned (bodyOf c) (k .body) part e-is (omega arith) (omega arith) (omega arith) in
         let hz : getD s 0 0 ≡ tableOf c = ap (λ z. getD z 0 0) si in
-        let dw = d .written in
-        (d .room ∙ ap (λ z. put z 1 body) h₁ ∙ put-put o 0 (getD s 0 0 ∷ []) (omega arith) body (omega arith) ∙ ap (λ i. put o 0 (i ∷ body)) hz ∙ ap (put o 0) (sym sh), omega arith);
+        let dw = d .written in (
+          d .room
+              ∙ ap (λ z. put z 1 body) h₁
+              ∙ put-put o 0 (getD s 0 0 ∷ []) (omega arith) body (omega arith)
+              ∙ ap (λ i. put o 0 (i ∷ body)) hz
+              ∙ ap (put o 0) (sym sh),
+          omega arith,
+        );
   }
 
 pub sheet-never : (s o : List ℕ) (number : ℕ) → Bytes s → 6 ≤ number → SheetWritten s number o 0 o
@@ -262,7 +280,8 @@ unfolding turn.toSection
 section-no-room n s h = rw (lt-ltb n 4096 h) refl
 
 -- written where it was accepted, and only there
-pub accepted-written : (x : Bool) (s : List ℕ) → x ≡ true → {row r : ℕ} {o o' : List ℕ} → row ≡ rowOf (getD s 0 0) → SheetWritten s row o r o' → AcceptedWritten x s o r o'
+pub accepted-written : (x : Bool) (s : List ℕ) → x ≡ true → {row r : ℕ} {o o' : List ℕ} → row ≡ rowOf (getD s 0 0)
+    → SheetWritten s row o r o' → AcceptedWritten x s o r o'
 accepted-written x s e {row} {r} {o} {o'} h w =
     record {
       written = λ f. subst (λ k. SheetWritten s k o r o') h w;
@@ -276,7 +295,8 @@ refused-kept x s e =
       kept = λ f. refl;
     }
 
-refused-through : {A B : Type 0} (r : reading.Reading A) (f : A → B) (k : ℕ) → (r >>= λ a. reading.value (f a)) ≡ reading.refused k → r ≡ reading.refused k
+refused-through : {A B : Type 0} (r : reading.Reading A) (f : A → B) (k : ℕ)
+    → (r >>= λ a. reading.value (f a)) ≡ reading.refused k → r ≡ reading.refused k
 refused-through (reading.value a) f k e = absurd (never e)
 refused-through (reading.refused j) f k e = ap reading.refused (refused-is e)
 
@@ -322,7 +342,10 @@ pub sheet-refused : (n : ℕ) (s o : List ℕ) → 5120 ≤ n → verdict.isAcce
 unfolding turn.toSheet
 sheet-refused n s o h e = go (judged s) refl
   where
-    go : (v : verdict.Said) → judged s ≡ v → (toldRefusal (judged s) ≡ turn.answer (if ltb n 5120 then turn.refuses 21 0 else turn.sheetIf (judged s) (turn.sheetFrom (contentOf s))))
+    go : (v : verdict.Said) → judged s ≡ v
+        → (toldRefusal (judged s)
+        ≡ turn.answer (if ltb n 5120 then turn.refuses 21 0 else turn.sheetIf (judged s)
+        (turn.sheetFrom (contentOf s))))
         × (o ≡ turn.roomAfter o (if ltb n 5120 then turn.refuses 21 0 else turn.sheetIf (judged s) (turn.sheetFrom (contentOf s))))
     go verdict.accepted q = absurd (true-not-false (ap verdict.isAccepted (sym q) ∙ e))
     go (verdict.refused k p) q = (rw (le-ltb n 5120 h, q) refl, rw (le-ltb n 5120 h, q) refl)

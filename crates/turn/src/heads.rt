@@ -5,7 +5,6 @@ ghost use Rattle.forms.specs.Inner.Turning.{Turned};
 ghost use Rattle.tables.specs.Tables.{TDT, UNKNOWN};
 ghost use Rattle.sheet.specs.Content.{headOf, entryOf};
 ghost use Rattle.turn.specs.Inner.Ways.{itemsFrom, itemsTo};
-use crate::pieces::filler;
 use crate::pieces::packed;
 use crate::pieces::plain;
 use forms::Place;
@@ -20,7 +19,7 @@ fn ids(forth: bool, row: usize, s: &[u8], p: Place, room: &mut [u8]) -> Place
 {
     if row == SDT {
         let q = plain(s, p, 2, room);
-        return filler(forth, s, q, room);
+        return packed(forth, 0, s, q, room);
     }
     if row == EIT {
         return plain(s, p, 6, room);
@@ -34,7 +33,7 @@ fn common(forth: bool, row: usize, s: &[u8], p: Place, room: &mut [u8]) -> Place
     ensures { λ r. ⌜ Turned (itemsFrom forth (headOf row)) (itemsTo forth (headOf row)) (now (s .entry)) p (now (room .entry)) r (now (room .exit)) ⌝ }
 {
     let version = plain(s, p, 2, room);
-    let numbers = packed(forth, true, s, version, room);
+    let numbers = packed(forth, 32, s, version, room);
     let more = plain(s, numbers, 2, room);
     ids(forth, row, s, more, room)
 }
@@ -54,7 +53,7 @@ pub fn entry_fields(forth: bool, row: usize, s: &[u8], p: Place, room: &mut [u8]
 {
     if row == SDT {
         let q = plain(s, p, 2, room);
-        return packed(forth, false, s, q, room);
+        return packed(forth, 2, s, q, room);
     }
     if row == EIT {
         return plain(s, p, 10, room);

@@ -1,6 +1,5 @@
 -- `turn::to_sheet` meets its contract.
-use mathlib.Core.Path.{_≡_, refl, sym, ap, _∙_}
-use native.Mathlib.Omega.{arith}
+use mathlib.Core.Path.{sym, ap, _∙_}
 use lib.ListN.{length}
 use Rattle.verdict.specs.Verdict.{isAccepted}
 use Rattle.turn.specs.Turn.{wrote, answer, roomAfter}
@@ -12,8 +11,9 @@ use Rattle.turn.proofs.to_sheet.Tie as tie
 
 returns : tie.Need-returns
 returns c =
-    let o = c .before .before .before .args .room .now in
-    let f = sheet-no-room (length o) (c .before .before .before .args .section .now) (c .if1 .taken) in
+    let args = c .before .before .before .args in
+    let o = args .room .now in
+    let f = sheet-no-room (length o) (args .section .now) (c .if1 .taken) in
     (ap answer (sym f), ap (roomAfter o) (sym f))
 
 judge-requires : tie.Need-judge-requires
@@ -30,10 +30,16 @@ same-length c = search needs
 
 returns-2 : tie.Need-returns-2
 returns-2 c =
-    let o = c .before .before .before .before .before .before .before .before .before .before .args .room .now in
-    let a = sym (c .before .before .before .before .before .before .judge .ensures) ∙ accepted-is _ (sym (c .before .before .before .before .before .is-accepted .ensures) ∙ c .if2 .taken) in
-    let m = sheet-made (length o) (c .before .before .before .before .before .before .before .before .before .before .args .section .now) (λ k. c .before .before .before .before .before .before .before .before .before .shared-slice-known .given k .fits) (c .before .before .before .before .before .before .before .if1 .left) a in
-    let x = c .before .before .before .write-accepted .ensures .written (c .if2 .taken) .written (m .content) a (m .reads) (m .row) (c .before .before .before .before .before .before .before .if1 .left) in
+    let write-accepted = c .before .before .before .write-accepted in
+    let p = c .before .before .before .before .before in let is-accepted = p .is-accepted in
+    let judge = p .before .judge in
+    let if1 = p .before .before .if1 in
+    let shared-slice-known = p .before .before .before .before .shared-slice-known in
+    let args = p .before .before .before .before .before .args in
+    let o = args .room .now in
+    let a = sym (judge .ensures) ∙ accepted-is _ (sym (is-accepted .ensures) ∙ c .if2 .taken) in
+    let m = sheet-made (length o) (args .section .now) (λ k. shared-slice-known .given k .fits) (if1 .left) a in
+    let x = write-accepted .ensures .written (c .if2 .taken) .written (m .content) a (m .reads) (m .row) (if1 .left) in
     (ap wrote (x .1) ∙ ap answer (sym (m .gives)), x .0 ∙ ap (roomAfter o) (sym (m .gives)))
 
 same-length-2 : tie.Need-same-length-2
@@ -41,9 +47,17 @@ same-length-2 c = search needs
 
 returns-3 : tie.Need-returns-3
 returns-3 c =
-    let o = c .before .before .before .before .before .before .before .before .before .before .args .room .now in
-    let x = sheet-refused (length o) (c .before .before .before .before .before .before .before .before .before .before .args .section .now) o (c .before .before .before .before .before .before .before .if1 .left) (ap isAccepted (sym (c .before .before .before .before .before .before .judge .ensures)) ∙ sym (c .before .before .before .before .before .is-accepted .ensures) ∙ c .if2 .left) in
-    (ap toldRefusal (c .before .before .before .before .before .before .judge .ensures) ∙ x .0, c .before .before .before .write-accepted .ensures .kept (c .if2 .left) ∙ x .1)
+    let write-accepted = c .before .before .before .write-accepted in
+    let p = c .before .before .before .before .before in let is-accepted = p .is-accepted in
+    let judge = p .before .judge in
+    let if1 = p .before .before .if1 in
+    let args = p .before .before .before .before .before .args in
+    let o = args .room .now in
+    let x = sheet-refused (length o) (args .section .now) o (if1 .left)
+    (ap isAccepted (sym (judge .ensures)) ∙ sym (is-accepted .ensures) ∙ c .if2 .left) in
+    (ap toldRefusal (judge .ensures) ∙ x .0, write-accepted .ensures .kept (c .if2 .left) ∙ x .1)
 
 pub to-sheet-spec : {M : Type 1} → statement M
-to-sheet-spec = tie.close (tie.spec returns judge-requires is-accepted-requires write-accepted-requires same-length returns-2 same-length-2 returns-3)
+to-sheet-spec =
+    tie.close (tie.spec returns judge-requires is-accepted-requires write-accepted-requires same-length returns-2
+    same-length-2 returns-3)

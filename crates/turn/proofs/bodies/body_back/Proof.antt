@@ -1,6 +1,5 @@
 -- `turn::bodies::body_back` meets its contract.
-use mathlib.Core.Path.{_≡_, ap, sym, _∙_}
-use mathlib.Core.Bool.{true, false}
+use mathlib.Core.Path.{ap, sym, _∙_}
 use borrow.Author.Tests.{eq-eqb, ne-eqb}
 use lib.Dec.{eqb}
 use Rattle.tables.specs.Tables.{rowAt}
@@ -26,16 +25,45 @@ same-length : tie.Need-same-length
 same-length c = search needs
 
 returns : tie.Need-returns
-returns c = body-back-none (c .before .before .before .before .before .before .before .before .before .before .before .before .before .args .number) (c .before .before .before .before .before .before .before .before .before .is-one .result) (c .before .before .before .before .before .before .before .before .before .is-one .ensures ∙ ap (λ (r : Row). eqb (r .top) 1) (c .before .before .before .before .before .before .before .before .before .before .row-at .ensures)) (c .before .before .before .before .before .before .before .before .before .before .before .before .before .args .end) (eq-eqb (rowAt (c .before .before .before .before .before .before .before .before .before .before .before .before .before .args .number) .fixed) 0 (ap (λ (r : Row). r .fixed) (sym (c .before .before .before .before .before .before .before .before .before .before .row-at .ensures)) ∙ c .if1 .taken)) (c .before .before .before .before .before .before .before .head .ensures) (c .before .before .before .top-loop .ensures)
+returns c =
+    let top-loop = c .before .before .before .top-loop in
+    let p = c .before .before .before .before .before .before .before in let head = p .head in
+    let is-one = p .before .before .is-one in
+    let row-at = p .before .before .before .row-at in
+    let args = p .before .before .before .before .before .before .args in
+    body-back-none (args .number) (is-one .result)
+    (is-one .ensures ∙ ap (λ (r : Row). eqb (r .top) 1) (row-at .ensures)) (args .end)
+    (eq-eqb (rowAt (args .number) .fixed) 0 (ap (λ (r : Row). r .fixed) (sym (row-at .ensures)) ∙ c .if1 .taken))
+    (head .ensures) (top-loop .ensures)
 
 entries-back-requires : tie.Need-entries-back-requires
-entries-back-requires c κs = record { has = ap (λ (r : Row). r .fixed) (c .before .before .before .before .before .before .before .before .before .before .before .row-at .ensures); known = with-entries (c .before .before .before .before .before .before .before .before .before .before .before .before .before .before .args .number) (c .before .before .before .before .before .before .before .before .before .before .before .before .before .before .pre) (λ e. c .before .if1 .left (ap (λ (r : Row). r .fixed) (c .before .before .before .before .before .before .before .before .before .before .before .row-at .ensures) ∙ e)) }
+entries-back-requires c κs =
+    let p = c .before .before .before .before .before .before .before .before .before .before .before in
+    let row-at = p .row-at in
+    let start = p .before .before .before in let args = start .args in let pre = start .pre in
+    record {
+      has = ap (λ (r : Row). r .fixed) (row-at .ensures);
+      known = with-entries (args .number) pre
+          (λ e. c .before .if1 .left (ap (λ (r : Row). r .fixed) (row-at .ensures) ∙ e));
+    }
 
 same-length-2 : tie.Need-same-length-2
 same-length-2 c = search needs
 
 returns-2 : tie.Need-returns-2
-returns-2 c = body-back (c .before .before .before .before .before .before .before .before .before .before .before .before .before .before .before .before .before .args .number) (c .before .before .before .before .before .before .before .before .before .before .before .before .before .is-one .result) (c .before .before .before .before .before .before .before .before .before .before .before .before .before .is-one .ensures ∙ ap (λ (r : Row). eqb (r .top) 1) (c .before .before .before .before .before .before .before .before .before .before .before .before .before .before .row-at .ensures)) (c .before .before .before .before .before .before .before .before .before .before .before .before .before .before .before .before .before .args .end) (ne-eqb (rowAt (c .before .before .before .before .before .before .before .before .before .before .before .before .before .before .before .before .before .args .number) .fixed) 0 (λ e. c .before .before .before .before .if1 .left (ap (λ (r : Row). r .fixed) (c .before .before .before .before .before .before .before .before .before .before .before .before .before .before .row-at .ensures) ∙ e))) (c .before .before .before .before .before .before .before .before .before .before .before .head .ensures) (c .before .before .before .before .before .before .before .top-loop .ensures) (c .before .before .entries-back .ensures)
+returns-2 c =
+    let if1 = c .before .before .before .before .if1 in
+    let p = c .before .before .before .before .before .before .before in let top-loop = p .top-loop in
+    let head = p .before .before .before .before .head in
+    let p = p .before .before .before .before .before .before in let is-one = p .is-one in
+    let row-at = p .before .row-at in
+    let args = p .before .before .before .before .args in
+    body-back (args .number) (is-one .result) (is-one .ensures ∙ ap (λ (r : Row). eqb (r .top) 1) (row-at .ensures))
+    (args .end)
+    (ne-eqb (rowAt (args .number) .fixed) 0 (λ e. if1 .left (ap (λ (r : Row). r .fixed) (row-at .ensures) ∙ e)))
+    (head .ensures) (top-loop .ensures) (c .before .before .entries-back .ensures)
 
 pub body-back-spec : {M : Type 1} → statement M
-body-back-spec = tie.close (tie.spec row-at-requires is-one-requires head-requires top-loop-requires same-length returns entries-back-requires same-length-2 returns-2)
+body-back-spec =
+    tie.close (tie.spec row-at-requires is-one-requires head-requires top-loop-requires same-length returns
+    entries-back-requires same-length-2 returns-2)

@@ -1,12 +1,12 @@
 -- `turn::counts::descriptors_in` meets its contract.
-use mathlib.Core.Path.{_≡_, sym, ap, ap₂, _∙_}
+use mathlib.Core.Path.{_≡_, ap, _∙_}
 use Prim.Native.Nat.{ℕ, _+_, _-_, _≤_, _<_}
 use native.Mathlib.Omega.{arith}
 use lib.ListN.{length, getD}
 use Rattle.forms.specs.Room.{sum}
 use Rattle.sheet.specs.Sheet.{descriptor}
 use borrow.Author.Needs.{needs}
-use Rattle.turn.proofs.SectionLaws.{descriptor-full}
+use Rattle.contents.proofs.SectionLaws.{descriptor-full}
 use Rattle.turn.proofs.CountLaws.{sum-more, Counting, count-begins, count-on, count-ends, descriptor-size}
 use Rattle.turn.proofs.counts.descriptors_in.Statement.{statement}
 use Rattle.turn.proofs.counts.descriptors_in.Tie as tie
@@ -39,25 +39,45 @@ past-requires : tie.Need-past-requires Inv-loop μ-loop
 past-requires c κs = search needs
 
 add-k : tie.Need-add-k Inv-loop μ-loop
-add-k c = omega (arith, c .before .before .before .before .loop .inv .0, c .before .before .before .loop-test .taken, c .before .before .before .before .before .before .good .0 .0)
+add-k c =
+    let loop-test = c .before .before .before .loop-test in
+    let loop = c .before .before .before .before .loop in
+    let good = c .before .before .before .before .before .before .good in
+    omega (arith, loop .inv .0, loop-test .taken, good .0 .0)
 
 loop-less : tie.Need-loop-less Inv-loop μ-loop
-loop-less c = omega (arith, c .past .ensures, sum-more (c .before .before .before .before .loop .p) _ (length (c .before .before .before .before .before .before .args .bytes .now)) (c .before .before .before .loop-test .taken) (c .before .before .before .before .before .before .good .0 .0) (two (c .before .wide .result)), c .before .before .before .loop-test .taken)
+loop-less c =
+    let loop-test = c .before .before .before .loop-test in
+    let loop = c .before .before .before .before .loop in
+    let p = c .before .before .before .before .before .before in let args = p .args in let good = p .good in
+    omega (
+      arith,
+      c .past .ensures,
+      sum-more (loop .p) _ (length (args .bytes .now)) (loop-test .taken) (good .0 .0)
+          (two (c .before .wide .result)),
+      loop-test .taken,
+    )
 
 loop-again : tie.Need-loop-again Inv-loop μ-loop
 loop-again c =
-    let l = c .before .before .before .before .before .before .args .bytes .now in
-    let q = c .before .before .before .before .loop .p in
-    let m = sum-more q (2 + c .before .wide .result) (length l) (c .before .before .before .loop-test .taken) (c .before .before .before .before .before .before .good .0 .0) (two (c .before .wide .result)) in
+    let loop-test = c .before .before .before .loop-test in
+    let loop = c .before .before .before .before .loop in
+    let p = c .before .before .before .before .before .before in let args = p .args in let good = p .good in
+    let l = args .bytes .now in
+    let q = loop .p in
+    let m = sum-more q (2 + c .before .wide .result) (length l) (loop-test .taken) (good .0 .0) (two (c .before .wide .result)) in
     let e = c .past .ensures in
-    let n : 2 + c .before .wide .result ≡ 2 + getD l (q + 1) 0 = ap (λ x. 2 + x) (c .before .wide .ensures .same ∙ c .before .before .byte-at .ensures) in (
-      omega (arith, c .before .before .before .before .loop .inv .0),
-      count-on descriptor descriptor-full l q (c .before .before .before .before .loop .k) (c .past .result)
-          (λ a r o z. e ∙ ap (sum q) (n ∙ descriptor-size a r l q z)) (c .before .before .before .loop-test .taken) (c .before .before .before .before .before .before .good .0 .0) (c .before .before .before .before .loop .inv .1),
+    let n : 2 + c .before .wide .result ≡ 2 + getD l (q + 1) 0 =
+    ap (λ x. 2 + x) (c .before .wide .ensures .same ∙ c .before .before .byte-at .ensures) in (
+      omega (arith, loop .inv .0),
+      count-on descriptor descriptor-full l q (loop .k) (c .past .result)
+          (λ a r o z. e ∙ ap (sum q) (n ∙ descriptor-size a r l q z)) (loop-test .taken) (good .0 .0) (loop .inv .1),
     )
 
 returns : tie.Need-returns Inv-loop μ-loop
-returns c = count-ends descriptor descriptor-full (c .before .before .before .args .bytes .now) (c .before .loop .p) (c .before .loop .k) (omega arith) (c .before .loop .inv .1)
+returns c =
+    count-ends descriptor descriptor-full (c .before .before .before .args .bytes .now) (c .before .loop .p)
+    (c .before .loop .k) (omega arith) (c .before .loop .inv .1)
 
 pub descriptors-in-spec : {M : Type 1} → statement M
 descriptors-in-spec =

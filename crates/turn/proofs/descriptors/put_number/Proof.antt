@@ -22,7 +22,12 @@ same-length : tie.Need-same-length
 same-length c = search needs
 
 returns : tie.Need-returns
-returns c = cc (c .before .before .put-byte2 .ensures, c .before .before .before .before .before .before .before .put-byte .ensures, c .before .before .before .past .ensures)
+returns c =
+    cc (
+      c .before .before .put-byte2 .ensures,
+      c .before .before .before .before .before .before .before .put-byte .ensures,
+      c .before .before .before .past .ensures,
+    )
 
 pub put-number-spec : {M : Type 1} → statement M
 put-number-spec =

@@ -1,7 +1,6 @@
 -- `turn::entries::entries` meets its contract.
 use mathlib.Core.Path.{_≡_, refl}
-use mathlib.Core.List.{List}
-use Prim.Native.Nat.{ℕ, suc, _-_, _<_}
+use Prim.Native.Nat.{suc, _-_}
 use native.Mathlib.Omega.{arith}
 use lib.ListN.{length}
 use Rattle.turn.proofs.EntriesLaws.{Turning, turning-on, turning-ends}
@@ -29,18 +28,26 @@ loop-less c = omega (arith, c .before .before .before .before .loop-test .taken)
 
 loop-again : tie.Need-loop-again Inv-loop μ-loop
 loop-again c =
-    let t = c .before .before .before .before .loop-test .taken in
-    let e : c .before .before .before .before .before .loop .left ≡ suc (c .before .before .before .before .before .loop .left - 1) = omega arith in
-    (turning-on (c .before .before .before .before .before .before .before .before .args .forth) (c .before .before .before .before .before .before .before .before .args .row) (c .before .before .before .before .before .before .before .before .args .number) (c .before .before .before .before .before .before .before .before .args .s .now) (c .before .before .before .before .before .before .before .before .args .room .now) (c .before .before .before .before .before .before .before .before .args .p) (c .before .before .before .before .before .loop .left) (c .before .before .before .before .before .loop .left - 1) e (c .before .before .entry .ensures) (c .before .before .before .before .before .loop .inv .0), search needs)
+    let loop-test = c .before .before .before .before .loop-test in
+    let p = c .before .before .before .before .before in let loop = p .loop in
+    let args = p .before .before .before .args in
+    let t = loop-test .taken in
+    let e : loop .left ≡ suc (loop .left - 1) = omega arith in (
+      turning-on (args .forth) (args .row) (args .number) (args .s .now) (args .room .now) (args .p) (loop .left)
+          (loop .left - 1) e (c .before .before .entry .ensures) (loop .inv .0),
+      search needs,
+    )
 
 same-length : tie.Need-same-length Inv-loop μ-loop
 same-length c = search needs
 
 returns : tie.Need-returns Inv-loop μ-loop
 returns c =
+    let args = c .before .before .before .before .args in
     let t = c .loop-test .left in
     let e : c .before .loop .left ≡ 0 = omega arith in
-    turning-ends (c .before .before .before .before .args .forth) (c .before .before .before .before .args .row) (c .before .before .before .before .args .number) (c .before .before .before .before .args .s .now) (c .before .before .before .before .args .room .now) (c .before .before .before .before .args .p) (c .before .loop .left) e (c .before .loop .inv .0)
+    turning-ends (args .forth) (args .row) (args .number) (args .s .now) (args .room .now) (args .p)
+    (c .before .loop .left) e (c .before .loop .inv .0)
 
 pub entries-spec : {M : Type 1} → statement M
 entries-spec = tie.close (tie.spec Inv-loop μ-loop loop-holds entry-requires sub-left loop-less loop-again same-length returns)

@@ -2,6 +2,7 @@
 use mathlib.Core.List.{[], _∷_}
 use Rattle.tables.proofs.RowLaws.{numbered-below, unnumbered-from}
 use Rattle.sheet.specs.Content.{plain, flags}
+use Rattle.turn.specs.Inner.Fields.{flagged}
 use Rattle.turn.proofs.HeadLaws.{sdt-entry, eit-entry, nit-entry, no-entry, no-items, an-item, last-item, plain-item, as-items}
 use borrow.Author.Needs.{needs}
 use Rattle.turn.proofs.heads.entry_fields.Statement.{statement}
@@ -17,7 +18,13 @@ same-length : tie.Need-same-length
 same-length c = search needs
 
 returns : tie.Need-returns
-returns c = as-items (c .before .before .before .before .before .before .before .before .before .before .before .args .forth) (sdt-entry (c .before .before .before .before .before .before .before .before .before .before .before .args .row) (c .before .before .before .before .before .before .before .before .if1 .taken)) (an-item (c .before .before .before .before .before .before .before .before .before .before .before .args .forth) (plain 2) (flags ∷ []) (plain-item (c .before .before .before .before .before .before .before .before .before .before .before .args .forth) 2 (c .before .before .before .before .before .before .plain .ensures)) (last-item (c .before .before .before .before .before .before .before .before .before .before .before .args .forth) flags (c .before .before .packed .ensures)))
+returns c =
+    let p = c .before .before .before .before .before .before in let the-plain = p .plain in
+    let if1 = p .before .before .if1 in
+    let args = p .before .before .before .before .before .args in
+    as-items (args .forth) (sdt-entry (args .row) (if1 .taken))
+    (an-item (args .forth) (plain 2) (flags ∷ []) (plain-item (args .forth) 2 (the-plain .ensures))
+    (last-item (args .forth) flags (c .before .before .packed .ensures .turned flagged)))
 
 plain-requires-2 : tie.Need-plain-requires-2
 plain-requires-2 c κs = search needs
@@ -26,7 +33,11 @@ same-length-2 : tie.Need-same-length-2
 same-length-2 c = search needs
 
 returns-2 : tie.Need-returns-2
-returns-2 c = as-items (c .before .before .before .before .before .before .before .before .args .forth) (eit-entry (c .before .before .before .before .before .before .before .before .args .row) (c .before .before .before .before .if2 .taken)) (last-item (c .before .before .before .before .before .before .before .before .args .forth) (plain 10) (plain-item (c .before .before .before .before .before .before .before .before .args .forth) 10 (c .before .before .plain2 .ensures)))
+returns-2 c =
+    let if2 = c .before .before .before .before .if2 in
+    let args = c .before .before .before .before .before .before .before .before .args in
+    as-items (args .forth) (eit-entry (args .row) (if2 .taken))
+    (last-item (args .forth) (plain 10) (plain-item (args .forth) 10 (c .before .before .plain2 .ensures)))
 
 is-numbered-requires : tie.Need-is-numbered-requires
 is-numbered-requires c κs = search needs

@@ -1,5 +1,4 @@
 -- `turn::whole::seal` meets its contract.
-use mathlib.Core.Path.{_≡_, refl, sym, ap, ap₂, _∙_}
 use borrow.Author.Needs.{needs}
 use Rattle.turn.proofs.whole.seal.Statement.{statement}
 use Rattle.turn.proofs.whole.seal.Tie as tie
@@ -26,7 +25,14 @@ same-length : tie.Need-same-length
 same-length c = search needs
 
 returns : tie.Need-returns
-returns c = cc (c .before .before .put-number2 .ensures, c .before .before .before .before .before .before .before .put-number .ensures, c .before .before .before .past .ensures, c .before .before .before .before .before .before .before .before .before .crc32 .ensures, c .before .before .before .before .before .before .before .before .before .before .part .ensures)
+returns c =
+    let past = c .before .before .before .past in
+    let p = c .before .before .before .before .before .before .before in let put-number = p .put-number in
+    let crc32 = p .before .before .crc32 in
+    let part = p .before .before .before .part in
+    cc (c .before .before .put-number2 .ensures, put-number .ensures, past .ensures, crc32 .ensures, part .ensures)
 
 pub seal-spec : {M : Type 1} → statement M
-seal-spec = tie.close (tie.spec part-requires crc32-requires cast-register put-number-requires past-requires put-number-requires-2 same-length returns)
+seal-spec =
+    tie.close (tie.spec part-requires crc32-requires cast-register put-number-requires past-requires
+    put-number-requires-2 same-length returns)

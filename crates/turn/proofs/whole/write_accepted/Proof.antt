@@ -19,10 +19,18 @@ same-length : tie.Need-same-length
 same-length c = search needs
 
 returns : tie.Need-returns
-returns c = accepted-written (c .before .before .before .before .before .before .before .before .before .args .accepted) (c .before .before .before .before .before .before .before .before .before .args .section .now) (c .before .before .before .before .before .before .if1 .taken) (c .before .before .before .before .row-of .ensures ∙ ap rowOf (c .before .before .before .before .before .byte-at .ensures)) (c .before .before .write-sheet .ensures)
+returns c =
+    let row-of = c .before .before .before .before .row-of in
+    let p = c .before .before .before .before .before in let byte-at = p .byte-at in
+    let if1 = p .before .if1 in
+    let args = p .before .before .before .before .args in
+    accepted-written (args .accepted) (args .section .now) (if1 .taken) (row-of .ensures ∙ ap rowOf (byte-at .ensures))
+    (c .before .before .write-sheet .ensures)
 
 returns-2 : tie.Need-returns-2
-returns-2 c = refused-kept (c .before .before .before .args .accepted) (c .before .before .before .args .section .now) (c .if1 .left)
+returns-2 c =
+    let args = c .before .before .before .args in
+    refused-kept (args .accepted) (args .section .now) (c .if1 .left)
 
 pub write-accepted-spec : {M : Type 1} → statement M
 write-accepted-spec = tie.close (tie.spec byte-at-requires row-of-requires write-sheet-requires same-length returns returns-2)

@@ -1,0 +1,9 @@
+pub mod SectionLaws
+pub mod Held
+pub mod Accepted
+pub mod Contained
+pub mod AllOnes
+pub mod SheetSize
+pub mod MadeOnes
+pub mod AnyReserved
+pub mod ReadBack
