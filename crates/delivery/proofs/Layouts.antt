@@ -1,4 +1,5 @@
--- A delivery system is read exactly if the bytes are its tag, its length and a body whose fields, in the order of the table, have its values.
+-- A delivery system is read exactly if the bytes are its tag, its length and a body whose fields, in the order of the
+-- table, have its values.
 use Prim.Native.Nat.{ℕ, _*_}
 use mathlib.Core.Path.{_≡_, refl, sym, ap, _∙_, subst}
 use mathlib.Core.Logic.{_↔_}

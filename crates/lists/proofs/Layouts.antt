@@ -1,4 +1,5 @@
--- An item is read exactly if the bytes are the tag, the length and items, and the fields of that item, in the order of the table, have its values.
+-- An item is read exactly if the bytes are the tag, the length and items, and the fields of that item, in the order of
+-- the table, have its values.
 use Prim.Native.Nat.{ℕ, _*_, _<_}
 use mathlib.Core.Path.{_≡_, refl, sym, ap, _∙_, subst}
 use mathlib.Core.Logic.{_↔_}

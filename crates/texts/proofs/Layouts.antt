@@ -6,7 +6,7 @@ use mathlib.Core.List.{List, [], _∷_}
 use native.Mathlib.Omega.{arith}
 use lib.ListN.{length, getD}
 use Rattle.wire.specs.Bytes.{Bytes}
-use Rattle.wire.specs.Reading.{value, _>>=_}
+use Rattle.wire.specs.Reading.{value}
 use Rattle.wire.specs.Number.{numberAt}
 use Rattle.wire.proofs.NumberLaws.{number-in-front}
 use Rattle.wire.proofs.ReadingLaws.{value-is, through}

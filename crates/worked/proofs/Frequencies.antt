@@ -70,11 +70,13 @@ satellite-first b =
 
 -- four bytes that are eight digits, whatever follows them; and one descriptor that has them is read
 module _ (f : List ℕ) (n : ℕ) (digits : (l : List ℕ) → digitsAt (f ++ l) 0 8 ≡ value n) where
-  pub cable-holds : (cable (0x44 ∷ 11 ∷ (f ++ zeros)) >>= λ c. value (c .frequency)) ≡ value (record { 0 = n }) → holds (cableSteps f (record { 0 = n }))
+  pub cable-holds : (cable (0x44 ∷ 11 ∷ (f ++ zeros)) >>= λ c. value (c .frequency)) ≡ value (record { 0 = n })
+      → holds (cableSteps f (record { 0 = n }))
   unfolding cable
   cable-holds e =
       record {
-        always = λ l a q. ap (λ k. record { 0 = k }) (by-digits (λ c. c .frequency .0) 0x44 cableFields cable-first (f ++ l) n (digits l) a q);
+        always = λ l a q. ap (λ k. record { 0 = k })
+            (by-digits (λ c. c .frequency .0) 0x44 cableFields cable-first (f ++ l) n (digits l) a q);
         once = e;
       }
 
@@ -83,6 +85,7 @@ module _ (f : List ℕ) (n : ℕ) (digits : (l : List ℕ) → digitsAt (f ++ l)
   unfolding satellite
   satellite-holds e =
       record {
-        always = λ l a q. ap (λ k. record { 0 = k }) (by-digits (λ c. c .frequency .0) 0x43 satelliteFields satellite-first (f ++ l) n (digits l) a q);
+        always = λ l a q. ap (λ k. record { 0 = k })
+            (by-digits (λ c. c .frequency .0) 0x43 satelliteFields satellite-first (f ++ l) n (digits l) a q);
         once = e;
       }
