@@ -1,3 +1,4 @@
 -- Laws of copies.
 pub mod Blocks
 pub mod Copies
+pub mod LaidLaws

@@ -1,2 +1,3 @@
 -- What a copy of bytes leaves.
 pub mod Copy
+pub mod Laid
