@@ -8,14 +8,15 @@ use native.Mathlib.Omega.{arith}
 use lib.Dec.{ltb, eqb}
 use lib.ListN.{length, take, drop, length-append, length-drop}
 use borrow.Author.Tests.{le-ltb}
-use Rattle.packet.specs.Sections.{totalOf}
+use Rattle.wire.specs.Sections.{totalOf}
+use Rattle.copy.specs.Laid.{over}
 use Rattle.packet.specs.Ruling.{Before, Carried, ruledBy, Ruling, ruling}
 use Rattle.collector.specs.Rules.{holding, plain, storyAfter, delivers}
 use Rattle.packet.specs.Refusals.{_when_, refusals, firstOf, judgedBy, judged}
 use Rattle.collector.specs.Refusals.{cannotStand, beforeOf, tooSmall}
 use Rattle.packet.specs.Ruling as Ruled
 use Rattle.collector.specs.Answer.{Told, refused, repeated, taken, Outcome}
-use Rattle.collector.specs.Collected.{over, outcomeOf, collected, deliveredOf}
+use Rattle.collector.specs.Collected.{outcomeOf, collected, deliveredOf}
 use Rattle.collector.specs.declared.Record.{Record}
 use Rattle.history.specs.Run.{Promised, Call, Run, no-call, one-call, Fare, fareOf, ruledFare, lentOf, beforeAfter, ruledIn, rulingOn, faresFrom, ruledTaken, cut, handedBy, handed}
 use Rattle.account.specs.Entered.{Kept, tallied, entered, enteredAll}

@@ -9,7 +9,7 @@ use lib.ListN.{length, take, drop, getD, length-append, length-take, List·getD-
 use lib.Seq.{split-at, take-suc}
 use lib.Dec.{ltb}
 use borrow.Author.Tests.{ltb-true, ltb-false, lt-ltb, le-ltb, eq-eqb, ne-eqb}
-use Rattle.packet.specs.Sections.{totalOf}
+use Rattle.wire.specs.Sections.{totalOf}
 use Rattle.collector.specs.Rules.{Kind, Fate, broken, done, in-hand, Mark, Story, handOf, marked, given, settled, brokenOff, finished, Mode, inside, outside, breaking, Next, Size, going, whole, too-long, sizeOf, grown, plain, byteIn, stretch}
 use Rattle.collector.proofs.MarkLaws.{bytesOf-more, marked-append, settled-append, settled-marked}
 

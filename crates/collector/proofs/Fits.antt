@@ -8,7 +8,7 @@ use lib.ListN.{length, take, drop, getD, length-drop, take-append-drop}
 use lib.Seq.{length-take-le}
 use lib.Dec.{ltb, leb, eqb}
 use borrow.Author.Tests.{ltb-false, leb-false, eqb-true, eqb-false, not-false, le-leb, ne-eqb}
-use Rattle.packet.specs.Sections.{totalOf, Unfinished}
+use Rattle.wire.specs.Sections.{totalOf, Unfinished}
 use Rattle.packet.specs.Header.{startFlag, control, adaptation, payloadFrom, payloadOf, pointerOf}
 use Rattle.packet.specs.Refusals.{has-payload, judged}
 use Rattle.packet.proofs.Table.{or-false, and-false, payload-of, payload-in}

@@ -5,8 +5,8 @@ use mathlib.Core.List.{List, [], _∷_, _++_, append-assoc, append-nil, map}
 use Prim.Native.Nat.{ℕ}
 use lib.ListN.{take, drop, take-append-drop}
 use lib.Dec.{eqb}
-use Rattle.packet.specs.Each.{Each}
-use Rattle.packet.proofs.EachLaws.{each-take, each-drop}
+use Rattle.wire.specs.Each.{Each}
+use Rattle.wire.proofs.EachLaws.{each-take, each-drop}
 use Rattle.packet.specs.Ruling.{Before, follows, Carried}
 use Rattle.collector.specs.Rules.{Kind, Fate, pointer, filler, done, in-hand, Story, sameKind, sameFate, handOf, given, brokenOff, finished, Rest, kindOf, Mode, begin, inside, outside, filling, skipping, breaking, Next, Size, going, whole, too-long, sizeOf, begun, grown, resumed, joined, byteIn, stretch, goesOn, sectionsIn, payload, storyAfter}
 

@@ -3,7 +3,6 @@ pub mod Counters
 pub mod MarkLaws
 pub mod ByteRuns
 pub mod HoldThenPacket
-pub mod Rooms
 pub mod SectionLoop
 pub mod StretchInHand
 pub mod Simulation

@@ -7,10 +7,11 @@ use native.Mathlib.Nat.{zero-add, add-zero}
 use native.Mathlib.Omega.{arith}
 use lib.ListN.{length, take, drop, length-append}
 use Rattle.wire.specs.If.{if_then_else_}
+use Rattle.copy.specs.Laid.{over}
 use Rattle.collector.specs.Rules.{Kind, pointer, delivered, broken, Fate, in-hand, done, Story, sameFate, bytesOf, countOf, handOf, marked, given, brokenOff, holding, joined, plain, goesOn, payload, delivers}
 use Rattle.collector.specs.Answer as Answer
 use Rattle.collector.specs.Answer.{came}
-use Rattle.collector.specs.Collected.{bytesCounted, recordWith, recordAfter, over, deliveredOf, outcomeAfter}
+use Rattle.collector.specs.Collected.{bytesCounted, recordWith, recordAfter, deliveredOf, outcomeAfter}
 use Rattle.collector.specs.Inner.Payload.{Fit}
 use Rattle.collector.specs.Inner.Stretch.{Ends, Small, pointCount, addedBy}
 use Rattle.collector.specs.Inner.Taking.{keptOf, countedOf}

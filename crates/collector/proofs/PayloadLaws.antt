@@ -9,17 +9,17 @@ use native.Mathlib.Omega.{arith}
 use lib.ListN.{length, take, drop, getD, length-append, length-drop}
 use lib.Seq.{take-all, take-append-seam, drop-append-add, drop-drop, drop-cons}
 use Rattle.wire.specs.If.{if_then_else_}
-use Rattle.packet.specs.Each.{Each}
-use Rattle.packet.proofs.EachLaws.{each-of}
+use Rattle.wire.specs.Each.{Each}
+use Rattle.wire.proofs.EachLaws.{each-of}
+use Rattle.copy.specs.Laid.{over}
 use Rattle.collector.specs.Rules.{Kind, delivered, Fate, pointer, broken, done, in-hand, Story, sameFate, bytesOf, countOf, handOf, marked, given, brokenOff, holding, joined, plain, goesOn, sectionsIn, started, payload, delivers}
-use Rattle.collector.specs.Collected.{over}
 use Rattle.collector.specs.Inner.Stretch.{gainOf, Ends, Small, bothOf}
 use Rattle.collector.specs.Inner.Payload.{Fit, frontOf}
 use Rattle.collector.specs.declared.stretch.Gain.{Gain}
 use Rattle.collector.specs.declared.payload.Front.{Front}
 use Rattle.collector.proofs.Counters.{gain-with, one-of, small-by}
 use Rattle.collector.proofs.MarkLaws.{flatten-append, bytesOf-more, settled-hand}
-use Rattle.collector.proofs.Rooms.{ends-as}
+use Rattle.collector.proofs.SectionLoop.{ends-as}
 use Rattle.collector.proofs.Simulation.{Beside, beside-broken, beside-goes, beside-sections}
 use Rattle.collector.proofs.Invariants.{keep-goes, keep-sections}
 use Rattle.collector.proofs.StoryLaws.{Any, Kept, keeps-kept, kept-holding, counts-in, delivered-in, few-in}

@@ -10,9 +10,10 @@ use lib.Seq.{paste, length-paste, drop-drop, drop-cons, length-take-le, take-all
 use lib.Dec.{eqb}
 use borrow.Author.Tests.{eq-eqb, ne-eqb}
 use Rattle.wire.specs.If.{if_then_else_}
-use Rattle.packet.specs.Sections.{totalOf}
+use Rattle.wire.specs.Sections.{totalOf}
+use Rattle.copy.specs.Laid.{over, laid}
+use Rattle.copy.proofs.LaidLaws.{laid-none, laid-more}
 use Rattle.collector.specs.Rules.{Fate, delivered, broken, filler, done, in-hand, Mark, Story, sameFate, bytesOf, handOf, marked, given, settled, brokenOff, finished, holding, begin, inside, outside, filling, Next, begun, plain, stretch, sectionsIn, delivers}
-use Rattle.collector.specs.Collected.{over}
 use Rattle.collector.specs.Inner.Stretch.{LookSays, gainWith, Ends}
 use Rattle.collector.specs.declared.stretch.Look.{Look}
 use Rattle.collector.specs.declared.stretch.Look.the-variants.{Going, Over, Whole}
@@ -20,7 +21,10 @@ use Rattle.collector.specs.declared.stretch.Gain.{Gain}
 use Rattle.collector.proofs.Counters.{gain-with}
 use Rattle.collector.proofs.MarkLaws.{flatten-snoc, bytesOf-more, bytesOf-marked, marked-append, settled-append, settled-marked}
 use Rattle.collector.proofs.ByteRuns.{place, all, all-none, hand-all, pass, grow-short, grow-going, law-over, law-whole}
-use Rattle.collector.proofs.Rooms.{laid, laid-none, laid-more, ends-as}
+
+-- an answer says of a story what it says of an equal one
+pub ends-as : {s : Story ℕ} {hold out : List ℕ} {at : ℕ} {hold′ out′ : List ℕ} {r : Gain} (s′ : Story ℕ) → s ≡ s′ → Ends s′ hold out at hold′ out′ r → Ends s hold out at hold′ out′ r
+ends-as {s} {hold} {out} {at} {hold′} {out′} {r} s′ e h = subst (λ (x : Story ℕ). Ends x hold out at hold′ out′ r) (sym e) h
 
 -- ---- the story of a stretch of which only whole sections have come, with bytes of one more fate after them
 

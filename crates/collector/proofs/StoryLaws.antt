@@ -10,9 +10,9 @@ use lib.Dec.{ltb, eqb}
 use borrow.Author.Tests.{ltb-false, eqb-true, eq-eqb}
 use Rattle.wire.specs.If.{if_then_else_}
 use Rattle.wire.proofs.IfLaws.{if-case}
-use Rattle.packet.specs.Each.{Each}
-use Rattle.packet.specs.Sections.{totalOf, WholeSection}
-use Rattle.packet.proofs.EachLaws.{each-append}
+use Rattle.wire.specs.Each.{Each}
+use Rattle.wire.specs.Sections.{totalOf, WholeSection}
+use Rattle.wire.proofs.EachLaws.{each-append}
 use Rattle.collector.specs.Rules.{Kind, pointer, delivered, broken, Fate, in-hand, done, kinds, sumIn, sumOf, Mark, Story, kindNumber, sameKind, sameFate, outOfHand, bytesOf, countOf, handOf, marked, given, settled, brokenOff, finished, holding, Rest, filling, skipping, breaking, kindOf, going, whole, too-long, sizeOf, plain, sectionsOf, delivers}
 use Rattle.collector.proofs.Counters.{times, once}
 use Rattle.collector.proofs.MarkLaws.{flatten-snoc, if-cons, bytesOf-more, bytesOf-marked, settled-append, settled-marked, settled-bytes, settled-other, settled-alike, settled-hand, settled-twice}

@@ -8,9 +8,10 @@ use native.Mathlib.Omega.{arith}
 use lib.ListN.{length, take, drop, length-drop}
 use lib.Seq.{paste, length-take-le, take-append-add, take-take}
 use Rattle.wire.specs.If.{if_then_else_}
-use Rattle.packet.specs.Sections.{totalOf, Unfinished}
+use Rattle.wire.specs.Sections.{totalOf, Unfinished}
+use Rattle.copy.specs.Laid.{over, laid}
+use Rattle.copy.proofs.LaidLaws.{laid-none, laid-more}
 use Rattle.collector.specs.Rules.{Fate, delivered, broken, filler, done, in-hand, Mark, Story, sameFate, outOfHand, handOf, marked, settled, brokenOff, finished, holding, kindOf, Mode, inside, outside, filling, skipping, Next, joined, resumed, plain, stretch, goesOn, delivers}
-use Rattle.collector.specs.Collected.{over}
 use Rattle.collector.specs.Inner.Stretch.{LookSays, Ends}
 use Rattle.collector.specs.declared.stretch.Look.{Look}
 use Rattle.collector.specs.declared.stretch.Look.the-variants.{Going, Over, Whole}
@@ -18,8 +19,7 @@ use Rattle.collector.specs.declared.stretch.Gain.{Gain}
 use Rattle.collector.proofs.MarkLaws.{flatten-one, settled-append, settled-marked}
 use Rattle.collector.proofs.ByteRuns.{place, all, all-append, lt-or-ge, total-prefix, pass, grow-short, grow-going, law-over, law-whole}
 use Rattle.collector.proofs.HoldThenPacket.{seam-length}
-use Rattle.collector.proofs.Rooms.{laid, laid-none, laid-more, ends-as}
-use Rattle.collector.proofs.SectionLoop.{answerOf, made, made-more, made-broken, rest-of, ends-made}
+use Rattle.collector.proofs.SectionLoop.{ends-as, answerOf, made, made-more, made-broken, rest-of, ends-made}
 
 -- ---- the story of a stretch that begins with bytes in hand
 

@@ -1,7 +1,8 @@
 -- What one call of the collector comes to, for every record, hold, out room and packet.
-use mathlib.Core.List.{List, _++_, flatten}
+use mathlib.Core.List.{List, flatten}
 use Prim.Native.Nat.{ℕ, _+_, _%_, _^_}
-use lib.ListN.{length, take, drop}
+use lib.ListN.{length, take}
+use Rattle.copy.specs.Laid.{over}
 use Rattle.collector.specs.Rules.{Kind, pointer, delivered, broken, filler, skipped, Fate, in-hand, done, Story, countOf, handOf, holding, plain, storyAfter, sectionsOf, delivers}
 use Rattle.packet.specs.Ruling.{Ruling, refused, repeated, bare, takes, ruling}
 use Rattle.collector.specs.Refusals.{beforeOf, cannotStand, tooSmall}
@@ -47,15 +48,12 @@ recordAfter r counter s =
     recordWith (r .pid) (Counter counter) (length (handOf s))
     (λ k. (bytesCounted (done k) r + countOf (done k) (s .marks)) % 2 ^ 32)
 
--- bytes at a room's start; "Bytes of either beyond that stay."
-abbrev pub over : List ℕ → List ℕ → List ℕ
-over bytes room = bytes ++ drop (length bytes) room
-
 -- the sections that are delivered
 abbrev pub deliveredOf : Story ℕ → List (List ℕ)
 deliveredOf s = sectionsOf delivers plain delivered (s .sections)
 
--- "Out gets the finished sections end to end, the answer their number and bytes. Hold begins with the bytes in hand."
+-- "Out gets the finished sections end to end, the answer their number and bytes. Hold begins with the bytes in hand. Bytes of either beyond that
+-- stay."
 abbrev pub outcomeAfter : Record → List ℕ → List ℕ → ℕ → Story ℕ → Outcome
 outcomeAfter r hold out counter s = record {
   rec = recordAfter r counter s;

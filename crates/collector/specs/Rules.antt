@@ -7,7 +7,7 @@ use Prim.Native.Nat.{ℕ, _+_}
 use lib.ListN.{length, take, drop}
 use lib.Dec.{ltb, eqb}
 use Rattle.wire.specs.If.{if_then_else_}
-use Rattle.packet.specs.Sections.{totalOf}
+use Rattle.wire.specs.Sections.{totalOf}
 use Rattle.packet.specs.Ruling.{Before, follows, Carried}
 
 -- "one fate ..: pointer, delivered, broken off, filler, skipped, or in hand": of what kind a byte is once it is done with

@@ -5,7 +5,7 @@ ghost use mathlib.Core.List.{[], _++_};
 ghost use Prim.Native.Nat.{_+_, _-_, _≤_, _<_};
 ghost use lib.ListN.{length, take, drop, getD};
 ghost use Rattle.wire.specs.Bytes.{len12};
-ghost use Rattle.packet.specs.Sections.{Unfinished};
+ghost use Rattle.wire.specs.Sections.{Unfinished};
 ghost use Rattle.collector.specs.Rules.{holding, joined, goesOn, sectionsIn, plain, delivers};
 ghost use Rattle.collector.specs.Inner.Stretch.{LookSays, Ends, Small, bothOf};
 

@@ -3,3 +3,4 @@ pub mod Blocks
 pub mod Copies
 pub mod Moved
 pub mod Moves
+pub mod LaidLaws

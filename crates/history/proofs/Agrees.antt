@@ -11,8 +11,9 @@ use lib.Seq.{take-append-seam, drop-append-seam}
 use lib.Dec.{ltb}
 use borrow.Author.Tests.{ltb-false}
 use Rattle.wire.specs.If.{if_then_else_}
-use Rattle.packet.specs.Each.{Each}
-use Rattle.packet.specs.Sections.{totalOf, WholeSection}
+use Rattle.wire.specs.Each.{Each}
+use Rattle.wire.specs.Sections.{totalOf, WholeSection}
+use Rattle.copy.specs.Laid.{over}
 use Rattle.packet.specs.Ruling.{Before, Carried, repeats, Ruling, repeated, takes, loadOf, ruledBy, ruling}
 use Rattle.collector.specs.Rules.{Fate, in-hand, done, Story, sameFate, countOf, handOf, marked, holding, plain, storyAfter, delivered, sectionsOf, delivers}
 use Rattle.packet.specs.Refusals.{Judged, refuse, has-payload, judged}
@@ -20,7 +21,7 @@ use Rattle.collector.specs.Refusals.{beforeOf, cannotStand, tooSmall}
 use Rattle.packet.specs.Refusals as Refusals
 use Rattle.packet.specs.Ruling as Ruled
 use Rattle.collector.specs.Answer.{Outcome}
-use Rattle.collector.specs.Collected.{bytesCounted, freshRecord, recordAfter, over, outcomeAfter, outcomeOf, deliveredOf}
+use Rattle.collector.specs.Collected.{bytesCounted, freshRecord, recordAfter, outcomeAfter, outcomeOf, deliveredOf}
 use Rattle.collector.specs.declared.Record.{Record}
 use Rattle.collector.specs.declared.Last.the-variants.{None, Counter}
 use Rattle.collector.proofs.Counters.{counts-with}

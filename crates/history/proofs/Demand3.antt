@@ -10,7 +10,7 @@ use lib.Dec.{ltb}
 use borrow.Author.Tests.{le-ltb}
 use Rattle.wire.specs.If.{if_then_else_}
 use Rattle.wire.proofs.IfLaws.{true-not-false}
-use Rattle.packet.specs.Each.{Each}
+use Rattle.wire.specs.Each.{Each}
 use Rattle.packet.specs.Ruling.{Before, noneBefore, Carried}
 use Rattle.collector.specs.Refusals.{tooSmall}
 use Rattle.collector.specs.Rules.{Kind, delivered, Fate, done, kinds, sumIn, sumOf, Mark, Story, sameFate, bytesOf, countOf, delivers}
@@ -18,7 +18,7 @@ use Rattle.packet.specs.Refusals.{_when_, refusals}
 use Rattle.collector.specs.Answer.{refused}
 use Rattle.collector.specs.Collected.{bytesCounted, freshRecord}
 use Rattle.collector.specs.declared.Record.{Record}
-use Rattle.packet.proofs.EachLaws.{each-of}
+use Rattle.wire.proofs.EachLaws.{each-of}
 use Rattle.collector.proofs.Invariants.{keep-taken}
 use Rattle.collector.proofs.StoryLaws.{Any, Kept, keeps-kept, points-kept, kept-holding, counts-in, sections-each, delivered-by-end}
 use Rattle.history.specs.History.{Byte, valueOf, numbered, History, unbegun, numberedIn, historyAfter, historyFrom, historyOf, payloadsFrom, Unbroken, Among, none-left, left-out, had}

@@ -11,7 +11,7 @@ use native.Mathlib.Omega.{arith}
 use lib.Dec.{ltb, eqb}
 use borrow.Author.Tests.{eqb-true, eqb-false}
 use Rattle.wire.specs.If.{if_then_else_}
-use Rattle.packet.specs.Each.{Each}
+use Rattle.wire.specs.Each.{Each}
 use Rattle.packet.specs.Header.{startFlag, control, counterOf, payloadFrom}
 use Rattle.packet.specs.Ruling.{Before, Carried, repeats, Ruling, takes, loadOf, ruledBy, ruling}
 use Rattle.packet.specs.Refusals.{Row, refusals, firstOf, has-payload, judgedBy, judged}

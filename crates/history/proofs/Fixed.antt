@@ -8,14 +8,15 @@ use native.Mathlib.Omega.{arith}
 use lib.ListN.{length, take, drop, take-append-drop}
 use lib.Seq.{drop-append-seam}
 use lib.Dec.{ltb}
-use Rattle.packet.specs.Each.{Each}
-use Rattle.packet.specs.Sections.{totalOf}
+use Rattle.wire.specs.Each.{Each}
+use Rattle.wire.specs.Sections.{totalOf}
+use Rattle.copy.specs.Laid.{over}
 use Rattle.packet.specs.Ruling.{Before, noneBefore, Ruling, takes, ruling}
 use Rattle.collector.specs.Rules.{in-hand, done, Story, countOf, handOf, holding, plain, storyAfter, delivers}
 use Rattle.collector.specs.Refusals.{lastOf, beforeOf, cannotStand, tooSmall}
 use Rattle.packet.specs.Ruling as Ruled
 use Rattle.collector.specs.Answer.{Told, refused, repeated, taken, Outcome}
-use Rattle.collector.specs.Collected.{recordWith, freshRecord, over, outcomeOf, collected, deliveredOf}
+use Rattle.collector.specs.Collected.{recordWith, freshRecord, outcomeOf, collected, deliveredOf}
 use Rattle.collector.specs.declared.Record.{Record}
 use Rattle.collector.specs.declared.Last.{Last}
 use Rattle.collector.specs.declared.Last.the-variants.{None, Counter}

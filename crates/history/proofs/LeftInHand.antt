@@ -10,7 +10,7 @@ use lib.ListN.{length, take, drop, getD, length-append, List·getD-append}
 use lib.Dec.{ltb, leb, eqb}
 use borrow.Author.Tests.{ltb-true, ltb-false, leb-true, eqb-false, lt-ltb, le-ltb, lt-leb, ne-eqb}
 use Rattle.wire.specs.If.{if_then_else_}
-use Rattle.packet.specs.Sections.{totalOf, Unfinished}
+use Rattle.wire.specs.Sections.{totalOf, Unfinished}
 use Rattle.packet.specs.Ruling.{Before, follows, Carried}
 use Rattle.collector.specs.Rules.{Kind, Fate, pointer, broken, filler, done, in-hand, Story, sameFate, handOf, given, brokenOff, finished, holding, kindOf, Mode, begin, inside, outside, filling, Next, Size, going, whole, too-long, sizeOf, plain, begun, grown, resumed, joined, byteIn, stretch, goesOn, sectionsIn, payload, storyAfter}
 use Rattle.collector.specs.Refusals.{isNone, counterPast, heldUnfit, cannotStand}

@@ -11,12 +11,12 @@ use lib.ListN.{length, getD, length-append}
 use lib.Seq.{getD-at}
 use borrow.Author.Tests.{eqb-true}
 use Rattle.wire.specs.If.{if_then_else_}
-use Rattle.packet.specs.Each.{Each}
+use Rattle.wire.specs.Each.{Each}
 use Rattle.packet.specs.Ruling.{Before, nextTo, follows, Carried}
 use Rattle.collector.specs.Rules.{Kind, Fate, pointer, broken, done, in-hand, Story, sameFate, handOf, given, settled, joined}
 use Rattle.collector.proofs.MarkLaws.{bytesOf-more, settled-hand}
 use Rattle.collector.proofs.ByteRuns.{lt-or-ge}
-use Rattle.packet.proofs.EachLaws.{each-append, each-map}
+use Rattle.wire.proofs.EachLaws.{each-append, each-map}
 use Rattle.collector.proofs.Invariants.{Keeps, keep-payload}
 use Rattle.history.specs.History.{Byte, valueOf, numbered, History, unbegun, historyAfter, historyFrom, historyOf, counterAt, BreakAfter, Spans, Unbroken}
 

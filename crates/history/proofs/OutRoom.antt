@@ -7,9 +7,9 @@ use native.Mathlib.Omega.{arith}
 use lib.ListN.{length, take, drop, replicate, length-append, length-take, length-drop}
 use lib.Dec.{eqb}
 use Rattle.wire.specs.If.{if_then_else_}
-use Rattle.packet.specs.Each.{Each}
+use Rattle.wire.specs.Each.{Each}
 use Rattle.packet.specs.Ruling.{Before, follows, Carried, repeats, repeated, takes, loadOf, ruledBy}
-use Rattle.packet.specs.Sections.{WholeSection}
+use Rattle.wire.specs.Sections.{WholeSection}
 use Rattle.collector.specs.Rules.{pointer, broken, done, in-hand, Story, bytesOf, countOf, handOf, marked, given, brokenOff, finished, holding, Mode, begin, inside, outside, filling, Next, Size, going, whole, too-long, sizeOf, plain, begun, grown, resumed, joined, byteIn, stretch, goesOn, sectionsIn, payload, storyAfter, delivered, Kind, delivers}
 use Rattle.packet.specs.Refusals.{Judged, refuse, has-payload, judged}
 use Rattle.collector.specs.Refusals.{beforeOf, cannotStand, tooSmall}

@@ -6,7 +6,7 @@ use mathlib.Core.List.{List, [], _∷_, map, flatten}
 use Prim.Native.Nat.{ℕ}
 use native.Mathlib.Omega.{arith}
 use lib.ListN.{length}
-use Rattle.packet.specs.Each.{Each}
+use Rattle.wire.specs.Each.{Each}
 use Rattle.packet.specs.Ruling.{noneBefore, follows, Carried, repeats}
 use Rattle.collector.specs.Rules.{filler, sizeOf}
 use Rattle.packet.specs.Refusals.{judged}

@@ -5,7 +5,7 @@ use mathlib.Core.List.{List, [], _∷_, map, flatten}
 use Prim.Native.Nat.{ℕ, _%_, _^_, _≤_}
 use lib.ListN.{length, take}
 use lib.Dec.{ltb}
-use Rattle.packet.specs.Each.{Each}
+use Rattle.wire.specs.Each.{Each}
 use Rattle.packet.specs.Ruling.{Before, noneBefore, Carried}
 use Rattle.collector.specs.Refusals.{tooSmall}
 use Rattle.collector.specs.Rules.{Kind, delivered, in-hand, done, sumOf, Mark, Story, bytesOf, countOf, handOf, sectionsOf, delivers}

@@ -4,7 +4,7 @@ use mathlib.Core.Path.{_≡_}
 use mathlib.Core.List.{List, [], _∷_, _++_, map}
 use Prim.Native.Nat.{ℕ, _+_, _%_, _≤_, _<_}
 use lib.ListN.{length, getD}
-use Rattle.packet.specs.Each.{Each}
+use Rattle.wire.specs.Each.{Each}
 use Rattle.packet.specs.Ruling.{Before, noneBefore, Carried, handsOn}
 use Rattle.collector.specs.Rules.{Kind, Story, holding, storyAfter}
 

@@ -7,7 +7,7 @@ use Prim.Native.Nat.{ℕ, _%_}
 use lib.ListN.{length, replicate}
 use lib.Dec.{eqb}
 use Rattle.wire.specs.If.{if_then_else_}
-use Rattle.packet.specs.Each.{Each}
+use Rattle.wire.specs.Each.{Each}
 use Rattle.packet.specs.Ruling.{Carried}
 use Rattle.collector.specs.Rules.{Kind, pointer, delivered, broken, filler, done, sumOf, Story, bytesOf, countOf, sectionsOf}
 use Rattle.history.specs.History.{Byte, valueOf, historyOf, payloadsFrom, Unbroken}

@@ -8,9 +8,9 @@ use Prim.Native.Nat.{ℕ, zero, suc}
 use lib.ListN.{length, take, drop}
 use lib.Dec.{ltb, eqb}
 use Rattle.wire.specs.If.{if_then_else_}
-use Rattle.packet.specs.Each.{Each}
+use Rattle.wire.specs.Each.{Each}
 use Rattle.packet.specs.Header.{startFlag, control, counterOf, payloadFrom}
-use Rattle.packet.specs.Sections.{totalOf}
+use Rattle.wire.specs.Sections.{totalOf}
 use Rattle.packet.specs.Ruling.{Before, Carried, handsOn, repeats, Ruling, loadOf, ruling}
 use Rattle.packet.specs.Refusals.{refusals}
 use Rattle.packet.specs.Ruling as Ruled

@@ -1,4 +1,3 @@
 -- Laws that several proofs cite, and those of the table that the crates above rest on.
-pub mod EachLaws
 pub mod Table
 pub mod Once

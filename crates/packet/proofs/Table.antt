@@ -9,7 +9,7 @@ use lib.ListN.{length, getD, length-drop}
 use lib.Dec.{ltb, eqb}
 use borrow.Author.Tests.{ltb-false, eqb-false, lt-ltb, le-ltb, le-leb, lt-leb, eq-eqb, ne-eqb}
 use Rattle.wire.specs.If.{if_then_else_}
-use Rattle.packet.specs.Each.{Each}
+use Rattle.wire.specs.Each.{Each}
 use Rattle.wire.proofs.IfLaws.{true-not-false}
 use Rattle.packet.specs.Header.{startFlag, pidOf, scrambling, control, counterOf, adaptation, payloadFrom, payloadOf, pointerOf}
 use Rattle.packet.specs.Refusals.{Row, refusals, firstOf, Judged, refuse, bare, has-payload, judgedBy, judged}
@@ -115,7 +115,8 @@ and-false false b e h = absurd (true-not-false (sym h))
 abbrev pub Passed : Row → Type 0
 Passed r = r .applies ≡ false
 
-none-at : (r : Row) (rows : List Row) (t : Bool) → r .applies ≡ t → (if t then some (r .number) else firstOf rows) ≡ none → (t ≡ false) × (firstOf rows ≡ none)
+none-at : (r : Row) (rows : List Row) (t : Bool) → r .applies ≡ t
+    → (if t then some (r .number) else firstOf rows) ≡ none → (t ≡ false) × (firstOf rows ≡ none)
 none-at r rows true e w = let z : _≡_ {A = ℕ} 0 1 = cc in absurd (omega arith)
 none-at r rows false e w = (refl, w)
 
@@ -136,11 +137,20 @@ pub record WithPayload (small unfit : Bool) (pid : ℕ) (p : List ℕ) (from : �
   pub count : counter ≡ counterOf p
 
 module _ (small unfit : Bool) (pid : ℕ) (p : List ℕ) (from : ℕ) (start : Bool) (counter : ℕ) where
-  payload-by : (t : Bool) → eqb (control p) 2 ≡ t → firstOf (refusals small unfit pid p) ≡ none → (if t then bare else has-payload (payloadFrom p) (startFlag p) (counterOf p)) ≡ has-payload from start counter → WithPayload small unfit pid p from start counter
+  payload-by : (t : Bool) → eqb (control p) 2 ≡ t → firstOf (refusals small unfit pid p) ≡ none
+      → (if t then bare else has-payload (payloadFrom p) (startFlag p) (counterOf p)) ≡ has-payload from start counter
+      → WithPayload small unfit pid p from start counter
   payload-by true e w h = let z : _≡_ {A = ℕ} 0 1 = cc in absurd (omega arith)
-  payload-by false e w h = record { passed = none-of (refusals small unfit pid p) w; has = eqb-false (control p) 2 e; at = cc; flag = cc; count = cc }
+  payload-by false e w h = record {
+    passed = none-of (refusals small unfit pid p) w;
+    has = eqb-false (control p) 2 e;
+    at = cc;
+    flag = cc;
+    count = cc;
+  }
 
-  payload-at : (o : Option ℕ) → firstOf (refusals small unfit pid p) ≡ o → judgedBy o p ≡ has-payload from start counter → WithPayload small unfit pid p from start counter
+  payload-at : (o : Option ℕ) → firstOf (refusals small unfit pid p) ≡ o → judgedBy o p ≡ has-payload from start counter
+      → WithPayload small unfit pid p from start counter
   payload-at (some n) w h = let z : _≡_ {A = ℕ} 0 1 = cc in absurd (omega arith)
   payload-at none w h = payload-by (eqb (control p) 2) refl w h
 
@@ -149,7 +159,9 @@ module _ (small unfit : Bool) (pid : ℕ) (p : List ℕ) (from : ℕ) (start : B
   payload-of h = payload-at (firstOf (refusals small unfit pid p)) refl h
 
 -- where the payload begins
-pub payload-in : (p : List ℕ) (t : Bool) → eqb (control p) 1 ≡ t → (control p ≡ 0 → ⊥) → (control p ≡ 2 → ⊥) → (eqb (control p) 3 && ltb 182 (adaptation p)) ≡ false → (4 ≤ (if t then 4 else 5 + adaptation p)) × ((if t then 4 else 5 + adaptation p) < 188)
+pub payload-in : (p : List ℕ) (t : Bool) → eqb (control p) 1 ≡ t → (control p ≡ 0 → ⊥) → (control p ≡ 2 → ⊥)
+    → (eqb (control p) 3 && ltb 182 (adaptation p)) ≡ false
+    → (4 ≤ (if t then 4 else 5 + adaptation p)) × ((if t then 4 else 5 + adaptation p) < 188)
 payload-in p true e n₀ n₂ l = (omega arith, omega arith)
 payload-in p false e n₀ n₂ l =
     let n₁ = eqb-false (control p) 1 e in

@@ -5,7 +5,7 @@ use mathlib.Core.List.{List}
 use Prim.Native.Nat.{ℕ, _+_, _-_, _≤_, _<_}
 use lib.ListN.{length, take, getD}
 use Rattle.collector.specs.declared.payload.Front.{Front}
-use Rattle.packet.specs.Sections.{Unfinished}
+use Rattle.wire.specs.Sections.{Unfinished}
 
 -- what is known once a packet is judged to carry payload, with n bytes in hand: the rooms are large enough, the payload is there from index from
 -- on, what is in hand can stand, and the pointer leads to a byte of the packet

@@ -2,12 +2,12 @@
 use mathlib.Core.Path.{_≡_}
 use mathlib.Core.Bool.{Bool, true, false}
 use mathlib.Core.Logic.{_⊎_}
-use mathlib.Core.List.{List, _++_, flatten}
+use mathlib.Core.List.{List, flatten}
 use Prim.Native.Nat.{ℕ, _+_, _≤_, _<_}
-use lib.ListN.{length, take, drop}
-use Rattle.packet.specs.Sections.{totalOf}
+use lib.ListN.{length}
+use Rattle.wire.specs.Sections.{totalOf}
+use Rattle.copy.specs.Laid.{over, laid}
 use Rattle.collector.specs.Rules.{Kind, pointer, delivered, broken, filler, skipped, done, sameKind, Story, countOf, handOf}
-use Rattle.collector.specs.Collected.{over}
 use Rattle.collector.specs.declared.stretch.Look.{Look}
 use Rattle.collector.specs.declared.stretch.Look.the-variants.{Going, Over, Whole}
 use Rattle.collector.specs.declared.stretch.Gain.{Gain}
@@ -51,7 +51,7 @@ pub record Ends (s : Story ℕ) (hold out : List ℕ) (at : ℕ) (hold′ out′
   pub bytes : r .bytes ≡ length (flatten (s .sections))
   pub counts : (k : Kind) → sameKind k pointer ≡ false → sameKind k delivered ≡ false → gainOf r k ≡ countOf (done k) (s .marks)
   pub the-hold : hold′ ≡ over (handOf s) hold
-  pub the-out : out′ ≡ take at out ++ (flatten (s .sections) ++ drop (at + length (flatten (s .sections))) out)
+  pub the-out : out′ ≡ laid out at (flatten (s .sections))
 
 -- one stretch after another
 abbrev pub bothOf : Gain → Gain → Gain

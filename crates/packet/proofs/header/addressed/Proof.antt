@@ -41,7 +41,8 @@ returns-4 c =
     let k = t .before .before in
     let s = k .before .before in
     let a = s .before .before .before .args in
-    sym (scrambled (a .pid) (a .packet .now) (s .if1 .left) (k .if2 .left) (sym (t .before .pid-of .ensures) ∙ t .if3 .left) (c .if4 .taken))
+    let ours = sym (t .before .pid-of .ensures) ∙ t .if3 .left in
+    sym (scrambled (a .pid) (a .packet .now) (s .if1 .left) (k .if2 .left) ours (c .if4 .taken))
 
 shaped-requires : tie.Need-shaped-requires
 shaped-requires c κs = search needs
@@ -52,7 +53,8 @@ returns-5 c =
     let k = t .before .before in
     let s = k .before .before in
     let a = s .before .before .before .args in
-    c .shaped .ensures ∙ sym (header-passed (a .pid) (a .packet .now) (s .if1 .left) (k .if2 .left) (sym (t .before .pid-of .ensures) ∙ t .if3 .left) (c .before .if4 .left))
+    let ours = sym (t .before .pid-of .ensures) ∙ t .if3 .left in
+    c .shaped .ensures ∙ sym (header-passed (a .pid) (a .packet .now) (s .if1 .left) (k .if2 .left) ours (c .before .if4 .left))
 
 pub addressed-spec : {M : Type 1} → statement M
 addressed-spec =

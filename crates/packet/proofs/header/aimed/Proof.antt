@@ -25,19 +25,34 @@ add-if2 c = search needs
 returns : tie.Need-returns
 returns c =
     let k = c .before .before .before in
-    let s = k .before .before .before .before in
-    sym (pointer-past (s .args .packet .now) (s .args .from) (s .pre) (eq-eqb _ _ (k .if1 .taken)) (omega (arith, c .before .wide .ensures .same)))
+    let read = k .before .before in
+    let s = read .before .before in
+    sym
+    (pointer-past (s .args .packet .now) (s .args .from) (s .pre) (eq-eqb _ _ (k .if1 .taken)) (omega (arith, c .before .wide .ensures .same)))
 
 returns-2 : tie.Need-returns-2
 returns-2 c =
     let k = c .before .before .before in
-    let s = k .before .before .before .before in
-    sym (pointer-within (s .args .packet .now) (s .args .from) (s .pre) (eq-eqb _ _ (k .if1 .taken)) (omega (arith, c .before .wide .ensures .same)))
+    let read = k .before .before in
+    let s = read .before .before in
+    sym
+    (pointer-within (s .args .packet .now) (s .args .from) (s .pre) (eq-eqb _ _ (k .if1 .taken)) (omega (arith, c .before .wide .ensures .same)))
 
 returns-3 : tie.Need-returns-3
 returns-3 c =
-    let s = c .before .before .before .before in
+    let read = c .before .before in
+    let s = read .before .before in
     sym (no-pointer (s .args .packet .now) (s .args .from) (s .pre) (ne-eqb _ _ (c .if1 .left)))
 
 pub aimed-spec : {M : Type 1} → statement M
-aimed-spec = tie.close (tie.spec shared-slice-read-counter shared-slice-read-if1 shared-slice-read-wide wide-requires add-if2 returns returns-2 returns-3)
+aimed-spec =
+    tie.close
+    (tie.spec
+    shared-slice-read-counter
+    shared-slice-read-if1
+    shared-slice-read-wide
+    wide-requires
+    add-if2
+    returns
+    returns-2
+    returns-3)

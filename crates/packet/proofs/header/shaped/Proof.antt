@@ -16,17 +16,23 @@ aimed-requires c κs =
     payload-first (s .args .packet .now) (s .pre) (c .if1 .taken)
 
 returns : tie.Need-returns
-returns c = c .aimed .ensures ∙ sym (control-payload (c .before .before .before .before .args .packet .now) (c .before .if1 .taken))
+returns c =
+    let first = c .before in
+    let s = first .before .before .before in
+    c .aimed .ensures ∙ sym (control-payload (s .args .packet .now) (first .if1 .taken))
 
 returns-2 : tie.Need-returns-2
-returns-2 c = sym (control-none (c .before .before .before .before .args .packet .now) (c .if2 .taken))
+returns-2 c =
+    let other = c .before in
+    let s = other .before .before .before in
+    sym (control-none (s .args .packet .now) (c .if2 .taken))
 
 shared-slice-read-n : tie.Need-shared-slice-read-n
 shared-slice-read-n c = search needs
 
 -- the start, from where control is neither 00 nor 01
 abbrev start : tie.Else2 → tie.Start
-start k = k .before .before .before .before
+start k = let other = k .before in other .before .before .before
 
 returns-3 : tie.Need-returns-3
 returns-3 c = sym (control-bare (start (c .before .before .before) .args .packet .now) (c .before .if3 .taken) (c .if4 .taken))
@@ -47,15 +53,19 @@ add-aimed c = search needs
 
 aimed-requires-2 : tie.Need-aimed-requires-2
 aimed-requires-2 c κs =
-    let k = c .before .before .before .before in
+    let long = c .before in
+    let k = long .before .before .before in
     let s = start k in
     let p = s .args .packet .now in
-    subst (λ (n : ℕ). PayloadAt p (5 + n)) (sym (c .wide .ensures .same)) (payload-after p (k .if2 .left) (k .before .if1 .left) (c .before .before .if3 .left) (s .pre) (c .before .if5 .left))
+    subst (λ (n : ℕ). PayloadAt p (5 + n)) (sym (c .wide .ensures .same)) 
+    (payload-after p (k .if2 .left) (k .before .if1 .left) (long .before .if3 .left) (s .pre) (long .if5 .left))
 
 returns-6 : tie.Need-returns-6
 returns-6 c =
-    let k = c .before .before .before .before .before in
-    c .aimed2 .ensures ∙ sym (control-both (start k .args .packet .now) (k .if2 .left) (k .before .if1 .left) (c .before .before .before .if3 .left) (c .before .before .if5 .left))
+    let long = c .before .before in
+    let k = long .before .before .before in
+    c .aimed2 .ensures
+    ∙ sym (control-both (start k .args .packet .now) (k .if2 .left) (k .before .if1 .left) (long .before .if3 .left) (long .if5 .left))
 
 pub shaped-spec : {M : Type 1} → statement M
 shaped-spec =

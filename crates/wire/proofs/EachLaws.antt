@@ -2,7 +2,7 @@
 use mathlib.Core.List.{List, [], _∷_, _++_}
 use Prim.Native.Nat.{ℕ, zero, suc}
 use lib.ListN.{take, drop}
-use Rattle.packet.specs.Each.{Each}
+use Rattle.wire.specs.Each.{Each}
 
 module _ {A : Type 0} (P : A → Type 0) where
   pub each-append : (a c : List A) → Each P a → Each P c → Each P (a ++ c)
