@@ -31,7 +31,8 @@ pub record BodyForth (row : ℕ) (s : List ℕ) (p : Place) (end : ℕ) (o : Lis
 
 -- what a section has at p's first place, up to `end`, is turned
 pub record BodyBack (row : ℕ) (s : List ℕ) (p : Place) (end : ℕ) (o : List ℕ) (q : Place) (o' : List ℕ) : Type 0 where
-  pub turned : (b : Body) → SectionOk row b → Part s (p .at) (sectionBody row 0 .show b) → p .at + length (sectionBody row 0 .show b) ≡ end → end ≤ 4096 → 0 < p .at
+  pub turned : (b : Body) → SectionOk row b → Part s (p .at) (sectionBody row 0 .show b)
+      → p .at + length (sectionBody row 0 .show b) ≡ end → end ≤ 4096 → 0 < p .at
       → p .to + length (sheetBody row .show b) ≤ length o → Done p (sectionBody row 0 .show b) (sheetBody row .show b) o q o'
 
 -- the bytes of a CRC_32, where the table has one

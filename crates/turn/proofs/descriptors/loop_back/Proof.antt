@@ -10,7 +10,7 @@ use Rattle.turn.proofs.descriptors.loop_back.Tie as tie
 
 returns : tie.Need-returns
 returns c =
-    let made = c .before .before in let back = made .before .before .before in let parted = back .before in
+    let made = c .before .before in let room = made .before .before .before in let parted = room .before in
     let counted = parted .before .before .before in let to = counted .before .before in
     let size = to .before .before .before in let start = size .before .before .before in
     loop-back (start .good .1 .0 .0) (start .good .1 .1 .1 .0 .0) (size .length12-at .ensures .same)
