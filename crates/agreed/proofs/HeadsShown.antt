@@ -21,7 +21,6 @@ use Rattle.sheet.specs.Section.{sectionItem, sectionTop, sectionEntries, sectio
 use Rattle.sheet.proofs.SectionSize.{second, front-is}
 use Rattle.contents.specs.Holds.{Holds}
 use Rattle.turn.proofs.HeadLaws.{common-items}
-use Rattle.contents.proofs.Held.{held}
 use Rattle.contents.proofs.SectionLaws.{first-byte}
 use Rattle.round_trips.proofs.RoundTrips.{from-sheet, from-section}
 use Rattle.agreed.specs.Agreed.{sheetSubTable, Shows, SectionShown, SheetShown}
@@ -242,9 +241,9 @@ numbered-row c e = ltb-true (rowIn c) TDT (ap (λ (i : ℕ). ltb (rowOf i) TDT) 
 
 pub section-shown : SectionShown
 section-shown n s t w e numbered =
-    let x = from-sheet n s t e in
+    let x = from-sheet n s t w e in
     let c = x .content in
-    let y = held s c w (x .reads) in
+    let y = x .shown in
     let below = numbered-row c (ap hasNoSubTable (sym (x .made)) ∙ numbered) in
     subst (λ z. Shows s z) (sym (x .made))
     (subst (λ z. Shows z (sectionOf c)) (sym (y .shows)) (content-shown c (y .holds) below))

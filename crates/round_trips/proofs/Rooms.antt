@@ -8,7 +8,6 @@ use lib.Seq.{drop-at}
 use Rattle.wire.specs.Bytes.{Bytes}
 use Rattle.forms.specs.Room.{put}
 use Rattle.forms.proofs.Puts.{put-fits, length-put}
-use Rattle.contents.proofs.Held.{held}
 use Rattle.turn.specs.Turn.{Outcome, gives, refuses, toSection, toSheet, wrote, refused, answer, roomAfter}
 use Rattle.turn.specs.Promise.{ToSection, ToSheet}
 use Rattle.turn.proofs.WholeLaws.{take-put}
@@ -58,7 +57,7 @@ pub section-given : (s o o' : List ℕ) (n : ℕ) → Bytes s → ToSection s o 
     → Given (toSection (length o) s) 4096 n o o'
 section-given s o o' n w a =
     given 4096 n o o' (toSection (length o) s)
-    (λ t e. (trips.section-at-most (length o) s t w e, trips.from-sheet (length o) s t e .room)) (a .0) (a .1)
+    (λ t e. (trips.section-at-most (length o) s t w e, trips.from-sheet (length o) s t w e .room)) (a .0) (a .1)
 
 pub sheet-given : (s o o' : List ℕ) (n : ℕ) → Bytes s → ToSheet s o (sheet.Wrote n) o'
     → Given (toSheet (length o) s) 5120 n o o'
@@ -69,9 +68,8 @@ sheet-given s o o' n w a =
 pub section-is-written : SectionIsWritten
 section-is-written s o o' n w a =
     let g = section-given s o o' n w a in
-    let x = trips.from-sheet (length o) s (g .bytes) (g .is) in
-    let h = held s (x .content) w (x .reads) in
-    (x .content, h .ok, h .shows, subst (λ l. Written 4096 n l o o') (x .made) (g .in-room))
+    let x = trips.from-sheet (length o) s (g .bytes) w (g .is) in
+    (x .content, x .shown .ok, x .shown .shows, subst (λ l. Written 4096 n l o o') (x .made) (g .in-room))
 
 pub sheet-is-written : SheetIsWritten
 sheet-is-written s o o' n w a =

@@ -19,7 +19,7 @@ use Rattle.sheet.specs.Section.{sectionOf, contentOf, readSheet}
 use Rattle.contents.specs.Ones.{OnesIn, ReservedWereOnes}
 use Rattle.contents.specs.Holds.{Holds}
 use Rattle.contents.proofs.SectionLaws.{content-again}
-use Rattle.contents.proofs.Held.{held, ones-of, of-sheet}
+use Rattle.contents.proofs.Held.{Held, held, ones-of, of-sheet}
 use Rattle.contents.proofs.Accepted.{made-accepted}
 use Rattle.contents.proofs.SheetSize.{sheet-fits, section-fits}
 use Rattle.contents.proofs.ReadBack.{of-accepted}
@@ -47,15 +47,17 @@ roomy n least x t = go (ltb n least) refl
 pub record FromSheet (n : ℕ) (s t : List ℕ) : Type 0 where
   pub room : 4096 ≤ n
   pub content : Content
+  pub shown : Held s content
   pub reads : readSheet s ≡ reading.value content
   pub made : t ≡ sectionOf content
 
-pub from-sheet : (n : ℕ) (s t : List ℕ) → toSection n s ≡ gives t → FromSheet n s t
+pub from-sheet : (n : ℕ) (s t : List ℕ) → Bytes s → toSection n s ≡ gives t → FromSheet n s t
 unfolding toSection
-from-sheet n s t e = let x = roomy n 4096 (sectionFrom (readSheet s)) t e in read (x .0) (readSheet s) refl (x .1)
+from-sheet n s t w e = let x = roomy n 4096 (sectionFrom (readSheet s)) t e in read (x .0) (readSheet s) refl (x .1)
   where
     read : 4096 ≤ n → (r : reading.Reading Content) → readSheet s ≡ r → sectionFrom r ≡ gives t → FromSheet n s t
-    read h (reading.value c) q f = record { room = h; content = c; reads = q; made = sym (gives-is f) }
+    read h (reading.value c) q f =
+        record { room = h; content = c; shown = held s c w q; reads = q; made = sym (gives-is f) }
     read h (reading.refused k) q f = absurd (no-gives f)
 
 -- the content of a section that is turned into a sheet
@@ -94,11 +96,11 @@ from-section n s t w e =
 pub sheet-and-back : (n m : ℕ) (s t : List ℕ) → Bytes s → 5120 ≤ m → toSection n s ≡ gives t
     → (judged t ≡ verdict.accepted) × (toSheet m t ≡ gives s)
 sheet-and-back n m s t w h e =
-    let x = from-sheet n s t e in
-    let y = held s (x .content) w (x .reads) in
-    let a : judged t ≡ verdict.accepted = ap judged (x .made) ∙ made-accepted (x .content) (y .holds) in
-    let b : contentOf t ≡ reading.value (x .content) = ap contentOf (x .made) ∙ content-again (x .content) (y .holds) in
-    (a, to-sheet m t (x .content) h a b ∙ ap gives (sym (y .shows)))
+    let x = from-sheet n s t w e in
+    let holds = x .shown .holds in
+    let a : judged t ≡ verdict.accepted = ap judged (x .made) ∙ made-accepted (x .content) holds in
+    let b : contentOf t ≡ reading.value (x .content) = ap contentOf (x .made) ∙ content-again (x .content) holds in
+    (a, to-sheet m t (x .content) h a b ∙ ap gives (sym (x .shown .shows)))
 
 -- an accepted section made into a sheet and back is the same bytes, if its reserved bits were ones
 pub section-and-back : (n m : ℕ) (s t : List ℕ) → Bytes s → 4096 ≤ n → ReservedWereOnes s → toSheet m s ≡ gives t
@@ -123,18 +125,17 @@ any-section-and-back n m s t w h e =
 -- the section of a sheet has its reserved bits as ones
 pub made-ones : (n : ℕ) (s t : List ℕ) → Bytes s → toSection n s ≡ gives t → ReservedWereOnes t
 made-ones n s t w e =
-    let x = from-sheet n s t e in
-    let h = held s (x .content) w (x .reads) in
-    let r : contentOf t ≡ reading.value (x .content) = ap contentOf (x .made) ∙ content-again (x .content) (h .holds) in
-    subst OnesIn (sym r) (ones-of (x .content) (h .ok))
+    let x = from-sheet n s t w e in
+    let r : contentOf t ≡ reading.value (x .content) =
+    ap contentOf (x .made) ∙ content-again (x .content) (x .shown .holds) in
+    subst OnesIn (sym r) (ones-of (x .content) (x .shown .ok))
 
 -- ---- "Largest results are proved to fit"
 
 pub section-at-most : (n : ℕ) (s t : List ℕ) → Bytes s → toSection n s ≡ gives t → length t ≤ 4096
 section-at-most n s t w e =
-    let x = from-sheet n s t e in
-    let l = section-fits (x .content) (held s (x .content) w (x .reads) .holds) in
-    subst (λ z. length z ≤ 4096) (sym (x .made)) l
+    let x = from-sheet n s t w e in
+    subst (λ z. length z ≤ 4096) (sym (x .made)) (section-fits (x .content) (x .shown .holds))
 
 pub sheet-at-most : (n : ℕ) (s t : List ℕ) → Bytes s → toSheet n s ≡ gives t → length t ≤ 5120
 sheet-at-most n s t w e =
@@ -144,9 +145,8 @@ sheet-at-most n s t w e =
 -- and what was turned is no longer than that either
 pub accepted-sheet-at-most : (n : ℕ) (s t : List ℕ) → Bytes s → toSection n s ≡ gives t → length s ≤ 5120
 accepted-sheet-at-most n s t w e =
-    let x = from-sheet n s t e in
-    let h = held s (x .content) w (x .reads) in
-    subst (λ z. length z ≤ 5120) (sym (h .shows)) (sheet-fits (x .content) (h .holds))
+    let x = from-sheet n s t w e in
+    subst (λ z. length z ≤ 5120) (sym (x .shown .shows)) (sheet-fits (x .content) (x .shown .holds))
 
 pub accepted-section-at-most : (n : ℕ) (s t : List ℕ) → Bytes s → toSheet n s ≡ gives t → length s ≤ 4096
 accepted-section-at-most n s t w e =

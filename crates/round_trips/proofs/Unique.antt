@@ -3,7 +3,7 @@ use mathlib.Core.Path.{_≡_, refl, sym, ap, _∙_}
 use lib.Dec.{eqb}
 use Rattle.wire.specs.If.{if_then_else_}
 use Rattle.verdict.specs.Verdict as verdict
-use Rattle.verdict.proofs.Once.{verdictOf, verdict-back}
+use Rattle.verdict.proofs.Unique.{verdictOf, verdict-back}
 use Rattle.verdict.specs.declared.Verdict.{Verdict}
 use Rattle.verdict.specs.declared.Verdict.the-variants as variants
 use Rattle.turn.specs.Turn.{Told, wrote, refused}

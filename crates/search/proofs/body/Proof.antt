@@ -39,13 +39,5 @@ returns-3 c = search needs
 pub body-spec : {M : Type 1} → statement M
 body-spec =
     tie.close
-    (tie.spec
-    enum-known-found
-    part-requires
-    enum-told
-    slice-aggregate-result
-    enum-told-2
-    slice-aggregate-result-2
-    returns
-    returns-2
-    returns-3)
+    (tie.spec enum-known-found part-requires enum-told slice-aggregate-result enum-told-2 slice-aggregate-result-2
+    returns returns-2 returns-3)

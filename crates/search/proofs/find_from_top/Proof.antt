@@ -104,19 +104,6 @@ returns-4 c =
 pub find-from-top-spec : {M : Type 1} → statement M
 find-from-top-spec =
     tie.close
-    (tie.spec
-    length12-at-requires
-    add-end
-    add-end-2
-    slice-aggregate-find-in-top
-    add-find-in-top
-    find-in-top-requires
-    enum-told
-    enum-told-2
-    enum-told-3
-    returns
-    add-find-in-entries
-    find-in-entries-requires
-    returns-2
-    returns-3
+    (tie.spec length12-at-requires add-end add-end-2 slice-aggregate-find-in-top add-find-in-top find-in-top-requires
+    enum-told enum-told-2 enum-told-3 returns add-find-in-entries find-in-entries-requires returns-2 returns-3
     returns-4)

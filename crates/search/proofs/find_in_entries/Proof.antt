@@ -208,28 +208,7 @@ returns-2 c =
 pub find-in-entries-spec : {M : Type 1} → statement M
 find-in-entries-spec =
     tie.close
-    (tie.spec
-    Inv-descriptors
-    μ-descriptors
-    Inv-entries
-    μ-entries
-    entries-holds
-    add-start
-    sub-length12-at
-    add-length12-at
-    length12-at-requires
-    add-next
-    descriptors-holds
-    slice-aggregate-step-at
-    step-at-requires
-    enum-known-step
-    add-q
-    descriptors-less
-    descriptors-again
-    enum-told
-    enum-told-2
-    add-number
-    entries-less
-    entries-again
-    returns
-    returns-2)
+    (tie.spec Inv-descriptors μ-descriptors Inv-entries μ-entries entries-holds add-start sub-length12-at
+    add-length12-at length12-at-requires add-next descriptors-holds slice-aggregate-step-at step-at-requires
+    enum-known-step add-q descriptors-less descriptors-again enum-told enum-told-2 add-number entries-less entries-again
+    returns returns-2)

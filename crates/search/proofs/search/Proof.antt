@@ -84,13 +84,5 @@ returns-2 c =
 pub search-spec : {M : Type 1} → statement M
 search-spec =
     tie.close
-    (tie.spec
-    judge-requires
-    is-accepted-requires
-    byte-at-requires
-    row-of-requires
-    row-at-requires
-    before-crc-requires
-    find-inside-requires
-    returns
-    returns-2)
+    (tie.spec judge-requires is-accepted-requires byte-at-requires row-of-requires row-at-requires before-crc-requires
+    find-inside-requires returns returns-2)

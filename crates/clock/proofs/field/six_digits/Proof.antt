@@ -86,17 +86,5 @@ returns-4 c =
 pub six-digits-spec : {M : Type 1} → statement M
 six-digits-spec =
     tie.close
-    (tie.spec
-    two-digits-requires
-    two-digits-requires-2
-    two-digits-requires-3
-    enum-known-h
-    enum-known-h-2
-    enum-known-m
-    enum-known-m-2
-    enum-known-s
-    enum-known-s-2
-    returns
-    returns-2
-    returns-3
-    returns-4)
+    (tie.spec two-digits-requires two-digits-requires-2 two-digits-requires-3 enum-known-h enum-known-h-2 enum-known-m
+    enum-known-m-2 enum-known-s enum-known-s-2 returns returns-2 returns-3 returns-4)

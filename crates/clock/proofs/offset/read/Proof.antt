@@ -70,18 +70,6 @@ returns-3 c =
 pub read-spec : {M : Type 1} → statement M
 read-spec =
     tie.close
-    (tie.spec
-    two-digits-requires
-    two-digits-requires-2
-    enum-known-h
-    enum-known-h-2
-    enum-known-m
-    enum-known-m-2
-    cast-signed-minutes
-    mul-signed-minutes
-    cast-signed-minutes-2
-    add-signed-minutes
-    signed-minutes-requires
-    returns
-    returns-2
-    returns-3)
+    (tie.spec two-digits-requires two-digits-requires-2 enum-known-h enum-known-h-2 enum-known-m enum-known-m-2
+    cast-signed-minutes mul-signed-minutes cast-signed-minutes-2 add-signed-minutes signed-minutes-requires returns
+    returns-2 returns-3)

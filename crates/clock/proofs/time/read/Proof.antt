@@ -59,17 +59,5 @@ returns-4 c =
 pub read-spec : {M : Type 1} → statement M
 read-spec =
     tie.close
-    (tie.spec
-    mul-if1
-    add-if1
-    mul-if1-2
-    add-if1-2
-    mul-if1-3
-    add-if1-3
-    returns
-    returns-2
-    six-digits-requires
-    enum-known-f
-    enum-known-clock
-    returns-3
-    returns-4)
+    (tie.spec mul-if1 add-if1 mul-if1-2 add-if1-2 mul-if1-3 add-if1-3 returns returns-2 six-digits-requires enum-known-f
+    enum-known-clock returns-3 returns-4)

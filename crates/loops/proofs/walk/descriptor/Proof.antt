@@ -71,17 +71,5 @@ returns-4 c = search needs
 pub descriptor-spec : {M : Type 1} → statement M
 descriptor-spec =
     tie.close
-    (tie.spec
-    enum-known-step
-    less-requires
-    part-requires
-    returns
-    add-part
-    part-requires-2
-    enum-told
-    slice-aggregate-result
-    enum-told-2
-    slice-aggregate-result-2
-    returns-2
-    returns-3
-    returns-4)
+    (tie.spec enum-known-step less-requires part-requires returns add-part part-requires-2 enum-told
+    slice-aggregate-result enum-told-2 slice-aggregate-result-2 returns-2 returns-3 returns-4)

@@ -65,17 +65,5 @@ returns-5 c =
 pub step-at-spec : {M : Type 1} → statement M
 step-at-spec =
     tie.close
-    (tie.spec
-    returns
-    returns-2
-    sub-if3
-    returns-3
-    add-wide
-    shared-slice-read-wide
-    wide-requires
-    sub-if4
-    sub-if4-2
-    returns-4
-    shared-slice-read-t8
-    add-t6
-    returns-5)
+    (tie.spec returns returns-2 sub-if3 returns-3 add-wide shared-slice-read-wide wide-requires sub-if4 sub-if4-2
+    returns-4 shared-slice-read-t8 add-t6 returns-5)

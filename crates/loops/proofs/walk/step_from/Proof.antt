@@ -55,12 +55,4 @@ returns-3 c =
 pub step-from-spec : {M : Type 1} → statement M
 step-from-spec =
     tie.close
-    (tie.spec
-    step-at-requires
-    enum-known-step
-    add-t7
-    enum-told
-    enum-told-2
-    returns
-    returns-2
-    returns-3)
+    (tie.spec step-at-requires enum-known-step add-t7 enum-told enum-told-2 returns returns-2 returns-3)

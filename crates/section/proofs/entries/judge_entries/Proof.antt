@@ -123,23 +123,6 @@ returns-4 c =
 pub judge-entries-spec : {M : Type 1} → statement M
 judge-entries-spec =
     tie.close
-    (tie.spec
-    Inv-loop
-    μ-loop
-    loop-holds
-    sub-if1
-    returns
-    add-start
-    sub-length-place
-    add-length-place
-    length12-at-requires
-    sub-if2
-    returns-2
-    add-next
-    slice-aggregate-judge-descriptors
-    judge-descriptors-requires
-    is-accepted-requires
-    loop-less
-    loop-again
-    returns-3
-    returns-4)
+    (tie.spec Inv-loop μ-loop loop-holds sub-if1 returns add-start sub-length-place add-length-place
+    length12-at-requires sub-if2 returns-2 add-next slice-aggregate-judge-descriptors judge-descriptors-requires
+    is-accepted-requires loop-less loop-again returns-3 returns-4)

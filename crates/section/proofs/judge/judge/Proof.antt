@@ -4,10 +4,31 @@ use Rattle.tables.proofs.RowLaws.{fixed-two}
 use Rattle.tables.specs.declared.Row.{Row}
 use Rattle.tables.specs.Tables.{rowAt, FixedTwo}
 use native.Mathlib.Omega.{arith}
-use mathlib.Core.Path.{subst, refl, sym, ap, _∙_}
+use mathlib.Core.Path.{_≡_, subst, refl, sym, ap, _∙_}
+use mathlib.Core.List.{List}
+use Prim.Native.Nat.{ℕ}
+use Rattle.verdict.specs.Verdict.{accepted}
+use Rattle.section.specs.Reading.{rowFor, opening}
 use borrow.Author.Needs.{needs}
 use Rattle.section.proofs.judge.judge.Statement.{statement}
 use Rattle.section.proofs.judge.judge.Tie as tie
+
+-- The table is known, and its row has been read.
+module _ (c : tie.After-row-at) where
+  abbrev found : tie.After-row-of
+  found = c .before .before
+
+  abbrev long : tie.Else1
+  long = found .before .before
+
+  abbrev s : List ℕ
+  s = long .before .before .args .section .now
+
+  row-is : c .row-at .result ≡ rowFor s
+  row-is = c .row-at .ensures ∙ ap rowAt (found .row-of .ensures)
+
+  known : opening s ≡ accepted
+  known = opening-known s (long .if1 .left) (omega arith)
 
 returns : tie.Need-returns
 returns c =
@@ -47,43 +68,21 @@ judge-inside-requires c κs =
 
 returns-3 : tie.Need-returns-3
 returns-3 c =
-    let if3 = c .before .before .if3 in
-    let after-is-accepted = c .before .before .before in
-    let judge-header = after-is-accepted .before .judge-header in
-    let after-row-at = after-is-accepted .before .before in
-    let after-row-of = after-row-at .before .before in
-    let else1 = after-row-of .before .before in
-    let args = else1 .before .before .args in
-    let s = args .section .now in
-    went-on _ _ _ _ (judge-header .ensures) (after-is-accepted .is-accepted .ensures) _ (if3 .taken)
+    let headed = c .before .before .before in
+    let table = headed .before .before in
+    went-on _ _ _ _ (headed .before .judge-header .ensures) (headed .is-accepted .ensures) _ (c .before .before .if3 .taken)
     (c .judge-inside .ensures)
-    ∙ sym (judged-on s _ _ (after-row-at .row-at .ensures ∙ ap rowAt (after-row-of .row-of .ensures)) (c .before .before-crc .ensures)
-    (opening-known s (else1 .if1 .left) (omega arith)))
+    ∙ sym (judged-on (s table) _ _ (row-is table) (c .before .before-crc .ensures) (known table))
 
 returns-4 : tie.Need-returns-4
 returns-4 c =
-    let judge-header = c .before .before .judge-header in
-    let after-row-at = c .before .before .before in
-    let after-row-of = after-row-at .before .before in
-    let else1 = after-row-of .before .before in
-    let args = else1 .before .before .args in
-    let s = args .section .now in
-    stopped _ _ _ _ (judge-header .ensures) (c .before .is-accepted .ensures) (c .if3 .left)
-    ∙ sym (judged-on s _ _ (after-row-at .row-at .ensures ∙ ap rowAt (after-row-of .row-of .ensures)) refl
-    (opening-known s (else1 .if1 .left) (omega arith)))
+    let headed = c .before .before in
+    let table = headed .before in
+    stopped _ _ _ _ (headed .judge-header .ensures) (c .before .is-accepted .ensures) (c .if3 .left)
+    ∙ sym (judged-on (s table) _ _ (row-is table) refl (known table))
 
 pub judge-spec : {M : Type 1} → statement M
 judge-spec =
     tie.close
-    (tie.spec
-    returns
-    shared-slice-read-row-of
-    row-of-requires
-    returns-2
-    row-at-requires
-    judge-header-requires
-    is-accepted-requires
-    before-crc-requires
-    judge-inside-requires
-    returns-3
-    returns-4)
+    (tie.spec returns shared-slice-read-row-of row-of-requires returns-2 row-at-requires judge-header-requires
+    is-accepted-requires before-crc-requires judge-inside-requires returns-3 returns-4)

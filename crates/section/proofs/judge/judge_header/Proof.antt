@@ -93,15 +93,5 @@ returns-6 c =
 pub judge-header-spec : {M : Type 1} → statement M
 judge-header-spec =
     tie.close
-    (tie.spec
-    wrong-syntax-requires
-    returns
-    length-outside-requires
-    returns-2
-    size-differs-requires
-    returns-3
-    crc-fails-requires
-    returns-4
-    above-last-requires
-    returns-5
-    returns-6)
+    (tie.spec wrong-syntax-requires returns length-outside-requires returns-2 size-differs-requires returns-3
+    crc-fails-requires returns-4 above-last-requires returns-5 returns-6)

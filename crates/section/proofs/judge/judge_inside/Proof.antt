@@ -51,11 +51,5 @@ returns-4 c =
 pub judge-inside-spec : {M : Type 1} → statement M
 judge-inside-spec =
     tie.close
-    (tie.spec
-    judge-one-loop-requires
-    returns
-    judge-two-loops-requires
-    returns-2
-    returns-3
-    judge-entries-requires
+    (tie.spec judge-one-loop-requires returns judge-two-loops-requires returns-2 returns-3 judge-entries-requires
     returns-4)

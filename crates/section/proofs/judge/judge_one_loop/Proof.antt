@@ -48,10 +48,5 @@ returns-2 c =
 pub judge-one-loop-spec : {M : Type 1} → statement M
 judge-one-loop-spec =
     tie.close
-    (tie.spec
-    judge-fills-requires
-    is-accepted-requires
-    add-judge-descriptors
-    judge-descriptors-requires
-    returns
+    (tie.spec judge-fills-requires is-accepted-requires add-judge-descriptors judge-descriptors-requires returns
     returns-2)

@@ -47,10 +47,4 @@ returns-2 c =
 pub judge-second-spec : {M : Type 1} → statement M
 judge-second-spec =
     tie.close
-    (tie.spec
-    judge-fills-requires
-    is-accepted-requires
-    add-judge-entries
-    judge-entries-requires
-    returns
-    returns-2)
+    (tie.spec judge-fills-requires is-accepted-requires add-judge-entries judge-entries-requires returns returns-2)

@@ -94,17 +94,6 @@ returns-3 c = stopped _ _ _ _ (c .before .before .judge-room .ensures) (c .befor
 pub judge-two-loops-spec : {M : Type 1} → statement M
 judge-two-loops-spec =
     tie.close
-    (tie.spec
-    judge-room-requires
-    is-accepted-requires
-    length12-at-requires
-    add-end
-    add-end-2
-    slice-aggregate-judge-descriptors
-    add-judge-descriptors
-    judge-descriptors-requires
-    is-accepted-requires-2
-    judge-second-requires
-    returns
-    returns-2
-    returns-3)
+    (tie.spec judge-room-requires is-accepted-requires length12-at-requires add-end add-end-2
+    slice-aggregate-judge-descriptors add-judge-descriptors judge-descriptors-requires is-accepted-requires-2
+    judge-second-requires returns returns-2 returns-3)

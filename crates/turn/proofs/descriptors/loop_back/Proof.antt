@@ -16,7 +16,8 @@ returns c =
     loop-back (start .good .1 .0 .0) (start .good .1 .1 .1 .0 .0) (size .length12-at .ensures .same)
     (to .before .before .past .ensures)
     (to .past2 .ensures ∙ ap (sum (start .args .p .to)) (to .before .kept-size .ensures))
-    (subst (λ l. NumberIn descriptor l (counted .descriptors-in .result)) (counted .before .part .ensures) (counted .descriptors-in .ensures))
+    (subst (λ l. NumberIn descriptor l (counted .descriptors-in .result)) (counted .before .part .ensures)
+    (counted .descriptors-in .ensures))
     (parted .before .before .byte-at .ensures) (parted .parted .ensures) (made .numbered .ensures)
 
 pub loop-back-spec : {M : Type 1} → statement M

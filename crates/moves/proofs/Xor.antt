@@ -32,7 +32,8 @@ xor-assoc =
     (λ a ih b c.
     xor-step (a ⊕ b) c
     ∙ ap₂ (λ (x y : ℕ). (x ⊕ (c / 2)) * 2 + differ y (c % 2)) (xor-shr a b 1) (xor-mod a b 1)
-    ∙ ap₂ (λ (x y : ℕ). x * 2 + y) (ih (b / 2) (c / 2)) (differ3 (a % 2) (b % 2) (c % 2) (mod-lt a (lit< tt)) (mod-lt b (lit< tt)) (mod-lt c (lit< tt)))
+    ∙ ap₂ (λ (x y : ℕ). x * 2 + y) (ih (b / 2) (c / 2))
+    (differ3 (a % 2) (b % 2) (c % 2) (mod-lt a (lit< tt)) (mod-lt b (lit< tt)) (mod-lt c (lit< tt)))
     ∙ sym (ap₂ (λ (x y : ℕ). ((a / 2) ⊕ x) * 2 + differ (a % 2) y) (xor-shr b c 1) (xor-mod b c 1))
     ∙ sym (xor-step a (b ⊕ c)))
 
@@ -56,4 +57,6 @@ xor-zero-eq a b e = sym (xor-twice a b) ∙ ap (λ (x : ℕ). x ⊕ b) e ∙ xor
 
 pub xor-shl : (a b k : ℕ) → (a ⊕ b) * 2 ^ k ≡ (a * 2 ^ k) ⊕ (b * 2 ^ k)
 xor-shl a b k =
-    sym (add-zero ((a ⊕ b) * 2 ^ k)) ∙ sym (xor-block k a b 0 0 (pow-pos k) (pow-pos k)) ∙ ap₂ bitXor (add-zero (a * 2 ^ k)) (add-zero (b * 2 ^ k))
+    sym (add-zero ((a ⊕ b) * 2 ^ k))
+    ∙ sym (xor-block k a b 0 0 (pow-pos k) (pow-pos k))
+    ∙ ap₂ bitXor (add-zero (a * 2 ^ k)) (add-zero (b * 2 ^ k))

@@ -4,7 +4,7 @@ use lib.Dec.{eqb}
 use mathlib.Core.Bool.{false}
 use Rattle.wire.specs.If.{if_then_else_}
 use Rattle.verdict.specs.Verdict.{told, numberOf}
-use Rattle.verdict.proofs.Once.{verdictOf, verdict-back}
+use Rattle.verdict.proofs.Unique.{verdictOf, verdict-back}
 use Rattle.verdict.specs.declared.Verdict.{Verdict}
 use Rattle.verdict.specs.declared.Verdict.the-variants.{Accepted, TooShort, UnknownTable, WrongSyntax, LengthOutside, SizeDiffers, CrcFails, NumberAboveLast, LoopPast, DescriptorPast, BytesLeft}
 use Rattle.roll.specs.Answer.{Says, missing, complete, refusing, toldAnswer}

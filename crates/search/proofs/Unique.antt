@@ -1,6 +1,6 @@
 -- Two answers that say the same are the same answer: so each promise `told answer ≡ definition` allows one outcome.
 use mathlib.Core.Path.{_≡_, refl, sym, _∙_, ap}
-use Rattle.verdict.proofs.Once.{verdictOf, verdict-back}
+use Rattle.verdict.proofs.Unique.{verdictOf, verdict-back}
 use Rattle.search.specs.Search.{Outcome, refusing, hit, none, toldFound}
 use Rattle.search.specs.declared.Found.{Found}
 use Rattle.search.specs.declared.Found.the-variants.{Hit, Nothing, Refused}

@@ -3,14 +3,11 @@ use mathlib.Core.Path.{_≡_, refl, ap, ap₂, _∙_}
 use mathlib.Core.List.{List, [], _∷_}
 use Prim.Native.Nat.{ℕ, _*_, _/_, _%_, _^_, _<_}
 use native.Mathlib.Nat.{mod-lt}
-use lib.Dec.{lit<}
 use lib.Pow.{pow-pos}
 use lib.Bits.{bitXor, xor-shr, xor-mod, xor-lt}
-use Rattle.crc.specs.Crc.{feedBits}
-use Rattle.crc.specs.Inner.Moves.{rights, lefts, timesPoly, quotientOf, times64, times96, times128, over, under, second, third, fourth, fifth}
-use Rattle.crc.proofs.Xor.{_⊕_, xor4, xor-shl}
-use Rattle.crc.proofs.Linear.{linear, bits-lt, zeros-sum}
-use Rattle.crc.proofs.Basis.{Additive}
+use Rattle.moves.specs.Moves.{rights, lefts, timesPoly, quotientOf, times64, times96, times128, over, under, second, third, fourth, fifth}
+use Rattle.moves.proofs.Xor.{_⊕_, xor4, xor-shl}
+use Rattle.moves.proofs.Basis.{Additive}
 
 rights-linear : (ks : List ℕ) (a b z y : ℕ) → rights ks (a ⊕ b) (z ⊕ y) ≡ rights ks a z ⊕ rights ks b y
 unfolding rights
@@ -53,23 +50,16 @@ module _ {m : ℕ} {f : ℕ → ℕ} (hf : Additive m f) where
     sum-of = record { sums = λ a b ha hb. ap₂ bitXor (hf .sums a b ha hb) (hg .sums a b ha hb) ∙ xor4 (f a) (f b) (g a) (g b) }
 
     pub rights-of : (ks : List ℕ) → Additive m (λ v. rights ks (f v) (g v))
-    rights-of ks = record { sums = λ a b ha hb. ap₂ (rights ks) (hf .sums a b ha hb) (hg .sums a b ha hb) ∙ rights-linear ks (f a) (f b) (g a) (g b) }
+    rights-of ks = record {
+      sums = λ a b ha hb. ap₂ (rights ks) (hf .sums a b ha hb) (hg .sums a b ha hb)
+          ∙ rights-linear ks (f a) (f b) (g a) (g b);
+    }
 
     pub lefts-of : (n : ℕ) (ks : List ℕ) → Additive m (λ v. lefts n ks (f v) (g v))
-    lefts-of n ks = record { sums = λ a b ha hb. ap₂ (lefts n ks) (hf .sums a b ha hb) (hg .sums a b ha hb) ∙ lefts-linear n ks (f a) (f b) (g a) (g b) }
-
-  -- n bits from zero
-  pub fed-of : (n : ℕ) → Additive m (λ v. feedBits n (f v) 0)
-  fed-of n = record { sums = λ a b ha hb. ap (λ (v : ℕ). feedBits n v 0) (hf .sums a b ha hb) ∙ linear n (f a) (f b) 0 0 (lit< tt) (lit< tt) }
-
-  -- n bits from zero, and then k zeros
-  pub zeros-of : (n k : ℕ) → Additive m (λ v. feedBits k 0 (feedBits n (f v) 0))
-  zeros-of n k =
-      record {
-        sums = λ a b ha hb.
-            ap (feedBits k 0) (fed-of n .sums a b ha hb)
-            ∙ zeros-sum k (feedBits n (f a) 0) (feedBits n (f b) 0) (bits-lt n (f a) 0 (lit< tt)) (bits-lt n (f b) 0 (lit< tt));
-      }
+    lefts-of n ks = record {
+      sums = λ a b ha hb. ap₂ (lefts n ks) (hf .sums a b ha hb) (hg .sums a b ha hb)
+          ∙ lefts-linear n ks (f a) (f b) (g a) (g b);
+    }
 
 -- each sum of moves that has a name
 module _ {m : ℕ} {f : ℕ → ℕ} (hf : Additive m f) where

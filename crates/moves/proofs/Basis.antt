@@ -11,7 +11,7 @@ use lib.Arith.{lt-one}
 use lib.Dec.{T, eqb, eqb→eq}
 use lib.Pow.{pow-pos, pow-mono, shl-lt, shr-lt, split}
 use lib.Bits.{bitXor, xor-shifted, xor-self}
-use Rattle.crc.proofs.Xor.{_⊕_}
+use Rattle.moves.proofs.Xor.{_⊕_}
 
 -- f takes sums of numbers below 2 ^ n to sums
 pub record Additive (n : ℕ) (f : ℕ → ℕ) : Type 0 where
@@ -42,7 +42,8 @@ apart {n} {f} h x hx =
     ∙ h .sums (x / 2 ^ n * 2 ^ n) (x % 2 ^ n) (subst (λ (k : ℕ). x / 2 ^ n * 2 ^ n < 2 ^ k) (one-add n) (shl-lt 1 n (highest n x hx)))
     (lt-of-lt-of-le low (pow-mono (omega arith)))
 
-pub agree-at : (n : ℕ) {f g : ℕ → ℕ} → Additive n f → Additive n g → ((i : ℕ) → i < n → f (2 ^ i) ≡ g (2 ^ i)) → (x : ℕ) → x < 2 ^ n → f x ≡ g x
+pub agree-at : (n : ℕ) {f g : ℕ → ℕ} → Additive n f → Additive n g → ((i : ℕ) → i < n → f (2 ^ i) ≡ g (2 ^ i)) → (x : ℕ)
+    → x < 2 ^ n → f x ≡ g x
 agree-at zero hf hg same x hx = rw (lt-one hx) (at-zero hf ∙ sym (at-zero hg))
 agree-at (suc n) {f} {g} hf hg same x hx =
     apart hf x hx
@@ -71,8 +72,10 @@ tested p (suc n) = both (p n) (tested p n)
 pub passed : (p : ℕ → Bool) (n : ℕ) → T (tested p n) → (i : ℕ) → i < n → T (p i)
 passed p zero t i h = absurd (not-suc-le-zero h)
 passed p (suc n) t i h =
-    ⊎-elim (λ e. subst (λ (k : ℕ). T (p k)) (sym e) (both-left (p n) (tested p n) t)) (λ l. passed p n (both-right (p n) (tested p n) t) i l)
+    ⊎-elim (λ e. subst (λ (k : ℕ). T (p k)) (sym e) (both-left (p n) (tested p n) t))
+    (λ l. passed p n (both-right (p n) (tested p n) t) i l)
     (eq-or-lt-of-le (le-of-suc-le-suc h))
 
-pub agree : (n : ℕ) {f g : ℕ → ℕ} → Additive n f → Additive n g → T (tested (λ i. eqb (f (2 ^ i)) (g (2 ^ i))) n) → (x : ℕ) → x < 2 ^ n → f x ≡ g x
+pub agree : (n : ℕ) {f g : ℕ → ℕ} → Additive n f → Additive n g → T (tested (λ i. eqb (f (2 ^ i)) (g (2 ^ i))) n)
+    → (x : ℕ) → x < 2 ^ n → f x ≡ g x
 agree n {f} {g} hf hg test = agree-at n hf hg (λ i h. eqb→eq (f (2 ^ i)) (g (2 ^ i)) (passed (λ i. eqb (f (2 ^ i)) (g (2 ^ i))) n test i h))

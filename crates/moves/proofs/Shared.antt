@@ -1,10 +1,11 @@
--- The code's sums of moves, in which a move serves several places, are the sums that the definitions list. Each is a test at the powers of two.
+-- The code's sums of moves, in which a move serves several places, are the sums that the definitions list. Each is a
+-- test at the powers of two.
 use mathlib.Core.Path.{_≡_}
 use mathlib.Core.List.{[], _∷_}
 use Prim.Native.Nat.{ℕ, _*_, _%_, _^_, _<_}
-use Rattle.crc.specs.Inner.Moves.{rights, lefts, timesPoly, quotientOf, times64, times96, times128, over, under}
-use Rattle.crc.proofs.Basis.{Additive, agree}
-use Rattle.crc.proofs.Shifts.{itself, up-of, rights-of, lefts-of, times-of, quotient-of, times64-of, times96-of, times128-of, over-of, under-of}
+use Rattle.moves.specs.Moves.{rights, lefts, timesPoly, quotientOf, times64, times96, times128, over, under}
+use Rattle.moves.proofs.Basis.{Additive, agree}
+use Rattle.moves.proofs.Shifts.{itself, up-of, rights-of, lefts-of, times-of, quotient-of, times64-of, times96-of, times128-of, over-of, under-of}
 
 -- z, and z moved up by k
 abbrev up : ℕ → ℕ → ℕ → ℕ
@@ -21,7 +22,9 @@ down-twice : {m : ℕ} {f : ℕ → ℕ} → Additive m f → (k : ℕ) → Addi
 down-twice h k = rights-of h h (k ∷ [])
 
 pub times-shared : (q : ℕ) → q < 2 ^ 32
-    → lefts 32 (16 ∷ 23 ∷ []) (lefts 32 (22 ∷ []) (lefts 32 (1 ∷ 2 ∷ []) (up 32 6 (up 32 4 q)) (up 32 6 (up 32 4 q))) (up 32 4 q)) q ≡ timesPoly q
+    → lefts 32 (16 ∷ 23 ∷ [])
+    (lefts 32 (22 ∷ []) (lefts 32 (1 ∷ 2 ∷ []) (up 32 6 (up 32 4 q)) (up 32 6 (up 32 4 q))) (up 32 4 q)) q
+    ≡ timesPoly q
 unfolding timesPoly lefts
 times-shared =
     let t = up-twice itself 32 4 in
@@ -35,7 +38,10 @@ quotient-shared =
     agree 32 (rights-of (rights-of itself itself (9 ∷ 26 ∷ [])) u (6 ∷ 24 ∷ 25 ∷ [])) (quotient-of itself) tt
 
 pub times64-shared : (z : ℕ) → z < 2 ^ 32
-    → lefts 64 (27 ∷ 30 ∷ []) (lefts 64 (2 ∷ 9 ∷ []) (lefts 64 (10 ∷ 16 ∷ []) (lefts 64 (3 ∷ []) z (up 64 5 z)) (lefts 64 (3 ∷ []) z (up 64 5 z))) (up 64 5 z)) z
+    → lefts 64 (27 ∷ 30 ∷ [])
+    (lefts 64 (2 ∷ 9 ∷ [])
+    (lefts 64 (10 ∷ 16 ∷ []) (lefts 64 (3 ∷ []) z (up 64 5 z)) (lefts 64 (3 ∷ []) z (up 64 5 z))) (up 64 5 z))
+    z
     ≡ times64 z
 unfolding times64 lefts
 times64-shared =
@@ -44,15 +50,22 @@ times64-shared =
     agree 32 (lefts-of (lefts-of (lefts-of u u 64 (10 ∷ 16 ∷ [])) t 64 (2 ∷ 9 ∷ [])) itself 64 (27 ∷ 30 ∷ [])) (times64-of itself) tt
 
 pub times96-shared : (z : ℕ) → z < 2 ^ 32
-    → lefts 64 (25 ∷ []) (lefts 64 (28 ∷ 30 ∷ []) (lefts 64 (9 ∷ 10 ∷ []) (up 64 4 (up 64 1 z) * 2 ^ 1 % 2 ^ 64) (up 64 4 (up 64 1 z))) (up 64 1 z)) z ≡ times96 z
+    → lefts 64 (25 ∷ [])
+    (lefts 64 (28 ∷ 30 ∷ []) (lefts 64 (9 ∷ 10 ∷ []) (up 64 4 (up 64 1 z) * 2 ^ 1 % 2 ^ 64) (up 64 4 (up 64 1 z)))
+    (up 64 1 z))
+    z
+    ≡ times96 z
 unfolding times96 lefts
 times96-shared =
     let t = up-twice itself 64 1 in
     let u = up-twice t 64 4 in
-    agree 32 (lefts-of (lefts-of (lefts-of (up-of u 64 1) u 64 (9 ∷ 10 ∷ [])) t 64 (28 ∷ 30 ∷ [])) itself 64 (25 ∷ [])) (times96-of itself) tt
+    agree 32 (lefts-of (lefts-of (lefts-of (up-of u 64 1) u 64 (9 ∷ 10 ∷ [])) t 64 (28 ∷ 30 ∷ [])) itself 64 (25 ∷ []))
+    (times96-of itself) tt
 
 pub times128-shared : (z : ℕ) → z < 2 ^ 32
-    → lefts 64 (9 ∷ 30 ∷ 31 ∷ []) (lefts 64 (10 ∷ 21 ∷ []) (lefts 64 (14 ∷ []) (up 64 2 z) (up 64 2 z)) (up 64 6 (up 64 2 z))) z ≡ times128 z
+    → lefts 64 (9 ∷ 30 ∷ 31 ∷ [])
+    (lefts 64 (10 ∷ 21 ∷ []) (lefts 64 (14 ∷ []) (up 64 2 z) (up 64 2 z)) (up 64 6 (up 64 2 z))) z
+    ≡ times128 z
 unfolding times128 lefts
 times128-shared =
     let t = up-twice itself 64 2 in
