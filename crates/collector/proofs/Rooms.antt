@@ -8,7 +8,7 @@ use lib.ListN.{length, take, drop, length-append, take-append-drop}
 use lib.Seq.{paste, take-at, drop-at, drop-drop, length-take-le}
 use Rattle.collector.specs.Rules.{Story}
 use Rattle.collector.specs.Inner.Stretch.{Ends}
-use Rattle.collector.specs.declared.stretch.Came.{Came}
+use Rattle.collector.specs.declared.stretch.Gain.{Gain}
 
 -- a room with bytes in it from index at on
 abbrev pub laid : List ℕ → ℕ → List ℕ → List ℕ
@@ -34,5 +34,5 @@ laid-more room at bytes s t k w =
     last-at = omega (arith, length-append bytes (take t s), length-take-le t s w)
 
 -- an answer says of a story what it says of an equal one
-pub ends-as : {s : Story ℕ} {hold out : List ℕ} {at : ℕ} {hold′ out′ : List ℕ} {r : Came} (s′ : Story ℕ) → s ≡ s′ → Ends s′ hold out at hold′ out′ r → Ends s hold out at hold′ out′ r
+pub ends-as : {s : Story ℕ} {hold out : List ℕ} {at : ℕ} {hold′ out′ : List ℕ} {r : Gain} (s′ : Story ℕ) → s ≡ s′ → Ends s′ hold out at hold′ out′ r → Ends s hold out at hold′ out′ r
 ends-as {s} {hold} {out} {at} {hold′} {out′} {r} s′ e h = subst (λ (x : Story ℕ). Ends x hold out at hold′ out′ r) (sym e) h

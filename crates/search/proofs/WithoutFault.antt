@@ -56,7 +56,8 @@ module _ (l : List ℕ) (p n : ℕ) (same : n ≡ len12At l p) where
         ends-there = omega arith;
         holds =
             ap items (t ∙ a .1 ∙ b .1)
-            ∙ ap₂ (λ x y. descriptors (p + 2) (drop (p + 2) x) .items ∷ y) (sym (take-all (p + (2 + n)) l (omega arith))) (rw (eq-eqb fixed 0 f));
+            ∙ ap₂ (λ x y. descriptors (p + 2) (drop (p + 2) x) .items ∷ y)
+            (sym (take-all (p + (2 + n)) l (omega arith))) (rw (eq-eqb fixed 0 f));
         room = λ g. absurd (g f);
         onward = λ g. absurd (g f);
       }

@@ -168,7 +168,8 @@ module _ (row : Row) (p : ℕ) (two : FixedTwo (row .fixed)) where
       → Descriptors (p + 2) body ds → length l ≡ sizeOf l → Either (high ∷ low ∷ (body ++ l))
   entry-cases t g high low body [] ds e d s = absurd (omega arith)
   entry-cases t g high low body (x ∷ []) ds e d s = absurd (omega arith)
-  entry-cases t g high low body (high' ∷ low' ∷ l) ds e d s = go (in-entries.whole-or-fault (row .fixed) (two g) (p + (2 + length body) + 2) l)
+  entry-cases t g high low body (high' ∷ low' ∷ l) ds e d s =
+      go (in-entries.whole-or-fault (row .fixed) (two g) (p + (2 + length body) + 2) l)
     where
       size : len12 high' low' ≡ length l
       size = omega arith

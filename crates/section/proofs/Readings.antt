@@ -216,5 +216,6 @@ module _ (s : List ℕ) where
     unfolding judged
     judged-header k p e = ap answer (read-on ∙ then-stop (header (rowFor s) s) _ (ap isAccepted e)) ∙ e
 
-    pub read-through : header (rowFor s) s ≡ accepted → read s ≡ inside (rowFor s) (rowFor s .before) (drop (rowFor s .before) (body (rowFor s) s))
+    pub read-through : header (rowFor s) s ≡ accepted
+        → read s ≡ inside (rowFor s) (rowFor s .before) (drop (rowFor s .before) (body (rowFor s) s))
     read-through e = read-on ∙ then-on (header (rowFor s) s) _ (ap isAccepted e)

@@ -1,0 +1,4 @@
+-- Laws that several proofs cite, and those of the table that the crates above rest on.
+pub mod EachLaws
+pub mod Table
+pub mod Once

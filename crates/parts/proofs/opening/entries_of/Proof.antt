@@ -1,0 +1,66 @@
+-- `parts::opening::entries_of` meets its contract.
+use mathlib.Core.Path.{sym, _∙_}
+use Rattle.parts.proofs.Openings.{entries-none, entries-second, entries-first}
+use borrow.Author.Needs.{needs}
+use Rattle.parts.proofs.opening.entries_of.Statement.{statement}
+use Rattle.parts.proofs.opening.entries_of.Tie as tie
+
+before-crc-requires : tie.Need-before-crc-requires
+before-crc-requires c κs = search needs
+
+no-part-requires : tie.Need-no-part-requires
+no-part-requires c κs = search needs
+
+returns : tie.Need-returns
+returns c = c .no-part .ensures ∙ sym (entries-none (c .before .before .before .before .before .args .row) _ (c .before .if1 .taken))
+
+add-start : tie.Need-add-start
+add-start c = search needs
+
+length12-at-requires : tie.Need-length12-at-requires
+length12-at-requires c κs = search needs
+
+add-start-2 : tie.Need-add-start-2
+add-start-2 c = search needs
+
+add-start-3 : tie.Need-add-start-3
+add-start-3 c = search needs
+
+less-requires : tie.Need-less-requires
+less-requires c κs = search needs
+
+returns-2 : tie.Need-returns-2
+returns-2 c =
+    let start = c .before in
+    let second = start .before in
+    let fixed = second .before .before in
+    let args = fixed .before .before .before .before .args in
+    let end = fixed .before .before .before-crc .ensures in
+    sym (entries-second (args .row) _ _ end (c .less .result) (fixed .if1 .left) (start .length12-at .result) (start .length12-at .ensures .same) (c .less .ensures) (second .if2 .taken))
+
+less-requires-2 : tie.Need-less-requires-2
+less-requires-2 c κs = search needs
+
+returns-3 : tie.Need-returns-3
+returns-3 c =
+    let plain = c .before in
+    let fixed = plain .before .before in
+    let args = fixed .before .before .before .before .args in
+    let end = fixed .before .before .before-crc .ensures in
+    sym (entries-first (args .row) _ _ end (c .less2 .result) (fixed .if1 .left) (c .less2 .ensures) (plain .if2 .left))
+
+pub entries-of-spec : {M : Type 1} → statement M
+entries-of-spec =
+    tie.close
+    (tie.spec
+    before-crc-requires
+    no-part-requires
+    returns
+    add-start
+    length12-at-requires
+    add-start-2
+    add-start-3
+    less-requires
+    returns-2
+    less-requires-2
+    returns-3)

@@ -1,0 +1,25 @@
+-- `parts::opening::top_of` meets its contract.
+use mathlib.Core.Path.{sym, _∙_}
+use Rattle.parts.proofs.Openings.{top-there, top-none}
+use borrow.Author.Needs.{needs}
+use Rattle.parts.proofs.opening.top_of.Statement.{statement}
+use Rattle.parts.proofs.opening.top_of.Tie as tie
+
+add-t5 : tie.Need-add-t5
+add-t5 c = search needs
+
+length12-at-requires : tie.Need-length12-at-requires
+length12-at-requires c κs = search needs
+
+returns : tie.Need-returns
+returns c =
+    sym (top-there (c .before .before .before .before .args .row) _ (c .length12-at .result) (c .length12-at .ensures .same) (c .before .if1 .taken))
+
+no-part-requires : tie.Need-no-part-requires
+no-part-requires c κs = search needs
+
+returns-2 : tie.Need-returns-2
+returns-2 c = c .no-part .ensures ∙ sym (top-none (c .before .before .before .before .args .row) _ (c .before .if1 .left))
+
+pub top-of-spec : {M : Type 1} → statement M
+top-of-spec = tie.close (tie.spec add-t5 length12-at-requires returns no-part-requires returns-2)
