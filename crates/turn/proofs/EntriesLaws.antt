@@ -1,8 +1,9 @@
 -- Laws of entries, turned either way.
+use Prim.{tt}
 use Prim.Native.Nat.{ℕ, zero, suc, _+_, _-_, _*_, _/_, _%_, _^_, _<_, _≤_}
 use mathlib.Core.Path.{_≡_, refl, sym, ap, ap₂, _∙_, subst}
-use mathlib.Core.List.{List, [], _∷_, _++_}
-use mathlib.Core.Bool.{Bool, true, false}
+use mathlib.Core.List.{List, [], _∷_, _++_, append-nil}
+use mathlib.Core.Bool.{Bool, true, false, not}
 use native.Mathlib.Omega.{arith}
 use lib.ListN.{length, getD, take, drop}
 use Rattle.wire.specs.Bytes.{len12}
@@ -10,18 +11,18 @@ use Rattle.wire.specs.Number.{numberAt}
 use Rattle.wire.specs.Parts.{Part}
 use Rattle.wire.proofs.PartLaws.{part-second, part-taken}
 use Rattle.tables.specs.Tables.{cell}
-use Rattle.forms.specs.Form.{EachOk}
+use Rattle.forms.specs.Form.{eachShow, EachOk}
 use Rattle.forms.specs.Fields.{room, pack, sheetFields}
-use Rattle.forms.specs.Lists.{all, times, countedShow, loopShow}
+use Rattle.forms.specs.Lists.{all, none, one, times, countedShow, loopShow}
 use Rattle.forms.specs.Room.{put, sum}
 use Rattle.forms.specs.Inner.Turning.{Turned}
 use Rattle.forms.proofs.Puts.{sum-fits, put-put, length-put}
-use Rattle.forms.proofs.Turns.{turned-zero, turned-suc}
-use Rattle.sheet.specs.Content.{Entry, bare, sideOf}
+use Rattle.forms.proofs.Turns.{turned-as, turned-zero, turned-suc}
+use Rattle.sheet.specs.Content.{Entry, bare, entryOf, sideOf}
 use Rattle.sheet.specs.Sheet.{sheetEntry}
 use Rattle.sheet.specs.Section.{sectionEntry}
 use Rattle.turn.specs.Inner.Fields.{Shape, running, bared}
-use Rattle.turn.specs.Inner.Ways.{entryFrom, entryTo, entriesShown, behindOwn, ownSize, ownPut, BesideOk, BesideFit, EntriesForth, EntriesBack, NumberIn, putNumber}
+use Rattle.turn.specs.Inner.Ways.{entryFrom, entryTo, topIf, entriesShown, behindOwn, ownSize, ownPut, BesideOk, BesideFit, EntriesForth, EntriesBack, NumberIn, putNumber}
 use Rattle.contents.proofs.SectionLaws.{half-bare, no-more, entry-full}
 use Rattle.contents.proofs.Accepted.{says}
 use Rattle.turn.proofs.PieceLaws.{part-within, part-byte, part-first-byte, number-put}
@@ -200,3 +201,13 @@ module _ {s o : List ℕ} (ls : length s < 2 ^ 64) (lo : length o < 2 ^ 64) (top
           written = d .written ∙ omega arith;
         };
   }
+
+-- ---- the top loop
+
+-- an entry without fields is its loop
+pub top-turned : {s o o' : List ℕ} {p q : Place} (b t : Bool) → t ≡ true
+    → Turned (times (entryFrom b 5) 1) (times (entryTo b 5) 1) s p o q o' → Turned (topIf b t) (topIf (not b) t) s p o q o'
+unfolding sideOf entryOf cell all eachShow EachOk
+top-turned {s} {o} {o'} {p} {q} b t e u =
+    subst (λ x. Turned (topIf b x) (topIf (not b) x) s p o q o') (sym e)
+    (turned-as (λ l k. (([], l) ∷ [], (refl, one (tt, k) none), sym (append-nil _), sym (append-nil _))) u)

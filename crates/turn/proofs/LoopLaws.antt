@@ -8,12 +8,12 @@ use lib.ListN.{length, getD, take, drop, length-append}
 use Rattle.wire.specs.Bytes.{len12, len12At}
 use Rattle.wire.specs.Parts.{Part}
 use Rattle.wire.proofs.PartLaws.{part-first, part-second, part-taken}
+use Rattle.forms.specs.Form.{raw}
 use Rattle.forms.specs.Fields.{Field, pack, sheetFields}
 use Rattle.forms.specs.Lists.{all, All, countedShow, loopShow}
 use Rattle.forms.specs.Room.{put, sum}
 use Rattle.forms.specs.Inner.Turning.{Done, Turned}
-use Rattle.forms.proofs.Puts.{sum-fits, put-put, length-put, copied-put}
-use Rattle.copy.specs.Copy.{copied}
+use Rattle.forms.proofs.Puts.{sum-fits, put-put, length-put}
 use Rattle.sheet.specs.Content.{Descriptor}
 use Rattle.sheet.specs.Sheet.{descriptor}
 use Rattle.sheet.specs.Section.{sectionLoop}
@@ -24,28 +24,22 @@ use Rattle.contents.proofs.Accepted.{says}
 use Rattle.turn.proofs.PieceLaws.{part-within, part-byte, part-first-byte, number-put, shape-room, packed-small, fields-shown, fields-size, fields-joined}
 use Rattle.forms.specs.declared.Place.{Place}
 
--- a number of two bytes, and bytes that are copied behind it
-pub numbered-done : {s o : List ℕ} → length s < 2 ^ 64 → length o < 2 ^ 64 → {p q : Place} {number n behind : ℕ} {o₁ o' : List ℕ}
-    → behind ≡ sum (p .to) 2 → o₁ ≡ putNumber o (p .to) number → o' ≡ copied s (p .at) n o₁ behind → q .at ≡ sum (p .at) n
-    → q .to ≡ sum behind n → Numbered number n s p o q o'
-numbered-done {s} {o} ls lo {p} {q} {number} {n} {behind} {o₁} {o'} hb h₁ h a b = record {
+-- a number of two bytes, and bytes behind it; z is their place
+pub numbered-done : {s o : List ℕ} → length o < 2 ^ 64 → {p q z : Place} {number n : ℕ} {o₁ o' : List ℕ} → z .at ≡ p .at
+    → z .to ≡ sum (p .to) 2 → o₁ ≡ putNumber o (p .to) number → Turned (raw n) (raw n) s z o₁ q o' → Numbered number n s p o q o'
+numbered-done {s} {o} lo {p} {q} {z} {number} {n} {o₁} ha hb h₁ t = record {
   turned = λ l e small w f.
-      let within = part-within l w in
       let u : List ℕ = number / 256 ∷ number % 256 ∷ [] in
       let high : number / 256 % 256 ≡ number / 256 = omega arith in
       let put₁ : o₁ ≡ put o (p .to) u =
       h₁ ∙ number-put o (p .to) number lo (omega arith) ∙ ap (λ i. put o (p .to) (i ∷ number % 256 ∷ [])) high in
       let l₁ : length o₁ ≡ length o = ap length put₁ ∙ length-put o (p .to) u (omega arith) in
-      let to : behind ≡ p .to + 2 = hb ∙ sum-fits (p .to) 2 (omega arith) in
-      let t : take n (drop (p .at) s) ≡ l = ap (λ i. take i (drop (p .at) s)) (sym e) ∙ part-taken w in
+      let to : z .to ≡ p .to + 2 = hb ∙ sum-fits (p .to) 2 (omega arith) in
+      let d = t .turned l e (subst (λ i. Part s i l) (sym ha) w) (omega arith) in
       record {
-        room =
-            h ∙ ap (copied s (p .at) n o₁) to
-            ∙ copied-put s (p .at) n o₁ (p .to + 2) (omega arith) (omega arith)
-            ∙ ap₂ (λ i j. put i (p .to + 2) j) put₁ t
-            ∙ put-put o (p .to) u (omega arith) l (omega arith);
-        read = a ∙ sum-fits (p .at) n (omega arith) ∙ omega arith;
-        written = b ∙ ap (λ i. sum i n) to ∙ sum-fits (p .to + 2) n (omega arith) ∙ omega arith;
+        room = d .room ∙ ap₂ (λ i j. put i j l) put₁ to ∙ put-put o (p .to) u (omega arith) l (omega arith);
+        read = d .read ∙ omega (arith, ha);
+        written = d .written ∙ omega arith;
       };
 }
 

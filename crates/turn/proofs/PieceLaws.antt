@@ -17,7 +17,9 @@ use Rattle.forms.specs.Room.{put, sum}
 use Rattle.forms.specs.Inner.Turning.{Done, Turned}
 use Rattle.forms.proofs.Puts.{sum-fits, put-none, put-put, copied-put}
 use Rattle.forms.proofs.FieldLaws.{fields-fit, pack-lt, unpack-pack}
-use Rattle.copy.specs.Copy.{copied}
+use Rattle.forms.proofs.Turns.{turned-never}
+use Rattle.copy.specs.Copy.{copies, copied}
+use Rattle.copy.proofs.Copies.{copies-not}
 use Rattle.turn.specs.Inner.Fields.{Shape, versioned, flagged, filled, running, bared, keptSize, joinedOf, joinedAt, partedOf, Parted}
 use Rattle.turn.specs.Inner.Ways.{putNumber, ByteTurned, LoopTurned}
 use Rattle.forms.specs.declared.Place.{Place}
@@ -56,15 +58,23 @@ module _ {s o : List ℕ} (ls : length s < 2 ^ 64) (lo : length o < 2 ^ 64) {p :
         written = b ∙ sum-fits (p .to) (length u) (omega arith);
       }
 
-  pub turned-raw : {n : ℕ} {q : Place} {o' : List ℕ} → o' ≡ copied s (p .at) n o (p .to) → q .at ≡ sum (p .at) n → q .to ≡ sum (p .to) n
-      → Turned (raw n) (raw n) s p o q o'
-  turned-raw {n} e a b = record {
+module _ {s o : List ℕ} {p q : Place} {n : ℕ} {o' : List ℕ} where
+  pub turned-raw : o' ≡ copied s (p .at) n o (p .to) → q .at ≡ p .at + n → q .to ≡ p .to + n → Turned (raw n) (raw n) s p o q o'
+  turned-raw e a b = record {
     turned = λ x k w f.
         let h = part-within x w in
         let t : take n (drop (p .at) s) ≡ x = ap (λ m. take m (drop (p .at) s)) (sym k) ∙ part-taken w in
-        done x x w f (e ∙ copied-put s (p .at) n o (p .to) (omega arith) (omega arith) ∙ ap (put o (p .to)) t)
-        (a ∙ ap (sum (p .at)) (sym k)) (b ∙ ap (sum (p .to)) (sym k));
+        record {
+          room = e ∙ copied-put s (p .at) n o (p .to) (omega arith) (omega arith) ∙ ap (put o (p .to)) t;
+          read = omega (arith, a);
+          written = omega (arith, b);
+        };
   }
+
+  -- what is not copied is not there, or has no room
+  pub raw-not-there : {r : Bool} → r ≡ copies s (p .at) n o (p .to) → r ≡ false → Turned (raw n) (raw n) s p o q o'
+  raw-not-there e g =
+      turned-never (λ x k w f. let h = part-within x w in copies-not s (p .at) n o (p .to) e g (omega arith) (omega arith))
 
 -- two bytes put one after the other
 pub two-put : (o : List ℕ) (to a b : ℕ) → length o < 2 ^ 64 → to + 2 ≤ length o

@@ -8,7 +8,7 @@ use crate::counts::descriptors_size;
 use crate::pieces::joined;
 use crate::pieces::kept_size;
 use crate::pieces::parted;
-use copy::copy_few;
+use crate::pieces::plain;
 use forms::Place;
 use forms::past;
 use forms::put_byte;
@@ -27,13 +27,12 @@ pub fn put_number(room: &mut [u8], to: usize, n: usize)
 fn numbered(number: usize, n: usize, s: &[u8], p: Place, room: &mut [u8]) -> Place
     ensures { λ r. ⌜ Numbered number n (now (s .entry)) p (now (room .entry)) r (now (room .exit)) ⌝ }
 {
-    let behind = past(p.to, 2);
+    let behind = Place {
+        at: p.at,
+        to: past(p.to, 2),
+    };
     put_number(room, p.to, number);
-    copy_few(s, p.at, n, room, behind);
-    Place {
-        at: past(p.at, n),
-        to: past(behind, n),
-    }
+    plain(s, behind, n, room)
 }
 
 fn loop_forth(span: u8, s: &[u8], p: Place, room: &mut [u8]) -> Place

@@ -128,11 +128,13 @@ pub fn entries_back(
     entries(false, row, number, s, first, room)
 }
 
+// The top loop is turned as one entry of TOT: it has no entries, so that its row gives them no fields. A loop is so turned from one
+// place alone, and its code stands there.
 pub fn top_loop(forth: bool, top: bool, s: &[u8], p: Place, room: &mut [u8]) -> Place
     ensures { λ r. ⌜ Turned (topIf forth top) (topIf (not forth) top) (now (s .entry)) p (now (room .entry)) r (now (room .exit)) ⌝ }
 {
     if top {
-        return turn_loop(forth, 0, s, p, room);
+        return entries(forth, TOT, 1, s, p, room);
     }
     p
 }

@@ -15,11 +15,13 @@ use wire::wide;
 pub fn plain(s: &[u8], p: Place, n: usize, room: &mut [u8]) -> Place
     ensures { λ r. ⌜ Turned (raw n) (raw n) (now (s .entry)) p (now (room .entry)) r (now (room .exit)) ⌝ }
 {
-    copy_few(s, p.at, n, room, p.to);
-    Place {
-        at: past(p.at, n),
-        to: past(p.to, n),
+    if copy_few(s, p.at, n, room, p.to) {
+        return Place {
+            at: p.at + n,
+            to: p.to + n,
+        };
     }
+    p
 }
 
 // Fields are a value below `span` and a flag, with reserved bits before them; or reserved bits alone, where `span` is 0.

@@ -3,15 +3,15 @@ use mathlib.Core.Path.{refl}
 use mathlib.Core.List.{[]}
 use Rattle.forms.specs.Form.{mute}
 use Rattle.forms.proofs.Turns.{turned-nothing}
-use Rattle.turn.specs.Inner.Fields.{bared}
+use Rattle.turn.proofs.EntriesLaws.{top-turned}
 use borrow.Author.Needs.{needs}
 use Rattle.turn.proofs.entries.top_loop.Statement.{statement}
 use Rattle.turn.proofs.entries.top_loop.Tie as tie
 
 returns : tie.Need-returns
 returns c =
-    let made = c .before .before in let test = made .before .before in
-    rw (test .if1 .taken) (made .turn-loop .ensures .turned bared)
+    let made = c .before .before in let test = made .before .before in let start = test .before .before .before in
+    top-turned (start .args .forth) (start .args .top) (test .if1 .taken) (made .entries .ensures)
 
 returns-2 : tie.Need-returns-2
 returns-2 c =

@@ -1,17 +1,35 @@
 -- `turn::pieces::plain` meets its contract.
-use Rattle.turn.proofs.PieceLaws.{turned-raw}
+use mathlib.Core.Path.{refl}
+use native.Mathlib.Omega.{arith}
+use Rattle.copy.proofs.Copies.{copies-fits}
+use Rattle.turn.proofs.PieceLaws.{turned-raw, raw-not-there}
 use borrow.Author.Needs.{needs}
 use Rattle.turn.proofs.pieces.plain.Statement.{statement}
 use Rattle.turn.proofs.pieces.plain.Tie as tie
 
+add-t8 : tie.Need-add-t8
+add-t8 c =
+    let test = c .before in let made = test .before .before .before in let known = made .before .before in
+    let start = known .before .before in
+    let a = start .args in
+    let fits = copies-fits (a .s .now) (a .p .at) (a .n) (a .room .now) (a .p .to) (made .copy-few .ensures .0) (test .if1 .taken) in
+    omega (arith, fits, start .good .0 .0)
+
+add-t9 : tie.Need-add-t9
+add-t9 c =
+    let test = c .before .before in let made = test .before .before .before in let known = made .before .before in
+    let start = known .before .before in
+    let a = start .args in
+    let fits = copies-fits (a .s .now) (a .p .at) (a .n) (a .room .now) (a .p .to) (made .copy-few .ensures .0) (test .if1 .taken) in
+    omega (arith, fits, start .good .1 .1 .1 .0 .0)
+
 returns : tie.Need-returns
 returns c =
-    let room = c .before .before .before in let made = room .before in
-    let shared-slice-known = made .before .before .before in let start = shared-slice-known .before in
-    turned-raw (start .good .0 .0) (start .good .1 .1 .1 .0 .0) (made .copy-few .ensures .1) (c .before .past .ensures)
-    (c .past2 .ensures)
+    let test = c .before .before in let made = test .before .before .before in
+    turned-raw (made .copy-few .ensures .1) refl refl
+
+returns-2 : tie.Need-returns-2
+returns-2 c = raw-not-there (c .before .before .before .copy-few .ensures .0) (c .if1 .left)
 
 pub plain-spec : {M : Type 1} → statement M
-plain-spec =
-    tie.close (tie.spec (λ c κs. search needs) (λ c κs. search needs) (λ c κs. search needs) (λ c. search needs)
-    returns)
+plain-spec = tie.close (tie.spec (λ c κs. search needs) add-t8 add-t9 (λ c. search needs) returns (λ c. search needs) returns-2)
