@@ -34,7 +34,7 @@ use Rattle.history.proofs.Stands.{Standing, standing-none, stands-taken
 
 -- ---- sections cut by their own headers
 
-cut-whole : (secs : List (List ℕ)) → Each WholeSection secs → cut (length secs) (flatten secs) ≡ secs
+pub cut-whole : (secs : List (List ℕ)) → Each WholeSection secs → cut (length secs) (flatten secs) ≡ secs
 unfolding flatten
 cut-whole [] x = refl
 cut-whole (s ∷ secs) x =
