@@ -4,4 +4,5 @@ pub mod Refusals
 pub mod Judges
 pub mod Rolls
 pub mod Sheets
+pub mod Sections
 pub mod Tied

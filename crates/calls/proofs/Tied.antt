@@ -12,6 +12,7 @@ use denote.Triple.Entry.{Args, Res}
 use denote.Triple.Clauses.{Lasts, atExit}
 use Rattle.cabinet.specs.Collect.{leaves}
 use Rattle.cabinet.specs.Roll.{holds}
+use Rattle.calls.specs.Sections as sections
 use Rattle.calls.specs.Collects as collects
 use Rattle.calls.specs.Judges as judges
 use Rattle.calls.specs.Rolls as rolls
@@ -24,6 +25,10 @@ use Rattle.cabinet.proofs.rolls.lohitunga_roll_ask as roll-ask
 use Rattle.cabinet.proofs.rolls.lohitunga_roll_take as roll-take
 use Rattle.cabinet.proofs.sheets.lohitunga_to_sheet as to-sheet
 use Rattle.cabinet.proofs.sheets.lohitunga_to_section as to-section
+use Rattle.cabinet.proofs.section_parts.lohitunga_open as opening
+use Rattle.cabinet.proofs.section_parts.lohitunga_next_section as next-section
+use Rattle.cabinet.proofs.section_parts.lohitunga_next_entry as next-entry
+use Rattle.cabinet.proofs.section_parts.lohitunga_next_descriptor as next-descriptor
 
 module _ {M : Type 1} (𝓤 : URA M) (H : Heap 𝓤) (A : Atoms 𝓤) (at-mem : Memory → SProp 𝓤) (run : Routine → Fun 𝓤) where
   pub fresh-promises : (κs : Lfts (fresh.ended .signature .lifetimes)) (a : Args (fresh.ended .signature) κs)
@@ -79,3 +84,23 @@ module _ {M : Type 1} (𝓤 : URA M) (H : Heap 𝓤) (A : Atoms 𝓤) (at-mem : 
       → to-section.clauses 𝓤 H A at-mem run κs a .ensures tt x (atExit to-section.ended κs a ws)
       ≡ fact 𝓤 (sheets.ToSection (a .0 .now) (a .1 .0 .now) x (ws .1 .0))
   to-section-promises κs a x ws = refl
+
+  pub open-promises : (κs : Lfts (opening.ended .signature .lifetimes)) (a : Args (opening.ended .signature) κs)
+      (x : Res (opening.ended .signature) κs) (ws : Lasts opening.ended κs a)
+      → opening.clauses 𝓤 H A at-mem run κs a .ensures tt x (atExit opening.ended κs a ws) ≡ fact 𝓤 (sections.PromisedOpen (a .0 .now) x)
+  open-promises κs a x ws = refl
+
+  pub next-section-promises : (κs : Lfts (next-section.ended .signature .lifetimes)) (a : Args (next-section.ended .signature) κs)
+      (x : Res (next-section.ended .signature) κs) (ws : Lasts next-section.ended κs a)
+      → next-section.clauses 𝓤 H A at-mem run κs a .ensures tt x (atExit next-section.ended κs a ws) ≡ fact 𝓤 (sections.PromisedSection (a .0 .now) (a .1 .0) x)
+  next-section-promises κs a x ws = refl
+
+  pub next-entry-promises : (κs : Lfts (next-entry.ended .signature .lifetimes)) (a : Args (next-entry.ended .signature) κs)
+      (x : Res (next-entry.ended .signature) κs) (ws : Lasts next-entry.ended κs a)
+      → next-entry.clauses 𝓤 H A at-mem run κs a .ensures tt x (atExit next-entry.ended κs a ws) ≡ fact 𝓤 (sections.PromisedEntry (a .0 .now) (a .1 .0) x)
+  next-entry-promises κs a x ws = refl
+
+  pub next-descriptor-promises : (κs : Lfts (next-descriptor.ended .signature .lifetimes)) (a : Args (next-descriptor.ended .signature) κs)
+      (x : Res (next-descriptor.ended .signature) κs) (ws : Lasts next-descriptor.ended κs a)
+      → next-descriptor.clauses 𝓤 H A at-mem run κs a .ensures tt x (atExit next-descriptor.ended κs a ws) ≡ fact 𝓤 (sections.PromisedDescriptor (a .0 .now) (a .1 .0) x)
+  next-descriptor-promises κs a x ws = refl

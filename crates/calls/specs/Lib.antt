@@ -4,3 +4,4 @@ pub mod Collects
 pub mod Judges
 pub mod Rolls
 pub mod Sheets
+pub mod Sections

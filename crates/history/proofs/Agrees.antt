@@ -39,7 +39,7 @@ use Rattle.history.proofs.LeftInHand.{Standing, standing-none, stands-t
 
 -- ---- sections cut by their own headers
 
-cut-whole : (secs : List (List ℕ)) → Each WholeSection secs → cut (length secs) (flatten secs) ≡ secs
+pub cut-whole : (secs : List (List ℕ)) → Each WholeSection secs → cut (length secs) (flatten secs) ≡ secs
 unfolding flatten
 cut-whole [] x = refl
 cut-whole (s ∷ secs) x =
