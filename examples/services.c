@@ -1,4 +1,4 @@
-/* The services of a stream: reads packets, collects one PID, judges each section, and prints what the SDT says of the actual stream's services.
+/* The services of a stream: reads packets, collects one PID, opens each section, and prints what the SDT says of the actual stream's services.
  *
  *     services FILE [PID]         PID in hexadecimal; without one it is 0011, on which SDTs are broadcast
  *
@@ -9,16 +9,12 @@
 
 #include "lohitunga.h"
 
-enum { BEFORE_ENTRIES = 11, ENTRY = 5, CRC_32 = 4 };
-
-static unsigned number16(const uint8_t *bytes) { return bytes[0] << 8 | bytes[1]; }
-
 /* A name as it is broadcast; bytes that are no ASCII characters by their values, since character sets are not read. */
 static void print_name(const char *what, const uint8_t *descriptor, lohitunga_part part) {
     printf(" %s '", what);
     for (size_t i = 0; i < part.size; i++) {
         uint8_t byte = descriptor[part.start + i];
-        if (byte < 0x20 || byte > 0x7E)
+        if (byte < ' ' || byte > '~')
             printf("\\x%02X", byte);
         else
             putchar(byte);
@@ -27,16 +23,16 @@ static void print_name(const char *what, const uint8_t *descriptor, lohitunga_pa
 }
 
 /* The first service descriptor of a service's loop. */
-static void print_service(const uint8_t *loop, size_t size) {
-    lohitunga_walk_answer step = lohitunga_walk(loop, size, 0);
-    while (step.descriptor && step.tag != LOHITUNGA_TAG_SERVICE)
-        step = lohitunga_walk(loop, size, step.next);
-    if (!step.descriptor) {
+static void print_service(const uint8_t *section, size_t size, lohitunga_part loop) {
+    lohitunga_descriptor_step step = lohitunga_next_descriptor(section, size, loop);
+    while (step.found && step.tag != LOHITUNGA_TAG_SERVICE)
+        step = lohitunga_next_descriptor(section, size, step.rest);
+    if (!step.found) {
         printf(" without a service descriptor\n");
         return;
     }
-    const uint8_t *descriptor = loop + step.start - 2;
-    lohitunga_service_answer answer = lohitunga_read_service(descriptor, step.size + 2);
+    const uint8_t *descriptor = section + step.descriptor.start;
+    lohitunga_service_answer answer = lohitunga_read_service(descriptor, step.descriptor.size);
     if (answer.number) {
         printf(" with a service descriptor that is refused: %u\n", answer.number);
         return;
@@ -47,35 +43,33 @@ static void print_service(const uint8_t *loop, size_t size) {
     putchar('\n');
 }
 
-/* The entries of a section that is accepted: they and their loops fill it to the CRC_32, so that no length needs to be looked at again. */
-static void print_entries(const uint8_t *section, size_t size) {
-    printf("transport_stream_id %u original_network_id %u version %u section %u of %u\n", number16(section + 3), number16(section + 8),
-           section[5] >> 1 & 31, section[6], section[7]);
-    size_t end = size - CRC_32;
-    for (size_t at = BEFORE_ENTRIES; at < end;) {
-        size_t loop_size = number16(section + at + 3) & 0xFFF;
-        printf("service %u", number16(section + at));
-        print_service(section + at + ENTRY, loop_size);
-        at += ENTRY + loop_size;
+static void print_services(const uint8_t *section, size_t size, const lohitunga_open_answer *opened) {
+    const lohitunga_head *head = &opened->head;
+    printf("transport_stream_id %u original_network_id %u version %u section %u of %u\n", head->transport_stream_id, head->original_network_id,
+           head->version_number, head->section_number, head->last_section_number);
+    lohitunga_entry_step entry = lohitunga_next_entry(section, size, opened->entries);
+    for (; entry.found; entry = lohitunga_next_entry(section, size, entry.rest)) {
+        printf("service %u", entry.service_id);
+        print_service(section, size, entry.descriptors);
     }
 }
 
 /* Prints a section that has not been printed. Is the table complete? */
 static int print_section(lohitunga_roll *roll, const uint8_t *section, size_t size) {
-    lohitunga_judge_answer verdict = lohitunga_judge(section, size);
-    if (verdict.number) {
-        printf("a section is refused: %u, place %zu\n", verdict.number, verdict.place);
+    lohitunga_open_answer opened = lohitunga_open(section, size);
+    if (opened.number) {
+        printf("a section is refused: %u, place %zu\n", opened.number, opened.place);
         return 0;
     }
-    if (section[0] != LOHITUNGA_TABLE_SDT_ACTUAL)
+    if (opened.head.table_id != LOHITUNGA_TABLE_SDT_ACTUAL)
         return 0;
     lohitunga_roll before = *roll;
     lohitunga_roll_answer answer = lohitunga_roll_take(roll, section, size);
     if (answer.number)
         return 0; /* not current, or of another stream */
     int same = before.begun && before.version == roll->version && before.last == roll->last;
-    if (!same || !before.came[section[6]])
-        print_entries(section, size);
+    if (!same || !before.came[opened.head.section_number])
+        print_services(section, size, &opened);
     if (answer.complete)
         printf("complete\n");
     return answer.complete;
@@ -98,14 +92,12 @@ int main(int argc, char **argv) {
     size_t read;
     while ((read = fread(packet, 1, sizeof packet, stream)) > 0) {
         lohitunga_collect_answer answer = lohitunga_collect(&record, hold, sizeof hold, out, sizeof out, packet, read);
-        /* what is not taken hands out nothing: `sections` is then 0 */
-        const uint8_t *section = out;
-        for (size_t i = 0; i < answer.sections; i++) {
-            size_t size = 3 + (number16(section + 1) & 0xFFF);
-            if (print_section(&roll, section, size))
+        /* what is not taken hands out nothing: `size` is then 0 */
+        lohitunga_part all = {0, answer.size};
+        lohitunga_section_step step = lohitunga_next_section(out, sizeof out, all);
+        for (; step.found; step = lohitunga_next_section(out, sizeof out, step.rest))
+            if (print_section(&roll, out + step.section.start, step.section.size))
                 return 0;
-            section += size;
-        }
     }
     if (!roll.begun) {
         printf("no service table\n");

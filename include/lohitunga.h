@@ -107,6 +107,13 @@ uint32_t lohitunga_interface(void);
 #define LOHITUNGA_REFUSED_OTHER_SUB_TABLE 82
 #define LOHITUNGA_REFUSED_NO_ROLL 83
 
+/* A part of the bytes that were lent: `size` bytes from the place `start` on. What is told of no part has both 0. A call that is given a part takes any
+ * two numbers: of a part that does not lie in the bytes it hands out nothing. */
+typedef struct lohitunga_part {
+    size_t start;
+    size_t size;
+} lohitunga_part;
+
 /* CRC_32.
  * Polynomial 0x04C11DB7, register preset to ones, high bit first: the register after all bytes. It is 0 after a section that ends in its own CRC_32.
  */
@@ -163,6 +170,16 @@ lohitunga_record lohitunga_fresh(uint16_t pid);
 lohitunga_collect_answer lohitunga_collect(lohitunga_record *record, uint8_t *hold, size_t hold_size, uint8_t *out, size_t out_size,
                                            const uint8_t *packet, size_t packet_size);
 
+/* The sections of the out room, in turn, so that no caller cuts them by a length. `rest` is at first the part that lohitunga_collect filled, of which
+ * the start is 0 and the size its answer's; then what the step before left. All sections that were collected come out, in order. */
+typedef struct lohitunga_section_step {
+    uint8_t found; /* 1 for a section; 0 where there is none, and then `section` is no part */
+    lohitunga_part section;
+    lohitunga_part rest; /* the sections behind it; where there is none, what was asked for */
+} lohitunga_section_step;
+
+lohitunga_section_step lohitunga_next_section(const uint8_t *out, size_t size, lohitunga_part rest);
+
 /* Sections.
  *
  * number   given when                                                                                              place
@@ -196,7 +213,71 @@ typedef struct lohitunga_search_answer {
 /* The first descriptor with the tag, in reading order. */
 lohitunga_search_answer lohitunga_search(const uint8_t *section, size_t size, uint8_t tag);
 
-/* The walk over one loop of descriptors. */
+/* A section by its parts.
+ * lohitunga_open judges a section and tells where its loops and entries stand; lohitunga_next_entry and lohitunga_next_descriptor go over them, and hand
+ * out what the table of EN 300 468 has there, all of it and in order. No call judges again. All parts are of the section, which each call is lent.
+ *
+ *     lohitunga_open_answer opened = lohitunga_open(section, size);
+ *     lohitunga_entry_step entry = lohitunga_next_entry(section, size, opened.entries);
+ *     for (; entry.found; entry = lohitunga_next_entry(section, size, entry.rest)) {
+ *         lohitunga_descriptor_step step = lohitunga_next_descriptor(section, size, entry.descriptors);
+ *         for (; step.found; step = lohitunga_next_descriptor(section, size, step.rest))
+ *             use(section + step.descriptor.start, step.descriptor.size);
+ *     }
+ */
+
+/* What stands before a section's loops and entries; 0 for what its table does not have. */
+typedef struct lohitunga_head {
+    uint8_t table_id;
+    uint16_t network_id;          /* NIT's */
+    uint16_t bouquet_id;          /* BAT's */
+    uint16_t service_id;          /* EIT's */
+    uint16_t transport_stream_id; /* SDT's and EIT's */
+    uint16_t original_network_id; /* SDT's and EIT's */
+    uint8_t version_number;
+    uint8_t current_next_indicator;
+    uint8_t section_number;
+    uint8_t last_section_number;
+} lohitunga_head;
+
+typedef struct lohitunga_open_answer {
+    uint32_t number; /* 0, or 1 to 10 as of lohitunga_judge, and then nothing is handed out */
+    size_t place;    /* of 8 to 10; else 0 */
+    lohitunga_head head;
+    lohitunga_part utc_time; /* TDT's and TOT's, for lohitunga_time_from */
+    lohitunga_part top;      /* the top loop of NIT, BAT and TOT, for lohitunga_next_descriptor */
+    lohitunga_part entries;  /* of NIT, BAT, SDT and EIT, for lohitunga_next_entry */
+} lohitunga_open_answer;
+
+lohitunga_open_answer lohitunga_open(const uint8_t *section, size_t size);
+
+/* An entry: a transport stream of NIT and BAT, a service of SDT, an event of EIT; 0 and no part for what its table does not have. */
+typedef struct lohitunga_entry_step {
+    uint8_t found;                /* 1 for an entry; 0 behind the last, and then the fields below but for `rest` are 0 */
+    uint16_t service_id;          /* SDT's */
+    uint16_t event_id;            /* EIT's */
+    uint16_t transport_stream_id; /* NIT's and BAT's */
+    uint16_t original_network_id; /* NIT's and BAT's */
+    lohitunga_part fixed;         /* all bytes before its loop */
+    lohitunga_part start_time;    /* EIT's, for lohitunga_time_from */
+    lohitunga_part duration;      /* EIT's, for lohitunga_duration_from */
+    lohitunga_part descriptors;   /* its loop, for lohitunga_next_descriptor */
+    lohitunga_part rest;          /* the entries behind it; behind the last, what was asked for */
+} lohitunga_entry_step;
+
+lohitunga_entry_step lohitunga_next_entry(const uint8_t *section, size_t size, lohitunga_part rest);
+
+typedef struct lohitunga_descriptor_step {
+    uint8_t found; /* 1 for a descriptor; 0 behind the last, and then the fields below but for `rest` are 0 */
+    uint8_t tag;
+    lohitunga_part descriptor; /* from its tag on, as the readings below take it */
+    lohitunga_part body;
+    lohitunga_part rest; /* the descriptors behind it; behind the last, what was asked for */
+} lohitunga_descriptor_step;
+
+lohitunga_descriptor_step lohitunga_next_descriptor(const uint8_t *section, size_t size, lohitunga_part rest);
+
+/* The walk over one loop of descriptors, which need not be a section's. */
 
 typedef struct lohitunga_walk_answer {
     uint32_t number;     /* 0, or 9 where no descriptor can be read at the place */
@@ -256,12 +337,6 @@ lohitunga_section_answer lohitunga_to_section(const uint8_t *sheet, size_t size,
  *   65     an MJD below 15,079
  * 61, 62 and 66 come first, in this order; then the fields from left to right, each 63, 64, 65.
  */
-
-/* A part of the descriptor's bytes: `size` bytes from the place `start` on. */
-typedef struct lohitunga_part {
-    size_t start;
-    size_t size;
-} lohitunga_part;
 
 typedef struct lohitunga_text_answer {
     uint32_t number; /* 0, 61, 62 */
@@ -465,6 +540,9 @@ typedef struct lohitunga_time_answer {
 /* An MJD of 16 bits and six digits. Forty ones are the undefined time. */
 lohitunga_time_answer lohitunga_read_time(uint16_t mjd, uint8_t hour, uint8_t minute, uint8_t second);
 
+/* The same out of its five bytes: UTC_time, or an event's start_time. Bytes that are not there count as 0; later ones are not looked at. */
+lohitunga_time_answer lohitunga_time_from(const uint8_t *bytes, size_t size);
+
 typedef struct lohitunga_duration {
     uint8_t hour; /* 0 to 99 */
     uint8_t minute;
@@ -477,6 +555,9 @@ typedef struct lohitunga_duration_answer {
 } lohitunga_duration_answer;
 
 lohitunga_duration_answer lohitunga_read_duration(uint8_t hour, uint8_t minute, uint8_t second);
+
+/* The same out of its three bytes. Bytes that are not there count as 0; later ones are not looked at. */
+lohitunga_duration_answer lohitunga_duration_from(const uint8_t *bytes, size_t size);
 
 typedef struct lohitunga_offset_answer {
     uint32_t number; /* 0, 63, 64 */

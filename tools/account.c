@@ -1,9 +1,10 @@
 /* The account of a stream over the library, for a PID that is chosen, and why packets were refused.
  *
- *     account [--why] [--pid PID]     packets on standard input; PID in hexadecimal; without one it is that of the first packet
+ *     account [--why] [--pid PID]     packets on standard input; PID in hexadecimal, else that of the first packet
  *
- * The listing on standard output is that of the proved account program. With --why standard error tells of each refusal how many packets it met and
- * where the first of them begins, and what may explain them. It ends with 1 where the stream cannot be read or the listing not written.
+ * The listing on standard output is that of the proved account program. With --why standard error tells of each
+ * refusal how many packets it met and where the first of them begins, and what may explain them. It ends with 1 where
+ * the stream cannot be read or the listing not written.
  */
 #include <errno.h>
 #include <inttypes.h>
@@ -14,7 +15,8 @@
 #include "lohitunga.h"
 #include "lohitunga_text.h"
 
-enum { FIRST_REFUSAL = LOHITUNGA_REFUSED_PACKET_SIZE, LAST_REFUSAL = LOHITUNGA_REFUSED_POINTER, PIDS = 8192, BEGINNING = 2048, SHOWN = 8 };
+enum { FIRST_REFUSAL = LOHITUNGA_REFUSED_PACKET_SIZE, LAST_REFUSAL = LOHITUNGA_REFUSED_POINTER };
+enum { PIDS = 8192, BEGINNING = 2048, SHOWN = 8 };
 
 typedef struct refusals {
     uint64_t packets;
@@ -39,7 +41,8 @@ static void fails(const char *what) {
 
 static void take(account *all, const uint8_t *packet, size_t size, uint64_t at) {
     static uint8_t hold[LOHITUNGA_HOLD], out[LOHITUNGA_OUT];
-    lohitunga_collect_answer answer = lohitunga_collect(&all->record, hold, sizeof hold, out, sizeof out, packet, size);
+    lohitunga_collect_answer answer =
+        lohitunga_collect(&all->record, hold, sizeof hold, out, sizeof out, packet, size);
     if (answer.number) {
         refusals *met = &all->by_number[answer.number - FIRST_REFUSAL];
         if (met->packets++ == 0)
@@ -83,11 +86,14 @@ static void print(const account *all) {
     printf("sections %" PRIu64 "\n", all->sections);
 }
 
-/* Is there a byte 0x47 at this place and at each that follows by so many bytes, but for one? Five of them are no chance. */
+/* Is there a byte 0x47 at this place and at each that follows by so many bytes, but for one? Five are no chance. */
 static int synchronised(const account *all, size_t at, size_t size) {
     size_t found = 0, missed = 0;
     for (; at < all->begun; at += size)
-        *(all->beginning[at] == 0x47 ? &found : &missed) += 1;
+        if (all->beginning[at] == 0x47)
+            found++;
+        else
+            missed++;
     return found >= 5 && missed <= 1;
 }
 
@@ -96,16 +102,15 @@ static void explain_size(const account *all) {
     static const struct {
         size_t size;
         const char *what;
-    } sizes[] = {{188, "packets of 188 bytes"},
+    } sizes[] = {{188, "leave out what is before"},
                  {204, "packets of 204 bytes, 188 and 16 that correct them: leave out the last 16 of each"},
                  {192, "packets of 192 bytes, a time of 4 and then 188: leave out the first 4 of each"}};
     for (size_t i = 0; i < sizeof sizes / sizeof *sizes; i++)
         for (size_t at = 0; at < sizes[i].size; at++)
             if (synchronised(all, at, sizes[i].size)) {
-                if (sizes[i].size != LOHITUNGA_PACKET)
-                    fprintf(stderr, "    0x47 stands at every %zu bytes from byte %zu on: %s\n", sizes[i].size, at, sizes[i].what);
-                else if (at > 0)
-                    fprintf(stderr, "    0x47 stands at every 188 bytes from byte %zu on: leave out what is before\n", at);
+                if (at > 0 || sizes[i].size != LOHITUNGA_PACKET)
+                    fprintf(stderr, "    0x47 stands at every %zu bytes from byte %zu on: %s\n", sizes[i].size, at,
+                            sizes[i].what);
                 return;
             }
 }
@@ -147,8 +152,8 @@ static void explain(account *all) {
         const refusals *met = &all->by_number[number - FIRST_REFUSAL];
         if (met->packets == 0)
             continue;
-        fprintf(stderr, "%" PRIu32 ": %" PRIu64 " packet%s, the first at byte %" PRIu64 ". %s\n", number, met->packets, met->packets == 1 ? "" : "s",
-                met->first, lohitunga_text(number));
+        fprintf(stderr, "%" PRIu32 ": %" PRIu64 " packet%s, the first at byte %" PRIu64 ". %s\n", number, met->packets,
+                met->packets == 1 ? "" : "s", met->first, lohitunga_text(number));
         if (number == LOHITUNGA_REFUSED_SYNC_BYTE)
             explain_size(all);
         if (number == LOHITUNGA_REFUSED_OTHER_PID)
@@ -157,7 +162,8 @@ static void explain(account *all) {
 }
 
 static int usage(const char *name) {
-    fprintf(stderr, "usage: %s [--why] [--pid PID], packets on standard input; PID in hexadecimal, 0000 to 1FFF\n", name);
+    fprintf(stderr, "usage: %s [--why] [--pid PID], packets on standard input; PID in hexadecimal, 0000 to 1FFF\n",
+            name);
     return 2;
 }
 

@@ -43,6 +43,7 @@ static size_t used_by(void (*thunk)(void), int paint) {
 /* What the thunks lend. */
 static const uint8_t *bytes;
 static size_t size, number;
+static lohitunga_part rest;
 static uint8_t hold[LOHITUNGA_HOLD], out[LOHITUNGA_OUT], room[LOHITUNGA_SHEET_ROOM];
 static lohitunga_record record;
 static lohitunga_roll roll;
@@ -55,7 +56,13 @@ static volatile uint8_t taken[512];
     CALL(lohitunga_collect, lohitunga_collect_answer, (&record, hold, sizeof hold, out, sizeof out, bytes, size)) \
     CALL(lohitunga_judge, lohitunga_judge_answer, (bytes, size)) \
     CALL(lohitunga_search, lohitunga_search_answer, (bytes, size, number)) \
+    CALL(lohitunga_open, lohitunga_open_answer, (bytes, size)) \
+    CALL(lohitunga_next_section, lohitunga_section_step, (bytes, size, rest)) \
+    CALL(lohitunga_next_entry, lohitunga_entry_step, (bytes, size, rest)) \
+    CALL(lohitunga_next_descriptor, lohitunga_descriptor_step, (bytes, size, rest)) \
     CALL(lohitunga_walk, lohitunga_walk_answer, (bytes, size, number)) \
+    CALL(lohitunga_time_from, lohitunga_time_answer, (bytes, size)) \
+    CALL(lohitunga_duration_from, lohitunga_duration_answer, (bytes, size)) \
     CALL(lohitunga_read_network_name, lohitunga_text_answer, (bytes, size)) \
     CALL(lohitunga_read_stuffing, lohitunga_text_answer, (bytes, size)) \
     CALL(lohitunga_read_service, lohitunga_service_answer, (bytes, size)) \
@@ -197,6 +204,7 @@ static void section(const uint8_t *from, size_t n) {
         }
         lend(turned, k == 1 ? n - 1 : n);
         number = k % 2 ? 0x48 : 0x11;
+        rest = k % 3 ? lohitunga_open(bytes, size).entries : (lohitunga_part){0, size};
         for (int i = call_lohitunga_crc32; i <= call_lohitunga_walk; i++)
             if (i != call_lohitunga_collect)
                 measure(i);

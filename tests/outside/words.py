@@ -1,6 +1,7 @@
 #!/usr/bin/env python3
-"""The command ./account as a user meets it: its words, files that cannot be read, a full disk, a symbolic link, a program that is older than its
-sources; and --why and --pid, whose account is the one that samples/make.py keeps and whose refusals are told here by rules of their own.
+"""The command ./account as a user meets it: its words, files that cannot be read, a full disk, a symbolic link, a
+program that is older than its sources; and --why and --pid, whose account is the one that samples/make.py keeps and
+whose refusals are told here by rules of their own.
 """
 import os
 import shutil
@@ -26,7 +27,8 @@ def expect(name, ran, status, out, *said):
     """This status and standard output, and these words on standard error; nothing there where none are named."""
     missing = [word for word in said if word not in ran[2]]
     if ran[:2] != (status, out) or missing or (not said and ran[2]):
-        sys.exit(f"account: {name}: status {ran[0]}, it wrote {ran[1]!r} and said {ran[2]!r}; expected {status}, {out!r}, {said}")
+        met = f"status {ran[0]}, it wrote {ran[1]!r} and said {ran[2]!r}"
+        sys.exit(f"account: {name}: {met}; expected {status}, {out!r}, {said}")
     print(f"account: {name}: as expected")
 
 
@@ -44,7 +46,8 @@ def files(room):
     expect("a directory", run("samples"), 1, "", "samples: it is a directory")
     for word in ([], ["--why"]):
         with open("/dev/full", "wb") as full:
-            expect(" ".join(["a full disk"] + word), run(*word, STREAM, out=full), 1, "", "standard output: ", "No space left on device")
+            ran = run(*word, STREAM, out=full)
+        expect(" ".join(["a full disk"] + word), ran, 1, "", "standard output: ", "No space left on device")
     spaced = room / "a stream.ts"
     shutil.copy(STREAM, spaced)
     link = room / "linked"
@@ -55,8 +58,9 @@ def files(room):
 
 def sources(room):
     """A copy of what the program rests on, with all that was proved of it."""
-    copy = room / "copy"
-    rests = [line.split(":")[1].split() for line in (TOP / "crates.txt").read_text().split("\n") if line.startswith("account:")][0]
+    copy = room / "a copy"
+    lines = (TOP / "crates.txt").read_text().split("\n")
+    rests = [line for line in lines if line.startswith("account:")][0].split(":")[1].split()
     rests = [crate for crate in rests if (TOP / "crates" / crate).is_dir()] + ["account"]
     for crate in rests:
         shutil.copytree(TOP / "crates" / crate, copy / "crates" / crate)
@@ -64,7 +68,7 @@ def sources(room):
         (copy / name).parent.mkdir(parents=True, exist_ok=True)
         shutil.copy2(TOP / name, copy / name)
     shutil.copytree(TOP / "target/stamp", copy / "target/stamp")
-    listed = [line for line in (TOP / "crates.txt").read_text().split("\n") if line.split(":")[0] in rests]
+    listed = [line for line in lines if line.split(":")[0] in rests]
     (copy / "crates.txt").write_text("\n".join(listed) + "\n")
     account = copy / "account"
     text = make.account(STREAM.read_bytes())
@@ -82,7 +86,8 @@ def refused(data, pid):
         p = data[at : at + 188]
         control = p[3] >> 4 & 3 if len(p) == 188 else 0
         payload = 184 if control == 1 else 183 - p[4] if control == 3 else 0
-        rules = [(41, len(p) < 188), (44, p[0] != 0x47), (45, p[1] & 0x80), (46, (p[1] & 31) << 8 | p[2] != pid), (47, p[3] & 0xC0)]
+        rules = [(41, len(p) < 188), (44, p[0] != 0x47), (45, p[1] & 0x80)]
+        rules += [(46, (p[1] & 31) << 8 | p[2] != pid), (47, p[3] & 0xC0)]
         rules += [(48, control == 0 or control == 3 and p[4] > 182 or control == 2 and p[4] != 183)]
         rules += [(49, payload and p[1] & 0x40 and p[188 - payload] > payload - 2)]
         number = next((number for number, holds in rules if holds), 0)
@@ -93,27 +98,34 @@ def refused(data, pid):
 
 
 def told(data, pid):
-    return [f"{number}: {count} packet{'s' if count > 1 else ''}, the first at byte {first}. " for number, (count, first) in refused(data, pid)]
+    return [
+        f"{number}: {count} packet{'s' if count > 1 else ''}, the first at byte {first}. "
+        for number, (count, first) in refused(data, pid)
+    ]
 
 
 def why():
     data = STREAM.read_bytes()
-    expect("--why", run("--why", STREAM), 0, make.account(data), *told(data, 0x14), "1 other PID, which --pid chooses: 0011 (SDT, BAT) 4\n")
+    hint = "1 other PID, which --pid chooses: 0011 (SDT, BAT) 4\n"
+    expect("--why", run("--why", STREAM), 0, make.account(data), *told(data, 0x14), hint)
     services = (TOP / "samples/services.ts").read_bytes()
     for pid in (0x11, 0x12, 0x1234):
         words = ("--why", "--pid", f"{pid:04X}")
-        expect(" ".join(words), run(*words, data=services), 0, make.account(services, pid), *told(services, pid), "which --pid chooses:")
+        ran = run(*words, data=services)
+        expect(" ".join(words), ran, 0, make.account(services, pid), *told(services, pid), "which --pid chooses:")
     packets = [data[at : at + 188] for at in range(0, 188 * 40, 188)]
     long = b"".join(p + bytes(range(16)) for p in packets)
     stamped = b"".join(bytes(4) + p for p in packets)
     for name, stream, hint in (
         ("packets of 204 bytes", long, "0x47 stands at every 204 bytes from byte 0 on: packets of 204 bytes"),
         ("packets of 192 bytes", stamped, "0x47 stands at every 192 bytes from byte 4 on: packets of 192 bytes"),
-        ("half a packet before the first", b"".join(packets[:20])[100:], "0x47 stands at every 188 bytes from byte 88 on: leave out"),
+        ("half a packet first", b"".join(packets[:20])[100:], "0x47 stands at every 188 bytes from byte 88 on: leave"),
     ):
         pid = (stream[1] & 31) << 8 | stream[2]
         expect(name, run("--why", data=stream), 0, make.account(stream), *told(stream, pid), hint)
-    expect("--why, nothing refused", run("--why", TOP / "crates/account/stdin"), 0, (TOP / "crates/account/stdout").read_text(), "no packet was refused")
+    worked = TOP / "crates/account"
+    text = (worked / "stdout").read_text()
+    expect("--why, nothing refused", run("--why", worked / "stdin"), 0, text, "no packet was refused")
     expect("--why, no packets", run("--why", data=data[:187]), 0, "no packets\n")
 
 

@@ -2,3 +2,4 @@
 pub mod Mapped
 pub mod Outcomes
 pub mod SheetNumbers
+pub mod HeadParts

@@ -8,7 +8,8 @@ use borrow.Author.Tests.{eqb-true}
 use Rattle.wire.specs.If.{if_then_else_}
 use Rattle.wire.proofs.IfLaws.{if-case}
 use Rattle.collector.specs.Answer as collector
-use Rattle.collector.specs.Refusals.{beforeOf, cannotStand, Ruling, refused, repeated, bare, takes, ruling}
+use Rattle.packet.specs.Ruling.{Ruling, refused, repeated, bare, takes, ruling}
+use Rattle.collector.specs.Refusals.{beforeOf, cannotStand, tooSmall}
 use Rattle.collector.specs.Collected.{unaltered, outcomeOf, collected}
 use Rattle.collector.specs.declared.Last.the-variants.{None, Counter}
 use Rattle.collector.specs.declared.Record as of-collector
@@ -54,7 +55,7 @@ pub collect-refused : (r : Record) (hold out packet : List ℕ) → (collecting 
 unfolding collecting
 collect-refused r hold out packet h =
     let x = recordIn r in
-    let ruled = ruling (cannotStand x hold) (x .pid) (beforeOf x) (length hold) (length out) packet in
+    let ruled = ruling (tooSmall (length hold) (length out)) (cannotStand x hold) (x .pid) (beforeOf x) packet in
     ap (Collect.outcomeSays r) (unaltered-by x hold out ruled h) ∙ ap (λ (y : Record). Collect.leaves y hold out (collectSays (outcomeOf x hold out ruled .said))) (record-kept r)
 
 kept-by : (r : numbers.Roll) (after : of-roll.Roll) (says : Says) → (Roll.rollAnswer says .number ≡ 0 → ⊥) → Roll.keeps r after says ≡ r

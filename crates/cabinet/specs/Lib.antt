@@ -6,6 +6,7 @@ pub mod Search
 pub mod Walk
 pub mod Texts
 pub mod Clock
+pub mod Parts
 pub mod Lists
 pub mod Delivery
 pub mod Roll

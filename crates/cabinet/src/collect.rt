@@ -1,11 +1,12 @@
 // The collector, with its record as numbers.
 ghost use mathlib.Core.Path.{_≡_};
-ghost use Rattle.collector.specs.Answer.{numberOf, told};
+ghost use Rattle.packet.specs.Judgement.{numberOf};
+ghost use Rattle.collector.specs.Answer.{told};
 ghost use Rattle.collector.specs.Collected.{freshRecord};
 ghost use Rattle.cabinet.specs.Collect.{lastIn, lastSays, zeros, recordIn, recordAfter, recordSays, collectSays, leaves, collecting};
 use collector::Answer;
 use collector::Last;
-use collector::Refusal;
+use packet::Refusal;
 
 // The number that stands for no counter. It is above 15 as those are that no counter has, so that each value of a byte has a meaning.
 pub const NO_COUNTER: u8 = 255;

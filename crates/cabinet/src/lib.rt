@@ -9,6 +9,7 @@ pub mod list_readings;
 mod moments;
 mod numbers;
 pub mod rolls;
+pub mod section_parts;
 pub mod sheets;
 pub mod tag_search;
 pub mod text_readings;

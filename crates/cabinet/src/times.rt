@@ -79,7 +79,7 @@ pub extern "C" fn lohitunga_read_time(mjd: u16, hour: u8, minute: u8, second: u8
     }
 }
 
-fn duration_of(t: clock::Hms) -> Duration
+pub fn duration_of(t: clock::Hms) -> Duration
     ensures { λ r. ⌜ r ≡ durationSays t ⌝ }
 {
     Duration {
@@ -89,7 +89,7 @@ fn duration_of(t: clock::Hms) -> Duration
     }
 }
 
-fn no_duration() -> Duration
+pub fn no_duration() -> Duration
     ensures { λ r. ⌜ r ≡ noDuration ⌝ }
 {
     Duration {

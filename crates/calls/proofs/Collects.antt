@@ -10,10 +10,12 @@ use lib.ListN.{length}
 use lib.Dec.{eqb}
 use borrow.Author.Tests.{ne-eqb, eqb-true, eqb-false}
 use Rattle.wire.proofs.IfLaws.{if-case}
-use Rattle.collector.specs.Packet.{control}
-use Rattle.collector.specs.Rules.{Before}
-use Rattle.collector.specs.Refusals.{beforeOf, cannotStand, Judged, refuse, carries, judgedBy, judged, repeats, firstOf, refusals, Ruling, refused, repeated, takes, ruledBy, ruling}
-use Rattle.collector.specs.Refusals as Refusals
+use Rattle.packet.specs.Header.{control}
+use Rattle.packet.specs.Ruling.{Before, repeats, Ruling, refused, repeated, takes, ruledBy, ruling}
+use Rattle.packet.specs.Refusals.{Judged, refuse, has-payload, judgedBy, judged, firstOf, refusals}
+use Rattle.collector.specs.Refusals.{beforeOf, cannotStand, tooSmall}
+use Rattle.packet.specs.Refusals as Refusals
+use Rattle.packet.specs.Ruling as Ruled
 use Rattle.collector.specs.Answer as collector
 use Rattle.collector.specs.Collected.{freshRecord, outcomeOf, collected}
 use Rattle.history.specs.Run as beneath
@@ -29,12 +31,12 @@ use Rattle.cabinet.specs.declared.collect.Record.{Record}
 abbrev SmallJudged : Judged → Type 0
 SmallJudged (refuse n) = Unit {0}
 SmallJudged Refusals.bare = Unit {0}
-SmallJudged (carries at start counter) = counter < 16
+SmallJudged (has-payload at start counter) = counter < 16
 
 abbrev Small : Ruling → Type 0
 Small (refused n) = Unit {0}
 Small repeated = Unit {0}
-Small Refusals.bare = Unit {0}
+Small Ruled.bare = Unit {0}
 Small (takes q) = q .counter < 16
 
 small-by : (o : Option ℕ) (packet : List ℕ) → SmallJudged (judgedBy o packet)
@@ -44,14 +46,14 @@ small-by none packet = if-case SmallJudged (eqb (control packet) 2) (λ _. tt) (
 small-ruled : (before : Before) (packet : List ℕ) (j : Judged) → SmallJudged j → Small (ruledBy before packet j)
 small-ruled before packet (refuse n) x = tt
 small-ruled before packet Refusals.bare x = tt
-small-ruled before packet (carries at start counter) x = if-case Small (repeats before counter) (λ _. tt) (λ _. x)
+small-ruled before packet (has-payload at start counter) x = if-case Small (repeats before counter) (λ _. tt) (λ _. x)
 
-small : (unfit : Bool) (pid : ℕ) (before : Before) (hold out : ℕ) (packet : List ℕ)
-    → Small (ruling unfit pid before hold out packet)
+small : (few unfit : Bool) (pid : ℕ) (before : Before) (packet : List ℕ)
+    → Small (ruling few unfit pid before packet)
 unfolding judged
-small unfit pid before hold out packet =
-    small-ruled before packet (judged unfit pid hold out packet)
-    (small-by (firstOf (refusals unfit pid hold out packet)) packet)
+small few unfit pid before packet =
+    small-ruled before packet (judged few unfit pid packet)
+    (small-by (firstOf (refusals few unfit pid packet)) packet)
 
 -- ---- a record that its numbers tell
 
@@ -65,13 +67,13 @@ told-after : (x : of.Record) (hold out : List ℕ) (ruled : Ruling) → Small ru
     → Told (outcomeOf x hold out ruled .rec)
 told-after x hold out (refused n) s t = t
 told-after x hold out repeated s t = t
-told-after x hold out Refusals.bare s t = t
+told-after x hold out Ruled.bare s t = t
 told-after x hold out (takes q) s t = told-counter (q .counter) s
 
 told-on : (x : of.Record) (hold out packet : List ℕ) → Told x → Told (collected x hold out packet .rec)
 told-on x hold out packet t =
-    told-after x hold out (ruling (cannotStand x hold) (x .pid) (beforeOf x) (length hold) (length out) packet)
-    (small (cannotStand x hold) (x .pid) (beforeOf x) (length hold) (length out) packet) t
+    told-after x hold out (ruling (tooSmall (length hold) (length out)) (cannotStand x hold) (x .pid) (beforeOf x) packet)
+    (small (tooSmall (length hold) (length out)) (cannotStand x hold) (x .pid) (beforeOf x) packet) t
 
 told-back : (x : of.Record) → Told x → recordIn (recordSays x) ≡ x
 told-back x t =
@@ -130,7 +132,7 @@ same-meaning r r′ spare counter e =
 pid-kept : (x : of.Record) (hold out : List ℕ) (ruled : Ruling) → outcomeOf x hold out ruled .rec .pid ≡ x .pid
 pid-kept x hold out (refused n) = refl
 pid-kept x hold out repeated = refl
-pid-kept x hold out Refusals.bare = refl
+pid-kept x hold out Ruled.bare = refl
 pid-kept x hold out (takes q) = refl
 
 last-alike : (n m : ℕ) → lastIn n ≡ lastIn m → n ≡ m
@@ -150,7 +152,7 @@ pub keeps-numbers : KeepsNumbers Promised
 unfolding collecting
 keeps-numbers r hold out packet o is =
     let x = recordIn r in
-    let ruled = ruling (cannotStand x hold) (x .pid) (beforeOf x) (length hold) (length out) packet in
+    let ruled = ruling (tooSmall (length hold) (length out)) (cannotStand x hold) (x .pid) (beforeOf x) packet in
     subst (λ (z : Outcome). Kept r (z .rec)) (sym is)
     (kept-by r (collected x hold out packet .rec) (pid-kept x hold out ruled))
 

@@ -1,6 +1,6 @@
 -- An accepted section is made of what it contains.
 use Prim.{Unit, tt}
-use Prim.Native.Nat.{ℕ, zero, suc, _+_, _-_, _*_, _/_, _%_, _^_, _<_, _≤_}
+use Prim.Native.Nat.{ℕ, suc, _+_, _-_, _*_, _/_, _%_, _<_, _≤_}
 use mathlib.Core.Path.{_≡_, refl, sym, ap, ap₂, _∙_, subst}
 use mathlib.Core.List.{List, [], _∷_, _++_, append-assoc, append-nil}
 use mathlib.Core.Bool.{Bool, true, false}
@@ -14,7 +14,7 @@ use Rattle.wire.specs.Bytes.{Bytes, len12, len12At}
 use Rattle.wire.proofs.PartLaws.{two-front}
 use Rattle.crc.specs.Crc.{crc, bytesOf}
 use Rattle.crc.proofs.Closes.{closes-exactly}
-use Rattle.tables.specs.Tables.{cell, rowOf, rowAt, InRow}
+use Rattle.tables.specs.Tables.{cell, rowOf, rowAt}
 use Rattle.tables.proofs.RowLaws.{row-is}
 use Rattle.verdict.specs.Verdict.{accepted}
 use Rattle.loops.specs.Descriptors.{Placed}
@@ -22,23 +22,24 @@ use Rattle.loops.specs.Grammar as loops
 use Rattle.section.specs.Grammar as grammar
 use Rattle.section.specs.Reading.{judged}
 use Rattle.section.proofs.Exactly.{accepted-exactly-if}
-use Rattle.forms.specs.Form.{Form, mute, _then_, each, eachShow, EachOk}
-use Rattle.forms.specs.Fields.{Field, room, pack, unpack, Fit}
-use Rattle.forms.specs.Lists.{loop, loopShow, filling, all, All, none, one}
+use Rattle.forms.specs.Form.{Form, _then_, each, eachShow, EachOk}
+use Rattle.forms.specs.Fields.{Field, room, pack, unpack}
+use Rattle.forms.specs.Lists.{loop, loopShow, all, All, none, one}
 use Rattle.forms.proofs.Lawful.{bytes-behind, bytes-front}
 use Rattle.forms.proofs.FieldLaws.{pack-unpack, unpack-fits}
-use Rattle.sheet.specs.Content.{Item, plain, numbers, packed, bare, frame, headOf, entryOf, sideOf, Fields, Descriptor, Loop, Entry, Entries, Body, Content, tableOf, frameOf, bodyOf, rowIn}
-use Rattle.sheet.specs.Sheet.{inOrder, descriptor}
-use Rattle.sheet.specs.Section.{sectionItem, sectionLoop, sectionEntry, sectionTop, sectionEntries, sectionBody, bodyBytes, sectionLength, front, seal, sectionOf}
-use Rattle.contents.specs.Holds.{Holds, entriesBytes}
-use Rattle.contents.proofs.SectionLaws.{half-bare, half-side, sizeOf, sizes, Numbers, numbers-of, shown-alike}
+use Rattle.sheet.specs.Content.{Item, plain, numbers, packed, bare, frame, headOf, entryOf, sideOf, Descriptor, Loop, Entry, Entries, Body, Content}
+use Rattle.sheet.specs.Sheet.{descriptor}
+use Rattle.sheet.specs.Section.{sectionItem, sectionLoop, sectionEntry, sectionTop, sectionEntries, sectionBody, sectionLength, front, seal, sectionOf}
+use Rattle.contents.specs.Holds.{Holds}
+use Rattle.contents.proofs.SectionLaws.{half-bare, half-side, sizes, Numbers, each-row, numbers-of}
 
 -- ---- descriptors
 
 abbrev pub Made : {A : Type 0} → Form A → List ℕ → Type 0
 Made {A} c l = (a : A) × c .Ok a × (c .show a ≡ l)
 
-pub descriptors-are : {p : ℕ} {l : List ℕ} {ds : List Placed} → loops.Descriptors p l ds → Bytes l → (m : List Descriptor) × All descriptor m × (all descriptor m ≡ l)
+pub descriptors-are : {p : ℕ} {l : List ℕ} {ds : List Placed} → loops.Descriptors p l ds → Bytes l
+    → (m : List Descriptor) × All descriptor m × (all descriptor m ≡ l)
 unfolding all
 descriptors-are loops.none w = ([], none, refl)
 descriptors-are (loops.one tag body {l = l} d) w =
@@ -46,7 +47,8 @@ descriptors-are (loops.one tag body {l = l} d) w =
     (record { tag = tag; body = body } ∷ r .0, one (w 1) (r .1), ap (λ x. tag ∷ length body ∷ (body ++ x)) (r .2))
 
 -- two bytes, and items that are as long as they say
-sized-is : {A : Type 0} (c : Form A) (fs : List Field) → room fs ≡ 16 → (x y : ℕ) (l : List ℕ) → x < 256 → y < 256 → len12 x y ≡ length l
+sized-is : {A : Type 0} (c : Form A) (fs : List Field) → room fs ≡ 16 → (x y : ℕ) (l : List ℕ) → x < 256 → y < 256
+    → len12 x y ≡ length l
     → (m : List A) × All c m × (all c m ≡ l) → Made (loop c fs) (x ∷ y ∷ l)
 unfolding loopShow
 sized-is c fs half x y l bx by e m =
@@ -54,10 +56,14 @@ sized-is c fs half x y l bx by e m =
     let k : x / 16 < room fs = omega arith in
     let q = pack-unpack fs (x / 16) k in
     let i : pack fs (unpack fs (x / 16)) * 16 + length (all c (m .0)) / 256 ≡ x = omega arith in
-    let j : length (all c (m .0)) % 256 ≡ y = omega arith in
-    ((unpack fs (x / 16), m .0), (unpack-fits fs (x / 16) k, omega arith, m .1), ap₂ (λ a b. a ∷ b ∷ all c (m .0)) i j ∙ ap (λ z. x ∷ y ∷ z) (m .2))
+    let j : length (all c (m .0)) % 256 ≡ y = omega arith in (
+      (unpack fs (x / 16), m .0),
+      (unpack-fits fs (x / 16) k, omega arith, m .1),
+      ap₂ (λ a b. a ∷ b ∷ all c (m .0)) i j ∙ ap (λ z. x ∷ y ∷ z) (m .2),
+    )
 
-pub loop-is : (fs : List Field) → room fs ≡ 16 → (x y : ℕ) (l : List ℕ) {p : ℕ} {ds : List Placed} → Bytes (x ∷ y ∷ l) → len12 x y ≡ length l
+pub loop-is : (fs : List Field) → room fs ≡ 16 → (x y : ℕ) (l : List ℕ) {p : ℕ} {ds : List Placed} → Bytes (x ∷ y ∷ l)
+    → len12 x y ≡ length l
     → loops.Descriptors p l ds → Made (sectionLoop fs) (x ∷ y ∷ l)
 loop-is fs half x y l w e d = sized-is descriptor fs half x y l (w 0) (w 1) e (descriptors-are d (λ i. w (suc (suc i))))
 
@@ -81,7 +87,8 @@ Ordered (packed fs ∷ xs) l = Ordered xs (drop 1 l)
 parted : (n : ℕ) (l : List ℕ) (k : ℕ) → length l ≡ n + k → (length (take n l) ≡ n) × (length (drop n l) ≡ k)
 parted n l k e = (length-take-le n l (omega arith), length-drop n l ∙ omega arith)
 
-pub items-are : (xs : List Item) → Octets xs → (l : List ℕ) → Bytes l → length l ≡ sizes xs → Ordered xs l → Made (each sectionItem xs) l
+pub items-are : (xs : List Item) → Octets xs → (l : List ℕ) → Bytes l → length l ≡ sizes xs → Ordered xs l
+    → Made (each sectionItem xs) l
 unfolding eachShow EachOk sizes
 items-are [] u [] w e o = ([], tt, refl)
 items-are [] u (x ∷ l) w e o = absurd (omega arith)
@@ -106,24 +113,15 @@ items-are (packed fs ∷ xs) u (x ∷ l) w e o =
 
 pub octets : (row : ℕ) → row < 6 → Octets (headOf row) × Octets (entryOf row)
 unfolding headOf entryOf room
-octets zero h = ((refl, tt), tt)
-octets (suc zero) h = ((refl, (refl, tt)), (refl, tt))
-octets (suc (suc zero)) h = ((refl, tt), tt)
-octets (suc (suc (suc zero))) h = ((refl, tt), tt)
-octets (suc (suc (suc (suc zero)))) h = (tt, tt)
-octets (suc (suc (suc (suc (suc zero))))) h = (tt, tt)
-octets (suc (suc (suc (suc (suc (suc row)))))) h = absurd (omega arith)
+octets =
+    each-row (λ row. Octets (headOf row) × Octets (entryOf row)) ((refl, tt), tt) ((refl, (refl, tt)), (refl, tt))
+    ((refl, tt), tt) ((refl, tt), tt) (tt, tt) (tt, tt)
 
 -- an entry has no such numbers
 entry-ordered : (row : ℕ) → row < 6 → (l : List ℕ) → Ordered (entryOf row) l
 unfolding entryOf
-entry-ordered zero h l = tt
-entry-ordered (suc zero) h l = tt
-entry-ordered (suc (suc zero)) h l = tt
-entry-ordered (suc (suc (suc zero))) h l = tt
-entry-ordered (suc (suc (suc (suc zero)))) h l = tt
-entry-ordered (suc (suc (suc (suc (suc zero))))) h l = tt
-entry-ordered (suc (suc (suc (suc (suc (suc row)))))) h l = absurd (omega arith)
+entry-ordered =
+    each-row (λ row. (l : List ℕ) → Ordered (entryOf row) l) (λ l. tt) (λ l. tt) (λ l. tt) (λ l. tt) (λ l. tt) (λ l. tt)
 
 -- in a head they stand behind extension id and version
 there : (l : List ℕ) → getD l 3 0 ≤ getD l 4 0 → getD (drop 1 (drop 2 l)) 0 0 ≤ getD (drop 1 (drop 2 l)) 1 0
@@ -132,21 +130,22 @@ there l h =
     let j : getD (drop 1 (drop 2 l)) 1 0 ≡ getD l 4 0 = ap (λ m. getD m 1 0) (drop-drop 1 2 l) ∙ getD-drop 3 l 1 0 in
     subst (λ m. m ≤ getD (drop 1 (drop 2 l)) 1 0) (sym i) (subst (λ m. getD l 3 0 ≤ m) (sym j) h)
 
-head-ordered : (row : ℕ) → row < 6 → (l : List ℕ) → (rowAt row .syntax ≡ 1 → getD l 3 0 ≤ getD l 4 0) → Ordered (headOf row) l
+abbrev HeadOrdered : ℕ → Type 0
+HeadOrdered row = (l : List ℕ) → (rowAt row .syntax ≡ 1 → getD l 3 0 ≤ getD l 4 0) → Ordered (headOf row) l
+
+head-ordered : (row : ℕ) → row < 6 → HeadOrdered row
 unfolding headOf cell
-head-ordered zero h l o = (there l (o refl), tt)
-head-ordered (suc zero) h l o = (there l (o refl), tt)
-head-ordered (suc (suc zero)) h l o = (there l (o refl), tt)
-head-ordered (suc (suc (suc zero))) h l o = (there l (o refl), tt)
-head-ordered (suc (suc (suc (suc zero)))) h l o = tt
-head-ordered (suc (suc (suc (suc (suc zero))))) h l o = tt
-head-ordered (suc (suc (suc (suc (suc (suc row)))))) h l o = absurd (omega arith)
+head-ordered =
+    each-row HeadOrdered (λ l o. (there l (o refl), tt)) (λ l o. (there l (o refl), tt)) (λ l o. (there l (o refl), tt))
+    (λ l o. (there l (o refl), tt)) (λ l o. tt) (λ l o. tt)
 
 -- ---- entries
 
 -- a list, its last two elements apart
 last-two : (h : List ℕ) (n : ℕ) → length h ≡ n + 2 → h ≡ take n h ++ (getD h n 0 ∷ getD h (n + 1) 0 ∷ [])
-last-two h n e = sym (take-append-drop n h) ∙ ap (λ z. take n h ++ z) (two-front h n (omega arith) ∙ ap (λ z. getD h n 0 ∷ getD h (n + 1) 0 ∷ z) none-left)
+last-two h n e =
+    sym (take-append-drop n h)
+    ∙ ap (λ z. take n h ++ z) (two-front h n (omega arith) ∙ ap (λ z. getD h n 0 ∷ getD h (n + 1) 0 ∷ z) none-left)
   where
     none-left : drop (n + 2) h ≡ []
     none-left = ap (λ k. drop k h) (sym e) ∙ drop-length h
@@ -155,7 +154,8 @@ module _ (row : ℕ) (known : row < 6) (size : sizes (entryOf row) + 2 ≡ rowAt
   abbrev fixed : ℕ
   fixed = rowAt row .fixed
 
-  entry-is : {p : ℕ} {ds : List Placed} (head body : List ℕ) → Bytes (head ++ body) → grammar.Head fixed head body → loops.Descriptors p body ds
+  entry-is : {p : ℕ} {ds : List Placed} (head body : List ℕ) → Bytes (head ++ body) → grammar.Head fixed head body
+      → loops.Descriptors p body ds
       → Made (sectionEntry row) (head ++ body)
   entry-is head body w h d =
       let n : ℕ = sizes (entryOf row) in
@@ -163,10 +163,12 @@ module _ (row : ℕ) (known : row < 6) (size : sizes (entryOf row) + 2 ≡ rowAt
       let y : ℕ = getD head (n + 1) 0 in
       let z = h .size in
       let c : head ≡ take n head ++ (x ∷ y ∷ []) = last-two head n (omega arith) in
-      let s : head ++ body ≡ take n head ++ (x ∷ y ∷ body) = ap (λ l. l ++ body) c ∙ append-assoc (take n head) (x ∷ y ∷ []) body in
+      let s : head ++ body ≡ take n head ++ (x ∷ y ∷ body) =
+      ap (λ l. l ++ body) c ∙ append-assoc (take n head) (x ∷ y ∷ []) body in
       let k : n ≡ fixed - 2 = omega arith in
       let l : len12 x y ≡ length body = ap (len12At head) k ∙ h .says in
-      let i = items-are (entryOf row) (octets row known .1) (take n head) (bytes-front (take n head) (x ∷ y ∷ body) s w) (length-take-le n head (omega arith)) (entry-ordered row known (take n head)) in
+      let i = items-are (entryOf row) (octets row known .1) (take n head) (bytes-front (take n head) (x ∷ y ∷ body) s w)
+      (length-take-le n head (omega arith)) (entry-ordered row known (take n head)) in
       let j = loop-is (sideOf row) (half-side row) x y body (bytes-behind (take n head) (x ∷ y ∷ body) s w) l d in
       ((i .0, j .0), (i .1, j .1), ap₂ (λ a b. a ++ b) (i .2) (j .2) ∙ sym s)
 
@@ -182,7 +184,8 @@ module _ (row : ℕ) (known : row < 6) (size : sizes (entryOf row) + 2 ≡ rowAt
 
 -- ---- between head and CRC_32
 
-module _ (row p : ℕ) (known : row < 6) (size : (rowAt row .fixed ≡ 0 → ⊥) → sizes (entryOf row) + 2 ≡ rowAt row .fixed) where
+module _ (row p : ℕ) (known : row < 6)
+    (size : (rowAt row .fixed ≡ 0 → ⊥) → sizes (entryOf row) + 2 ≡ rowAt row .fixed) where
   -- a loop and entries that are the bytes m
   pub record Inner (m : List ℕ) : Type 0 where
     pub top : Loop
@@ -201,24 +204,44 @@ module _ (row p : ℕ) (known : row < 6) (size : (rowAt row .fixed ≡ 0 → ⊥
       let et = eq-eqb (rowAt row .top) 1 t in
       let ef = eq-eqb (rowAt row .fixed) 0 f in
       let i = loop-is bare half-bare x y l w e d in
-      record { top = i .0; rest = ([], []); top-ok = rw et (i .1); rest-ok = rw ef refl; bytes = rw (et, ef) (append-nil (sectionLoop bare .show (i .0)) ∙ i .2) }
+      record {
+        top = i .0;
+        rest = ([], []);
+        top-ok = rw et (i .1);
+        rest-ok = rw ef refl;
+        bytes = rw (et, ef) (append-nil (sectionLoop bare .show (i .0)) ∙ i .2);
+      }
   inside-is (grammar.loops t f x y top e d x' y' {l = l} e' g) w =
       let et = eq-eqb (rowAt row .top) 1 t in
       let ef = ne-eqb (rowAt row .fixed) 0 f in
       let wi = bytes-front (x ∷ y ∷ top) (x' ∷ y' ∷ l) refl w in
       let wj = bytes-behind (x ∷ y ∷ top) (x' ∷ y' ∷ l) refl w in
       let i = loop-is bare half-bare x y top wi e d in
-      let j = sized-is (sectionEntry row) bare half-bare x' y' l (wj 0) (wj 1) e' (entries-are row known (size f) g (λ k. wj (suc (suc k)))) in
-      record { top = i .0; rest = j .0; top-ok = rw et (i .1); rest-ok = rw (et, ef) (j .1); bytes = rw (et, ef) (ap₂ (λ a b. a ++ b) (i .2) (j .2)) }
+      let j = sized-is (sectionEntry row) bare half-bare x' y' l (wj 0) (wj 1) e'
+      (entries-are row known (size f) g (λ k. wj (suc (suc k)))) in
+      record {
+        top = i .0;
+        rest = j .0;
+        top-ok = rw et (i .1);
+        rest-ok = rw (et, ef) (j .1);
+        bytes = rw (et, ef) (ap₂ (λ a b. a ++ b) (i .2) (j .2));
+      }
   inside-is (grammar.entries t f g) w =
       let et = ne-eqb (rowAt row .top) 1 t in
       let ef = ne-eqb (rowAt row .fixed) 0 f in
       let r = entries-are row known (size f) g w in
-      record { top = ([], []); rest = ([], r .0); top-ok = rw et refl; rest-ok = rw (et, ef) (refl, (refl, r .1)); bytes = rw (et, ef) (r .2) }
+      record {
+        top = ([], []);
+        rest = ([], r .0);
+        top-ok = rw et refl;
+        rest-ok = rw (et, ef) (refl, (refl, r .1));
+        bytes = rw (et, ef) (r .2);
+      }
 
 -- ---- the whole section
 
-module _ (s : List ℕ) (w : Bytes s) (inner : List ℕ) (cut : grammar.Cut (rowOf (getD s 0 0)) s inner) (h : grammar.Header (rowAt (rowOf (getD s 0 0))) s)
+module _ (s : List ℕ) (w : Bytes s) (inner : List ℕ) (cut : grammar.Cut (rowOf (getD s 0 0)) s inner)
+    (h : grammar.Header (rowAt (rowOf (getD s 0 0))) s)
     (closed : rowAt (rowOf (getD s 0 0)) .crc ≡ 1 → crc s ≡ 0) {ds : List (List Placed)}
     (inside : grammar.Inside (rowAt (rowOf (getD s 0 0))) (rowAt (rowOf (getD s 0 0)) .before) inner ds) where
   abbrev row : ℕ
@@ -253,7 +276,8 @@ module _ (s : List ℕ) (w : Bytes s) (inner : List ℕ) (cut : grammar.Cut (row
 
   items : Made (each sectionItem (headOf row)) (drop 3 hd)
   items =
-      items-are (headOf row) (octets row known .0) (drop 3 hd) (bytes-behind (take 3 hd) (drop 3 hd) (sym (take-append-drop 3 hd)) in-head)
+      items-are (headOf row) (octets row known .0) (drop 3 hd)
+      (bytes-behind (take 3 hd) (drop 3 hd) (sym (take-append-drop 3 hd)) in-head)
       (length-drop 3 hd ∙ omega (arith, long-head)) (head-ordered row known (drop 3 hd) ordered)
     where
       ordered : rowAt row .syntax ≡ 1 → getD (drop 3 hd) 3 0 ≤ getD (drop 3 hd) 4 0
@@ -308,7 +332,8 @@ module _ (s : List ℕ) (w : Bytes s) (inner : List ℕ) (cut : grammar.Cut (row
       let n : sectionLength content ≡ len12 x y = length-is in
       let q = pack-unpack frame (x / 16 % 8) frame-room in
       let e = h .syntax in
-      let i : rowAt row .syntax * 128 + pack frame (unpack frame (x / 16 % 8)) * 16 + sectionLength content / 256 ≡ x = omega arith in
+      let i : rowAt row .syntax * 128 + pack frame (unpack frame (x / 16 % 8)) * 16 + sectionLength content / 256 ≡ x =
+      omega arith in
       let j : sectionLength content % 256 ≡ y = omega arith in
       ap₂ (λ a b. getD s 0 0 ∷ a ∷ b ∷ sectionBody row 0 .show body) i j
       ∙ ap (λ z. getD s 0 0 ∷ x ∷ y ∷ z) body-is
@@ -321,13 +346,16 @@ module _ (s : List ℕ) (w : Bytes s) (inner : List ℕ) (cut : grammar.Cut (row
   unfolding seal
   seal-is = go (eqb (rowAt row .crc) 1) refl (cut .tail) behind (cut .last)
     where
-      go : (b : Bool) → eqb (rowAt row .crc) 1 ≡ b → (t : List ℕ) → s ≡ (hd ++ inner) ++ t → length t ≡ 4 * rowAt row .crc
+      go : (b : Bool) → eqb (rowAt row .crc) 1 ≡ b → (t : List ℕ) → s ≡ (hd ++ inner) ++ t
+          → length t ≡ 4 * rowAt row .crc
           → (if b then bytesOf (crc (front content)) else []) ≡ t
       go false e [] q l = refl
-      go false e (x ∷ t) q l = let n = eqb-false (rowAt row .crc) 1 e in let m = row-numbers .crc-bit in absurd (omega arith)
+      go false e (x ∷ t) q l =
+          let n = eqb-false (rowAt row .crc) 1 e in let m = row-numbers .crc-bit in absurd (omega arith)
       go true e (a ∷ b ∷ c ∷ d ∷ []) q l =
           let v = bytes-behind (hd ++ inner) (a ∷ b ∷ c ∷ d ∷ []) q w in
-          let k = closes-exactly (hd ++ inner) a b c d (v 0) (v 1) (v 2) (v 3) .0 (sym (ap crc q) ∙ closed (eqb-true _ _ e)) in
+          let k = closes-exactly (hd ++ inner) a b c d (v 0) (v 1) (v 2) (v 3) .0
+          (sym (ap crc q) ∙ closed (eqb-true _ _ e)) in
           ap (λ z. bytesOf (crc z)) front-is-front ∙ sym k
       go true e [] q l = let n = eqb-true (rowAt row .crc) 1 e in absurd (omega arith)
       go true e (a ∷ []) q l = let n = eqb-true (rowAt row .crc) 1 e in absurd (omega arith)

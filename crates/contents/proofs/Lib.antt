@@ -1,9 +1,8 @@
 pub mod SectionLaws
-pub mod Held
 pub mod Accepted
 pub mod Contained
-pub mod AllOnes
+pub mod TwoForms
+pub mod AnySheet
+pub mod Held
 pub mod SheetSize
-pub mod MadeOnes
-pub mod AnyReserved
 pub mod ReadBack

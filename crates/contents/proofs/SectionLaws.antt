@@ -12,12 +12,12 @@ use Rattle.wire.specs.Reading.{value, _>>=_}
 use Rattle.tables.specs.Tables.{cell, rowOf, rowAt}
 use Rattle.forms.specs.Form.{Form, mute, raw, _then_, each, eachShow, EachOk}
 use Rattle.forms.specs.Fields.{room, pack, unpack}
-use Rattle.forms.specs.Lists.{loop, loopShow, filling}
+use Rattle.forms.specs.Lists.{all, All, none, one, loop, loopShow, filling}
 use Rattle.forms.specs.Laws.{Complete}
 use Rattle.forms.proofs.Lawful.{read-on, mute-lawful, raw-lawful, then-complete, such-complete, each-complete}
 use Rattle.forms.proofs.FieldLaws.{byte-complete, pack-lt, unpack-pack}
 use Rattle.forms.proofs.ListLaws.{Full, loop-complete, filling-read}
-use Rattle.sheet.specs.Content.{Item, plain, numbers, packed, bare, status, frame, headOf, entryOf, sideOf, Fields, Loop, Entries, Content, tableOf, frameOf, bodyOf, rowIn}
+use Rattle.sheet.specs.Content.{Item, plain, numbers, packed, bare, status, frame, headOf, entryOf, sideOf, Fields, Loop, Entries, Content, tableOf, frameOf, bodyOf, rowIn, restIn, topIn, headIn}
 use Rattle.sheet.specs.Sheet.{inOrder, descriptor}
 use Rattle.sheet.specs.Section.{sectionItem, sectionLoop, sectionEntry, sectionTop, sectionEntries, sectionBody, bodyBytes, sectionLength, front, seal, sectionOf, middle, contentOf}
 use Rattle.contents.specs.Holds.{entriesBytes, Holds}
@@ -33,6 +33,16 @@ item-complete (packed fs) = byte-complete fs
 
 pub items-complete : (xs : List Item) → Complete (each sectionItem xs)
 items-complete = each-complete sectionItem item-complete
+
+-- there are no more items than bytes
+pub no-more : {A : Type 0} (c : Form A) → Full c → (l : List A) → All c l → length l ≤ length (all c l)
+unfolding all
+no-more c f [] none = omega arith
+no-more c f (a ∷ l) (one o os) =
+    let n = length-append (c .show a) (all c l) in
+    let k = f a o in
+    let r = no-more c f l os in
+    omega arith
 
 pub descriptor-full : Full descriptor
 descriptor-full d o = omega arith
@@ -129,78 +139,51 @@ pub record Numbers (row : ℕ) : Type 0 where
   pub crc-bit : rowAt row .crc ≤ 1
   pub least : 3 + rowAt row .least ≡ rowAt row .before + shortest row + 4 * rowAt row .crc
 
+-- what is so of each row
+pub each-row : (P : ℕ → Type 0) → P 0 → P 1 → P 2 → P 3 → P 4 → P 5 → (row : ℕ) → row < 6 → P row
+each-row P a b c d e f zero h = a
+each-row P a b c d e f (suc zero) h = b
+each-row P a b c d e f (suc (suc zero)) h = c
+each-row P a b c d e f (suc (suc (suc zero))) h = d
+each-row P a b c d e f (suc (suc (suc (suc zero)))) h = e
+each-row P a b c d e f (suc (suc (suc (suc (suc zero))))) h = f
+each-row P a b c d e f (suc (suc (suc (suc (suc (suc row)))))) h = absurd (omega arith)
+
 pub numbers-of : (row : ℕ) → row < 6 → Numbers row
 unfolding cell headOf entryOf sizes shortest
-numbers-of zero h = record {
-  head = refl;
-  five = omega arith;
-  entry = λ _. refl;
-  syntax = omega arith;
-  most = omega arith;
-  crc-bit = omega arith;
-  least = refl;
-}
-numbers-of (suc zero) h = record {
-  head = refl;
-  five = omega arith;
-  entry = λ _. refl;
-  syntax = omega arith;
-  most = omega arith;
-  crc-bit = omega arith;
-  least = refl;
-}
-numbers-of (suc (suc zero)) h = record {
-  head = refl;
-  five = omega arith;
-  entry = λ _. refl;
-  syntax = omega arith;
-  most = omega arith;
-  crc-bit = omega arith;
-  least = refl;
-}
-numbers-of (suc (suc (suc zero))) h = record {
-  head = refl;
-  five = omega arith;
-  entry = λ _. refl;
-  syntax = omega arith;
-  most = omega arith;
-  crc-bit = omega arith;
-  least = refl;
-}
-numbers-of (suc (suc (suc (suc zero)))) h = record {
-  head = refl;
-  five = omega arith;
-  entry = λ n. absurd (n refl);
-  syntax = omega arith;
-  most = omega arith;
-  crc-bit = omega arith;
-  least = refl;
-}
-numbers-of (suc (suc (suc (suc (suc zero))))) h = record {
-  head = refl;
-  five = omega arith;
-  entry = λ n. absurd (n refl);
-  syntax = omega arith;
-  most = omega arith;
-  crc-bit = omega arith;
-  least = refl;
-}
-numbers-of (suc (suc (suc (suc (suc (suc row)))))) h = absurd (omega arith)
+numbers-of =
+    each-row Numbers
+    (has refl (λ _. refl) refl (omega arith) (omega arith) (omega arith) (omega arith))
+    (has refl (λ _. refl) refl (omega arith) (omega arith) (omega arith) (omega arith))
+    (has refl (λ _. refl) refl (omega arith) (omega arith) (omega arith) (omega arith))
+    (has refl (λ _. refl) refl (omega arith) (omega arith) (omega arith) (omega arith))
+    (has refl (λ n. absurd (n refl)) refl (omega arith) (omega arith) (omega arith) (omega arith))
+    (has refl (λ n. absurd (n refl)) refl (omega arith) (omega arith) (omega arith) (omega arith))
+  where
+    has : {row : ℕ} → 3 + sizes (headOf row) ≡ rowAt row .before
+        → ((rowAt row .fixed ≡ 0 → ⊥) → sizes (entryOf row) + 2 ≡ rowAt row .fixed)
+        → 3 + rowAt row .least ≡ rowAt row .before + shortest row + 4 * rowAt row .crc
+        → 5 ≤ sizes (headOf row) → rowAt row .syntax ≤ 1 → rowAt row .most ≤ 4093 → rowAt row .crc ≤ 1 → Numbers row
+    has h e l f s m c = record { head = h; five = f; entry = e; syntax = s; most = m; crc-bit = c; least = l }
 
 -- ---- what can stand in a section
+
+-- the form of the top loop, by the row's column for it
+abbrev pub topBy : Bool → Form Loop
+topBy top = if top then sectionLoop bare else mute ([], [])
+
+-- the form of entries by the two columns of their row: whether there are none, and whether there is a top loop
+abbrev pub entriesBy : ℕ → ℕ → Bool → Bool → Form Entries
+entriesBy row n bare-row top =
+    if bare-row then mute ([], []) else if top then loop (sectionEntry row) bare
+    else mute [] then filling (sectionEntry row) n
 
 -- how entries are shown does not depend on the number of bytes
 pub shown-alike : (row n m : ℕ) (e : Entries) → sectionEntries row n .show e ≡ sectionEntries row m .show e
 unfolding sectionEntries
 shown-alike row n m e = go (eqb (rowAt row .fixed) 0) (eqb (rowAt row .top) 1)
   where
-    go : (z t : Bool)
-        → (if z then mute ([], []) else if t then loop (sectionEntry row) bare else mute [] then filling
-        (sectionEntry row) n) .show
-        e
-        ≡ (if z then mute ([], []) else if t then loop (sectionEntry row) bare else mute [] then filling
-        (sectionEntry row) m) .show
-        e
+    go : (z t : Bool) → entriesBy row n z t .show e ≡ entriesBy row m z t .show e
     go true t = refl
     go false true = refl
     go false false = refl
@@ -208,15 +191,15 @@ shown-alike row n m e = go (eqb (rowAt row .fixed) 0) (eqb (rowAt row .top) 1)
 -- the head's bytes, those of the top loop, those of the entries
 pub body-length : (c : Content) → Holds c
     → 3 + length (bodyBytes c)
-    ≡ rowAt (rowIn c) .before + length (sectionTop (rowIn c) .show (bodyOf c .1 .0)) + length (entriesBytes c)
+    ≡ rowAt (rowIn c) .before + length (sectionTop (rowIn c) .show (topIn c)) + length (entriesBytes c)
 body-length c h =
     let row = rowIn c in
-    let x = each sectionItem (headOf row) .show (bodyOf c .0) in
-    let y = sectionTop row .show (bodyOf c .1 .0) in
+    let x = each sectionItem (headOf row) .show (headIn c) in
+    let y = sectionTop row .show (topIn c) in
     let z = entriesBytes c in
     let a = length-append x (y ++ z) in
     let b = length-append y z in
-    let s = items-size (headOf row) (bodyOf c .0) (h .body .0) in
+    let s = items-size (headOf row) (headIn c) (h .body .0) in
     let n = numbers-of row (h .known) .head in
     omega arith
 
@@ -226,13 +209,7 @@ ok-at : (row n m : ℕ) (e : Entries) → (eqb (rowAt row .top) 1 ≡ false → 
 unfolding sectionEntries
 ok-at row n m e h = go (eqb (rowAt row .fixed) 0) (eqb (rowAt row .top) 1) h
   where
-    go : (z t : Bool) → (t ≡ false → n ≡ m)
-        → (if z then mute ([], []) else if t then loop (sectionEntry row) bare else mute [] then filling
-        (sectionEntry row) n) .Ok
-        e
-        → (if z then mute ([], []) else if t then loop (sectionEntry row) bare else mute [] then filling
-        (sectionEntry row) m) .Ok
-        e
+    go : (z t : Bool) → (t ≡ false → n ≡ m) → entriesBy row n z t .Ok e → entriesBy row m z t .Ok e
     go true t h o = o
     go false true h o = o
     go false false h o = let l = o .1 .0 in let q = h refl in (o .0, (omega arith, o .1 .1))
@@ -276,13 +253,13 @@ content-again c h =
     let n : ℕ = 3 + length (bodyBytes c) - rowAt row .before in
     let l = body-length c h in
     let same : eqb (rowAt row .top) 1 ≡ false → length (entriesBytes c) ≡ n =
-    λ e. omega (arith, no-top row (bodyOf c .1 .0) e) in
+    λ e. omega (arith, no-top row (topIn c) e) in
     let ok : sectionBody row n .Ok (bodyOf c) =
-    (h .body .0, (h .body .1 .0, ok-at row (length (entriesBytes c)) n (bodyOf c .1 .1) same (h .body .1 .1))) in
+    (h .body .0, (h .body .1 .0, ok-at row (length (entriesBytes c)) n (restIn c) same (h .body .1 .1))) in
     let shows : sectionBody row n .show (bodyOf c) ++ [] ≡ bodyBytes c =
     append-nil (sectionBody row n .show (bodyOf c))
-    ∙ ap (λ x. each sectionItem (headOf row) .show (bodyOf c .0) ++ (sectionTop row .show (bodyOf c .1 .0) ++ x))
-    (shown-alike row n 0 (bodyOf c .1 .1)) in
+    ∙ ap (λ x. each sectionItem (headOf row) .show (headIn c) ++ (sectionTop row .show (topIn c) ++ x))
+    (shown-alike row n 0 (restIn c)) in
     let f = frame-lt c h in
     let m = h .most in
     let k = numbers-of row (h .known) in

@@ -9,12 +9,12 @@ use Rattle.tables.specs.Tables.{rowAt}
 use Rattle.verdict.specs.Verdict.{accepted}
 use Rattle.section.specs.Reading.{judged}
 use Rattle.forms.specs.Fields.{Fit}
-use Rattle.sheet.specs.Content.{frame, Content, frameOf, bodyOf, rowIn}
+use Rattle.sheet.specs.Content.{frame, Content, frameOf, bodyOf, rowIn, restIn}
 use Rattle.sheet.specs.Section.{sectionEntries, sectionBody, sectionLength, sectionOf}
 
 -- the bytes of the entries
 abbrev pub entriesBytes : Content → List ℕ
-entriesBytes c = sectionEntries (rowIn c) 0 .show (bodyOf c .1 .1)
+entriesBytes c = sectionEntries (rowIn c) 0 .show (restIn c)
 
 -- the table is known, each value fits its place, and section_length is not above its row
 pub record Holds (c : Content) : Type 0 where

@@ -8,44 +8,52 @@ use Rattle.wire.specs.If.{if_then_else_}
 use Rattle.wire.specs.Reading.{Reading, value, refused}
 use Rattle.tables.specs.Tables.{rowAt}
 use Rattle.forms.specs.Fields.{Field, kept, reserved}
-use Rattle.sheet.specs.Content.{Item, plain, numbers, packed, bare, frame, headOf, entryOf, sideOf, Fields, Entry, Content, frameOf, bodyOf, rowIn}
+use Rattle.sheet.specs.Content.{Item, plain, numbers, packed, bare, frame, headOf, entryOf, sideOf, Entry, Content, fieldsIn, besideIn, frameOf, headIn, topIn, secondIn, entriesIn, rowIn}
 use Rattle.sheet.specs.Section.{contentOf}
 
--- the reserved ones among fields are ones, bit for bit
-abbrev pub Ones : List Field → List ℕ → Type 0
-Ones [] vs = Unit {0}
-Ones (f ∷ fs) [] = Unit {0}
-Ones (kept w ∷ fs) (v ∷ vs) = Ones fs vs
-Ones (reserved w ∷ fs) (v ∷ vs) = (v ≡ 2 ^ w - 1) × Ones fs vs
+-- R of each value and what it is the value of
+abbrev pub Pairwise : {A B : Type 0} → (A → B → Type 0) → List A → List B → Type 0
+Pairwise R [] l = Unit {0}
+Pairwise R (x ∷ xs) [] = Unit {0}
+Pairwise R (x ∷ xs) (a ∷ l) = R x a × Pairwise R xs l
 
--- of one item
-abbrev pub ItemOnes : Item → List ℕ → Type 0
-ItemOnes (plain n) vs = Unit {0}
-ItemOnes numbers vs = Unit {0}
-ItemOnes (packed fs) vs = Ones fs vs
-
--- of the items of a head or an entry
-abbrev pub ItemsOnes : List Item → Fields → Type 0
-ItemsOnes [] l = Unit {0}
-ItemsOnes (x ∷ xs) [] = Unit {0}
-ItemsOnes (x ∷ xs) (v ∷ l) = ItemOnes x v × ItemsOnes xs l
-
--- of every entry: its items, and the bits beside its loop's length
-abbrev pub EntriesOnes : ℕ → List Entry → Type 0
-EntriesOnes row [] = Unit {0}
-EntriesOnes row (e ∷ l) = (ItemsOnes (entryOf row) (e .0) × Ones (sideOf row) (e .1 .0)) × EntriesOnes row l
+-- O of each one of a list
+abbrev pub Each : {A : Type 0} → (A → Type 0) → List A → Type 0
+Each O [] = Unit {0}
+Each O (a ∷ l) = O a × Each O l
 
 -- before the length of the top loop, and before that over the entries
 abbrev pub lengthBits : ℕ → List Field
 lengthBits row = if eqb (rowAt row .top) 1 then bare else []
 
+-- O of every field of a table and its value
+module _ (O : Field → ℕ → Type 0) where
+  -- of one item
+  abbrev pub OfItem : Item → List ℕ → Type 0
+  OfItem (plain n) vs = Unit {0}
+  OfItem numbers vs = Unit {0}
+  OfItem (packed fs) vs = Pairwise O fs vs
+
+  -- of an entry: its items, and the bits beside its loop's length
+  abbrev pub OfEntry : ℕ → Entry → Type 0
+  OfEntry row e = Pairwise OfItem (entryOf row) (fieldsIn e) × Pairwise O (sideOf row) (besideIn e)
+
+  -- of a whole table
+  pub record OfFields (c : Content) : Type 0 where
+    pub in-frame : Pairwise O frame (frameOf c)
+    pub in-head : Pairwise OfItem (headOf (rowIn c)) (headIn c)
+    pub in-top : Pairwise O (lengthBits (rowIn c)) (topIn c .0)
+    pub in-second : Pairwise O (lengthBits (rowIn c)) (secondIn c)
+    pub in-entries : Each (OfEntry (rowIn c)) (entriesIn c)
+
+-- a reserved field is ones, bit for bit
+abbrev pub Ones : Field → ℕ → Type 0
+Ones (kept w) v = Unit {0}
+Ones (reserved w) v = v ≡ 2 ^ w - 1
+
 -- every reserved field of a table
-pub record ReservedOnes (c : Content) : Type 0 where
-  pub in-frame : Ones frame (frameOf c)
-  pub in-head : ItemsOnes (headOf (rowIn c)) (bodyOf c .0)
-  pub in-top : Ones (lengthBits (rowIn c)) (bodyOf c .1 .0 .0)
-  pub in-second : Ones (lengthBits (rowIn c)) (bodyOf c .1 .1 .0)
-  pub in-entries : EntriesOnes (rowIn c) (bodyOf c .1 .1 .1)
+abbrev pub ReservedOnes : Content → Type 0
+ReservedOnes = OfFields Ones
 
 -- where the bytes have a content
 abbrev pub OnesIn : Reading Content → Type 0

@@ -1,11 +1,11 @@
 -- The sections that stand in a room end to end are handed out, all of them and in order.
 use Prim.Native.Nat.{ℕ, _+_}
-use mathlib.Core.Path.{_≡_, refl, ap, _∙_, sym, subst}
+use mathlib.Core.Path.{_≡_, refl, ap, _∙_, sym}
 use mathlib.Core.List.{List, [], _∷_, _++_, flatten}
 use native.Mathlib.Omega.{arith}
 use lib.ListN.{length, length-append}
 use Rattle.wire.specs.Bytes.{len12At}
-use Rattle.parts.specs.Parts.{part, behind, Is}
+use Rattle.parts.specs.Parts.{behind, Is}
 use Rattle.parts.specs.Room.{noSection, oneSection, nextSection, Whole, AllWhole, HandsSections}
 use Rattle.parts.specs.Room as room
 use Rattle.parts.specs.declared.Part.{Part}

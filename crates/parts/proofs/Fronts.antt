@@ -1,10 +1,10 @@
 -- What is handed out at the front of a part, by the tests that the code makes.
 use Prim.Native.Nat.{ℕ, zero, suc, _+_, _<_, _≤_}
-use mathlib.Core.Path.{_≡_, refl, _∙_, sym}
+use mathlib.Core.Path.{_≡_, _∙_, sym}
 use mathlib.Core.Bool.{Bool, true, false}
 use mathlib.Core.List.{List}
 use native.Mathlib.Omega.{arith}
-use borrow.Author.Tests.{le-leb, lt-leb, leb-true, leb-false, eq-eqb, ne-eqb}
+use borrow.Author.Tests.{le-leb, lt-leb, leb-true, eq-eqb, ne-eqb}
 use lib.ListN.{length, getD}
 use Rattle.wire.specs.Bytes.{len12At}
 use Rattle.tables.specs.Tables.{cell, rowAt}
@@ -69,7 +69,8 @@ module _ (s : List ℕ) (r : Part) where
   unfolding descriptorAt
   descriptor-short h = rw (lt-leb (2 + getD s (r .start + 1) 0) (r .size) h)
 
-  pub descriptor-whole : (n : ℕ) → n ≡ getD s (r .start + 1) 0 → 2 + n ≤ r .size → descriptorAt s r ≡ oneDescriptor (getD s (r .start) 0) n r
+  pub descriptor-whole : (n : ℕ) → n ≡ getD s (r .start + 1) 0 → 2 + n ≤ r .size
+      → descriptorAt s r ≡ oneDescriptor (getD s (r .start) 0) n r
   unfolding descriptorAt
   descriptor-whole n same h =
       let g : 2 + getD s (r .start + 1) 0 ≤ r .size = omega arith in

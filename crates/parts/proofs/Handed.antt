@@ -1,17 +1,15 @@
 -- What is handed out is what the grammar has: entries, loops and descriptors, all of them and in order.
 use Prim.Native.Nat.{ℕ, _+_, _-_, _<_, _≤_}
 use mathlib.Core.Path.{_≡_, refl, ap, _∙_, sym, subst}
-use mathlib.Core.Bool.{true}
-use mathlib.Core.List.{List, [], _∷_, _++_, append-nil, append-assoc}
+use mathlib.Core.List.{List, [], _∷_, _++_}
 use native.Mathlib.Omega.{arith}
-use lib.ListN.{length, getD, take, drop, length-append, List·getD-append}
+use lib.ListN.{length, getD, drop, length-append, List·getD-append}
 use lib.Seq.{drop-at, getD-drop}
 use Rattle.wire.specs.Bytes.{len12, len12At}
-use Rattle.wire.specs.Parts as wire
 use Rattle.wire.proofs.PartLaws.{part-first, part-second, len12-drop, len12-front}
 use Rattle.tables.specs.Tables.{rowAt, FixedTwo}
 use Rattle.tables.proofs.RowLaws.{fixed-two, row-is}
-use Rattle.verdict.specs.Verdict.{accepted, isAccepted}
+use Rattle.verdict.specs.Verdict.{accepted}
 use Rattle.loops.specs.Descriptors.{Placed}
 use Rattle.loops.specs.Grammar as loop-grammar
 use Rattle.loops.specs.Grammar.{Descriptors}
@@ -19,7 +17,7 @@ use Rattle.section.specs.Reading.{body, rowFor, judged}
 use Rattle.section.specs.Grammar as grammar
 use Rattle.section.specs.Grammar.{Head, Entries, Inside, Section, nothing, loop, loops}
 use Rattle.section.proofs.Exactly.{body-cut, section-judged}
-use Rattle.parts.specs.Parts.{part, noPart, within, behind, Is}
+use Rattle.parts.specs.Parts.{part, noPart, behind, Is}
 use Rattle.parts.specs.Entries.{noEntry, oneEntry, nextEntry}
 use Rattle.parts.specs.Descriptors.{noDescriptor, oneDescriptor, nextDescriptor}
 use Rattle.parts.specs.Opening.{topOf, entriesOf, Opens}
@@ -85,14 +83,18 @@ module _ {s : List ℕ} where
   no-more {r} h = descriptor-in s r (sym (is-in s r (is-inside [] h))) refl ∙ descriptor-short s r (omega (arith, h .sized))
 
   -- a loop of the grammar
-  pub loop-handed : {p : ℕ} {l : List ℕ} {ds : List Placed} (r : Part) → Descriptors p l ds → r .start ≡ p → Is s r l → HandsDescriptors s r l ds
+  pub loop-handed : {p : ℕ} {l : List ℕ} {ds : List Placed} (r : Part) → Descriptors p l ds → r .start ≡ p → Is s r l
+      → HandsDescriptors s r l ds
   loop-handed r loop-grammar.Descriptors.none e h = handed.HandsDescriptors.none (no-more h) (sym (h .sized))
   loop-handed {p} r (loop-grammar.Descriptors.one tag body {l = l} d) e h =
       let two : Is s (behind 2 r) (body ++ l) = is-behind (tag ∷ length body ∷ []) (body ++ l) h in
       let n : length (tag ∷ length body ∷ body) ≡ 2 + length body = omega arith in
-      let whole : Is s (part (r .start) (2 + length body)) (tag ∷ length body ∷ body) = resized n (is-front (tag ∷ length body ∷ body) l h) in
-      let rest : Is s (behind (2 + length body) r) l = subst (λ k. Is s (behind k r) l) n (is-behind (tag ∷ length body ∷ body) l h) in
-      handed.HandsDescriptors.one (oneDescriptor tag (length body) r) _ (first-descriptor tag body l h) refl refl e (is-front body l two) whole
+      let whole : Is s (part (r .start) (2 + length body)) (tag ∷ length body ∷ body) =
+      resized n (is-front (tag ∷ length body ∷ body) l h) in
+      let rest : Is s (behind (2 + length body) r) l =
+      subst (λ k. Is s (behind k r) l) n (is-behind (tag ∷ length body ∷ body) l h) in
+      handed.HandsDescriptors.one (oneDescriptor tag (length body) r) _ (first-descriptor tag body l h) refl refl e
+      (is-front body l two) whole
       (loop-handed (behind (2 + length body) r) d (omega arith) rest)
 
   -- ---- entries
@@ -103,7 +105,8 @@ module _ {s : List ℕ} where
     first-entry {r} head body l g h =
         let all : List ℕ = head ++ (body ++ l) in
         let front = is-front head (body ++ l) h in
-        let n : len12At s (r .start + (fixed - 2)) ≡ length body = length-of head front (fixed - 2) (omega (arith, g .size)) ∙ g .says in
+        let n : len12At s (r .start + (fixed - 2)) ≡ length body =
+        length-of head front (fixed - 2) (omega (arith, g .size)) ∙ g .says in
         entry-in s r (sym (is-in s r (is-inside all h))) refl
         ∙ rw (← row)
         (entry-whole s r fixed (length body) (sym n) (λ z. omega arith)
@@ -111,7 +114,8 @@ module _ {s : List ℕ} where
 
     no-more-entries : {r : Part} → Is s r [] → nextEntry s r ≡ noEntry r
     no-more-entries {r} h =
-        entry-in s r (sym (is-in s r (is-inside [] h))) refl ∙ rw (← row) (entry-short s r fixed (λ z. omega arith) (omega (arith, h .sized)))
+        entry-in s r (sym (is-in s r (is-inside [] h))) refl
+        ∙ rw (← row) (entry-short s r fixed (λ z. omega arith) (omega (arith, h .sized)))
 
     -- entries of the grammar
     pub entries-handed : {p : ℕ} {l : List ℕ} {ls : List (List Placed)} (r : Part) → Entries fixed p l ls → r .start ≡ p → Is s r l
@@ -119,7 +123,8 @@ module _ {s : List ℕ} where
     entries-handed r grammar.Entries.none e h = handed.HandsEntries.none (no-more-entries h) (sym (h .sized))
     entries-handed r (grammar.Entries.one head body {l = l} g d x) e h =
         let front : Is s (part (r .start) fixed) head = resized (g .size) (is-front head (body ++ l) h) in
-        let behind-head : Is s (behind fixed r) (body ++ l) = subst (λ k. Is s (behind k r) (body ++ l)) (g .size) (is-behind head (body ++ l) h) in
+        let behind-head : Is s (behind fixed r) (body ++ l) =
+        subst (λ k. Is s (behind k r) (body ++ l)) (g .size) (is-behind head (body ++ l) h) in
         let own : Is s (part (r .start + fixed) (length body)) body = is-front body l behind-head in
         let k : behind (length body) (behind fixed r) ≡ behind (fixed + length body) r = moved in
         let rest : Is s (behind (fixed + length body) r) l = subst (λ q. Is s q l) k (is-behind body l behind-head) in
@@ -144,7 +149,9 @@ module _ {s : List ℕ} where
   no-descriptors = handed.HandsDescriptors.none (no-more nowhere) refl
 
   no-entries : rowFor s .fixed ≡ 0 → HandsEntries s noPart [] []
-  no-entries f = handed.HandsEntries.none (entry-in s noPart (sym (is-in s noPart (is-inside [] nowhere))) refl ∙ entry-none s noPart (rowFor s .fixed) f) refl
+  no-entries f =
+      handed.HandsEntries.none
+      (entry-in s noPart (sym (is-in s noPart (is-inside [] nowhere))) refl ∙ entry-none s noPart (rowFor s .fixed) f) refl
 
   -- what is left of a part is as long as its bytes
   fitted : {a n : ℕ} {l : List ℕ} → Is s (part a n) l → Is s (part a (length l)) l
@@ -162,10 +169,12 @@ module _ {s : List ℕ} where
   from-same : {p q : Part} {l : List ℕ} {ds : List Placed} → p ≡ q → HandsDescriptors s q l ds → HandsDescriptors s p l ds
   from-same e h = rw e h
 
-  entries-from-same : {p q : Part} {l : List ℕ} {ls : List (List Placed)} → p ≡ q → HandsEntries s q l ls → HandsEntries s p l ls
+  entries-from-same : {p q : Part} {l : List ℕ} {ls : List (List Placed)} → p ≡ q → HandsEntries s q l ls
+      → HandsEntries s p l ls
   entries-from-same e h = rw e h
 
-  inside-handed : (row : Row) → rowFor s ≡ row → FixedTwo (row .fixed) → {m : List ℕ} {ls : List (List Placed)} → Inside row (row .before) m ls
+  inside-handed : (row : Row) → rowFor s ≡ row → FixedTwo (row .fixed) → {m : List ℕ} {ls : List (List Placed)}
+      → Inside row (row .before) m ls
       → length (body row s) ≡ row .before + length m → Is s (part (row .before) (length m)) m → Parts s row ls
   inside-handed row same two (nothing t f) ends all =
       record {
@@ -187,8 +196,10 @@ module _ {s : List ℕ} where
   inside-handed row same two (loops t f high low top e d high' low' {l = l} e' r) ends all =
       let p : ℕ = row .before in
       let n : length top ≡ len12At s p = sym (says high low (top ++ (high' ∷ low' ∷ l)) all ∙ e) in
-      let inner : Is s (part (p + 2) (length (top ++ (high' ∷ low' ∷ l)))) (top ++ (high' ∷ low' ∷ l)) = past-length high low (top ++ (high' ∷ low' ∷ l)) all in
-      let second : Is s (part (p + 2 + length top) (length (high' ∷ low' ∷ l))) (high' ∷ low' ∷ l) = fitted (is-behind top (high' ∷ low' ∷ l) inner) in
+      let both : List ℕ = top ++ (high' ∷ low' ∷ l) in
+      let inner : Is s (part (p + 2) (length both)) both = past-length high low both all in
+      let second : Is s (part (p + 2 + length top) (length (high' ∷ low' ∷ l))) (high' ∷ low' ∷ l) =
+      fitted (is-behind top (high' ∷ low' ∷ l) inner) in
       let own : Is s (part (p + 2 + length top + 2) (length l)) l = past-length high' low' l second in
       let left : length l ≡ length (body row s) - (p + 2 + length top + 2) = omega (arith, ends, length-append top (high' ∷ low' ∷ l)) in
       record {
@@ -199,7 +210,8 @@ module _ {s : List ℕ} where
         entry-bytes = l;
         entries =
             entries-from-same (entries-second row s (body row s) refl (length l) f (length top) n left t)
-            (entries-handed (row .fixed) (two f) (ap (λ (w : Row). w .fixed) (sym same)) (part (p + 2 + length top + 2) (length l)) r (omega arith) own);
+            (entries-handed (row .fixed) (two f) (ap (λ (w : Row). w .fixed) (sym same))
+            (part (p + 2 + length top + 2) (length l)) r (omega arith) own);
       }
   inside-handed row same two {m} (grammar.Inside.entries t f r) ends all =
       let left : length m ≡ length (body row s) - row .before = omega (arith, ends) in

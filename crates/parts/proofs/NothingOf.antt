@@ -2,11 +2,10 @@
 use Prim.Native.Nat.{ℕ}
 use mathlib.Core.Path.{_≡_, _∙_}
 use mathlib.Core.List.{List}
-use Rattle.verdict.specs.Verdict.{told, refused}
+use Rattle.verdict.specs.Verdict.{refused}
 use Rattle.section.specs.Reading.{judged}
 use Rattle.section.specs.Faults.{First}
 use Rattle.section.proofs.Exactly.{first-judged}
-use Rattle.parts.specs.Parts.{noPart}
 use Rattle.parts.specs.Opening.{Opens}
 use Rattle.parts.specs.Handed.{Nothing}
 use Rattle.parts.specs.declared.opening.Opened.{Opened}

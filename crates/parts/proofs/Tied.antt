@@ -30,38 +30,50 @@ use Rattle.parts.proofs.names.time_from as time-from-call
 use Rattle.parts.proofs.names.duration_from as duration-from-call
 
 module _ {M : Type 1} (𝓤 : URA M) (H : Heap 𝓤) (A : Atoms 𝓤) (mem : Memory → SProp 𝓤) (run : Routine → Fun 𝓤) where
-  pub no-part-ensures : Ensures 𝓤 no-part-call.ended (no-part-call.clauses 𝓤 H A mem run) (λ κs a r ws. r ≡ noPart)
+  pub no-part-ensures : Ensures 𝓤 no-part-call.ended (no-part-call.clauses 𝓤 H A mem run)
+      (λ κs a r ws. r ≡ noPart)
   no-part-ensures κs a g r ws = refl
 
-  pub within-ensures : Ensures 𝓤 within-call.ended (within-call.clauses 𝓤 H A mem run) (λ κs a r ws. r ≡ within (a .0 .now) (a .1 .0))
+  pub within-ensures : Ensures 𝓤 within-call.ended (within-call.clauses 𝓤 H A mem run)
+      (λ κs a r ws. r ≡ within (a .0 .now) (a .1 .0))
   within-ensures κs a g r ws = refl
 
-  pub open-ensures : Ensures 𝓤 open-call.ended (open-call.clauses 𝓤 H A mem run) (λ κs a r ws. Opens (a .0 .now) r)
+  pub open-ensures : Ensures 𝓤 open-call.ended (open-call.clauses 𝓤 H A mem run)
+      (λ κs a r ws. Opens (a .0 .now) r)
   open-ensures κs a g r ws = refl
 
-  pub next-entry-ensures : Ensures 𝓤 next-entry-call.ended (next-entry-call.clauses 𝓤 H A mem run) (λ κs a r ws. r ≡ nextEntry (a .0 .now) (a .1 .0))
+  pub next-entry-ensures : Ensures 𝓤 next-entry-call.ended (next-entry-call.clauses 𝓤 H A mem run)
+      (λ κs a r ws. r ≡ nextEntry (a .0 .now) (a .1 .0))
   next-entry-ensures κs a g r ws = refl
 
-  pub next-descriptor-ensures : Ensures 𝓤 next-descriptor-call.ended (next-descriptor-call.clauses 𝓤 H A mem run) (λ κs a r ws. r ≡ nextDescriptor (a .0 .now) (a .1 .0))
+  pub next-descriptor-ensures : Ensures 𝓤 next-descriptor-call.ended (next-descriptor-call.clauses 𝓤 H A mem run)
+      (λ κs a r ws. r ≡ nextDescriptor (a .0 .now) (a .1 .0))
   next-descriptor-ensures κs a g r ws = refl
 
-  pub next-section-ensures : Ensures 𝓤 next-section-call.ended (next-section-call.clauses 𝓤 H A mem run) (λ κs a r ws. r ≡ nextSection (a .0 .now) (a .1 .0))
+  pub next-section-ensures : Ensures 𝓤 next-section-call.ended (next-section-call.clauses 𝓤 H A mem run)
+      (λ κs a r ws. r ≡ nextSection (a .0 .now) (a .1 .0))
   next-section-ensures κs a g r ws = refl
 
-  pub id-in-ensures : Ensures 𝓤 id-in-call.ended (id-in-call.clauses 𝓤 H A mem run) (λ κs a r ws. r ≡ idIn (a .0 .now) (a .1 .0))
+  pub id-in-ensures : Ensures 𝓤 id-in-call.ended (id-in-call.clauses 𝓤 H A mem run)
+      (λ κs a r ws. r ≡ idIn (a .0 .now) (a .1 .0))
   id-in-ensures κs a g r ws = refl
 
-  pub network-in-ensures : Ensures 𝓤 network-in-call.ended (network-in-call.clauses 𝓤 H A mem run) (λ κs a r ws. r ≡ networkIn (a .0 .now) (a .1 .0))
+  pub network-in-ensures : Ensures 𝓤 network-in-call.ended (network-in-call.clauses 𝓤 H A mem run)
+      (λ κs a r ws. r ≡ networkIn (a .0 .now) (a .1 .0))
   network-in-ensures κs a g r ws = refl
 
-  pub start-in-ensures : Ensures 𝓤 start-in-call.ended (start-in-call.clauses 𝓤 H A mem run) (λ κs a r ws. r ≡ startIn (a .0 .now) (a .1 .0))
+  pub start-in-ensures : Ensures 𝓤 start-in-call.ended (start-in-call.clauses 𝓤 H A mem run)
+      (λ κs a r ws. r ≡ startIn (a .0 .now) (a .1 .0))
   start-in-ensures κs a g r ws = refl
 
-  pub duration-in-ensures : Ensures 𝓤 duration-in-call.ended (duration-in-call.clauses 𝓤 H A mem run) (λ κs a r ws. r ≡ durationIn (a .0 .now) (a .1 .0))
+  pub duration-in-ensures : Ensures 𝓤 duration-in-call.ended (duration-in-call.clauses 𝓤 H A mem run)
+      (λ κs a r ws. r ≡ durationIn (a .0 .now) (a .1 .0))
   duration-in-ensures κs a g r ws = refl
 
-  pub time-from-ensures : Ensures 𝓤 time-from-call.ended (time-from-call.clauses 𝓤 H A mem run) (λ κs a r ws. time.told r ≡ timeFrom (a .0 .now))
+  pub time-from-ensures : Ensures 𝓤 time-from-call.ended (time-from-call.clauses 𝓤 H A mem run)
+      (λ κs a r ws. time.told r ≡ timeFrom (a .0 .now))
   time-from-ensures κs a g r ws = refl
 
-  pub duration-from-ensures : Ensures 𝓤 duration-from-call.ended (duration-from-call.clauses 𝓤 H A mem run) (λ κs a r ws. duration.told r ≡ durationFrom (a .0 .now))
+  pub duration-from-ensures : Ensures 𝓤 duration-from-call.ended (duration-from-call.clauses 𝓤 H A mem run)
+      (λ κs a r ws. duration.told r ≡ durationFrom (a .0 .now))
   duration-from-ensures κs a g r ws = refl

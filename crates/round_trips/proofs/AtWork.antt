@@ -13,8 +13,8 @@ use Rattle.forms.specs.Form.{rawRead, bothRead, suchRead, eachRead, eachShow}
 use Rattle.forms.specs.Fields.{belowRead, room, pack, unpack}
 use Rattle.forms.specs.Lists.{timesRead, all, countedRead, loopShow}
 use Rattle.sheet.specs.Content.{headOf, entryOf, sideOf}
-use Rattle.sheet.specs.Sheet.{descriptorRead, sheetTop, sheetEntries, sheetRead, sheetOf}
-use Rattle.sheet.specs.Section.{sectionTop, sectionEntries, sectionLength, front, seal, sectionOf, contentOf, readSheet}
+use Rattle.sheet.specs.Sheet.{descriptorRead, topFor, entriesFor, readFor, shownFor}
+use Rattle.sheet.specs.Section.{sectionTop, sectionEntries, sectionLength, front, seal, sectionOf, contentOf, readSheetFor}
 use Rattle.section.specs.Reading as section
 use Rattle.section.specs.Reading.{judged, read, opening, header, wrongSyntax, lengthOutside, sizeDiffers, crcFails, aboveLast, inside, topped, _andThen_}
 use Rattle.turn.specs.Turn.{gives, toSection, toSheet}
@@ -47,8 +47,8 @@ made :
     × (toSection 4096 batSheet ≡ gives batSection)
     × (toSection 4096 eitSheet ≡ gives eitSection) × (toSection 4096 tdtSheet ≡ gives tdtSection)
     × (toSection 4096 totSheet ≡ gives totSection)
-unfolding toSection readSheet sheetRead rawRead bothRead suchRead eachRead eachShow belowRead timesRead countedRead
-    descriptorRead all loopShow room pack headOf entryOf sideOf sheetTop sheetEntries sectionTop sectionEntries
+unfolding toSection readSheetFor readFor rawRead bothRead suchRead eachRead eachShow belowRead timesRead countedRead
+    descriptorRead all loopShow room pack headOf entryOf sideOf topFor entriesFor sectionTop sectionEntries
     sectionLength front seal sectionOf feed feedBits feedBytes crc cell holds first rowOf
 made = (refl, refl, refl, refl, refl, refl)
 
@@ -65,6 +65,6 @@ all-six = record {
 
 pub unseen : Unseen
 unfolding toSheet contentOf judged read opening header wrongSyntax lengthOutside sizeDiffers crcFails aboveLast inside
-    topped section.plain _andThen_ sheetOf rawRead bothRead suchRead eachRead eachShow room unpack headOf sheetTop
-    sheetEntries sectionTop sectionEntries cell holds first rowOf
+    topped section.plain _andThen_ shownFor rawRead bothRead suchRead eachRead eachShow room unpack headOf topFor
+    entriesFor sectionTop sectionEntries cell holds first rowOf
 unseen = refl

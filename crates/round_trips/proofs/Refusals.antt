@@ -10,16 +10,12 @@ use Rattle.wire.specs.Bytes.{Bytes}
 use Rattle.wire.specs.Reading as reading
 use Rattle.verdict.specs.Verdict as verdict
 use Rattle.section.specs.Reading.{judged}
-use Rattle.section.specs.Faults as section-faults
-use Rattle.section.specs.Faults.{First}
 use Rattle.section.proofs.Exactly as judging
-use Rattle.tables.specs.declared.Row.{Row}
 use Rattle.loops.specs.Descriptors.{Placed}
 use Rattle.section.specs.Grammar.{Section}
 use Rattle.sheet.specs.Section.{sectionOf, contentOf}
 use Rattle.sheet.specs.Reads.{judgedSheet}
-use Rattle.sheet.specs.Faults as sheet-faults
-use Rattle.sheet.specs.Faults.{SheetFault, AcceptedSheet}
+use Rattle.sheet.specs.Faults.{AcceptedSheet}
 use Rattle.sheet.proofs.Exactly as sheets
 use Rattle.sheet.proofs.SectionSize.{section-length}
 use Rattle.turn.specs.Turn.{refuses, toSection, sheetFrom, sheetIf, toSheet, Told, wrote, refused, answer}
@@ -28,6 +24,7 @@ use Rattle.round_trips.specs.Refusals as refusals
 use Rattle.round_trips.specs.Refusals.{SectionRefusal, SheetRefusal, SectionRefusedExactlyIf, SectionMadeExactlyIf, SheetRefusedExactlyIf, SheetMadeExactlyIf, SectionRoomFirst, SheetRoomFirst}
 use Rattle.contents.proofs.Held.{held}
 use Rattle.turn.proofs.WholeLaws.{section-no-room, section-refused, section-made, sheet-no-room, sheet-made}
+use Rattle.round_trips.proofs.Numbers.{sheet-numbers, section-numbers}
 use Rattle.round_trips.proofs.Unique.{section-once, sheet-once}
 use Rattle.turn.specs.declared.SectionAnswer.the-variants as section
 use Rattle.turn.specs.declared.SheetAnswer.the-variants as sheet
@@ -40,48 +37,6 @@ wrote-is e = cc
 
 pub not-both : {n k q : ℕ} → wrote n ≡ refused k q → ⊥
 not-both e = let z : _≡_ {A = ℕ} 0 1 = cc in omega arith
-
--- ---- the numbers of the refusals
-
-sheet-fault-from : {s : List ℕ} {k : ℕ} → SheetFault s k → 22 ≤ k
-sheet-fault-from (sheet-faults.early c u o h e) = omega arith
-sheet-fault-from (sheet-faults.unknown h f) = omega arith
-sheet-fault-from (sheet-faults.wide i h k g f) = omega arith
-sheet-fault-from (sheet-faults.after c r o h e) = omega arith
-sheet-fault-from (sheet-faults.long c o e h) = omega arith
-
-entry-to-ten : {fixed p k q : ℕ} {l : List ℕ} → section-faults.EntryFault fixed p l k q → k ≤ 10
-entry-to-ten (section-faults.EntryFault.short h g) = omega arith
-entry-to-ten (section-faults.EntryFault.past head l h g) = omega arith
-entry-to-ten (section-faults.EntryFault.own head body l h f) = omega arith
-entry-to-ten (section-faults.EntryFault.later head body h d f) = entry-to-ten f
-
-filling-to-ten : {p k q : ℕ} {m : List ℕ} → section-faults.FillFault p m k q → k ≤ 10
-filling-to-ten (section-faults.FillFault.beyond h) = omega arith
-filling-to-ten (section-faults.FillFault.short h) = omega arith
-
-inside-to-ten : {row : Row} {p k q : ℕ} {m : List ℕ} → section-faults.InsideFault row p m k q → k ≤ 10
-inside-to-ten (section-faults.InsideFault.filling t z f) = filling-to-ten f
-inside-to-ten (section-faults.InsideFault.loop t z high low e f) = omega arith
-inside-to-ten (section-faults.InsideFault.no-room t z h) = omega arith
-inside-to-ten (section-faults.InsideFault.top t z high low body l e h f) = omega arith
-inside-to-ten (section-faults.InsideFault.second t z high low body e h d f) = filling-to-ten f
-inside-to-ten (section-faults.InsideFault.behind t z high low body e d high' low' e' f) = entry-to-ten f
-inside-to-ten (section-faults.InsideFault.entries t z f) = entry-to-ten f
-
-applies-to-ten : {s : List ℕ} {k : ℕ} → section-faults.Applies s k → k ≤ 10
-applies-to-ten (section-faults.Applies.too-short h) = omega arith
-applies-to-ten (section-faults.Applies.unknown f) = omega arith
-applies-to-ten (section-faults.Applies.syntax i h t e) = omega arith
-applies-to-ten (section-faults.Applies.below i h t e) = omega arith
-applies-to-ten (section-faults.Applies.above i h t e) = omega arith
-applies-to-ten (section-faults.Applies.size e) = omega arith
-applies-to-ten (section-faults.Applies.register i h t c e) = omega arith
-applies-to-ten (section-faults.Applies.numbers i h t c e) = omega arith
-
-first-to-ten : {s : List ℕ} {k q : ℕ} → First s k q → k ≤ 10
-first-to-ten (section-faults.First.lowest a f) = applies-to-ten a
-first-to-ten (section-faults.First.inside clear i middle c f) = inside-to-ten f
 
 -- ---- a sheet into a section
 
@@ -148,7 +103,7 @@ section-room-first s o o' r w p = (
   where
     go : SectionRefusal (length o) s 21 0 → length o < 4096
     go (refusals.SectionRefusal.small h) = h
-    go (refusals.SectionRefusal.faulty h f) = let n = sheet-fault-from f in absurd (omega arith)
+    go (refusals.SectionRefusal.faulty h f) = let n = sheet-numbers f in absurd (omega arith)
 
 -- ---- a section into a sheet
 
@@ -212,4 +167,4 @@ sheet-room-first s o o' r w p = (
   where
     go : SheetRefusal (length o) s 21 0 → length o < 5120
     go (refusals.SheetRefusal.small h) = h
-    go (refusals.SheetRefusal.faulty h f) = let n = first-to-ten f in absurd (omega arith)
+    go (refusals.SheetRefusal.faulty h f) = let n = section-numbers f .1 in absurd (omega arith)

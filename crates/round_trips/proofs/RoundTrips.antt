@@ -5,6 +5,7 @@ use mathlib.Core.Path.{_≡_, refl, sym, ap, _∙_, subst}
 use mathlib.Core.List.{List}
 use mathlib.Core.Bool.{Bool, true, false}
 use native.Mathlib.Omega.{arith}
+use borrow.Author.Tests.{ltb-false}
 use lib.ListN.{length}
 use lib.Dec.{ltb}
 use Rattle.wire.specs.If.{if_then_else_}
@@ -13,17 +14,16 @@ use Rattle.wire.specs.Reading as reading
 use Rattle.verdict.specs.Verdict as verdict
 use Rattle.section.specs.Reading.{judged}
 use Rattle.sheet.specs.Content.{Content}
-use Rattle.sheet.specs.Sheet.{sheetOf, SheetOk}
+use Rattle.sheet.specs.Sheet.{sheetOf}
 use Rattle.sheet.specs.Section.{sectionOf, contentOf, readSheet}
 use Rattle.contents.specs.Ones.{OnesIn, ReservedWereOnes}
 use Rattle.contents.specs.Holds.{Holds}
 use Rattle.contents.proofs.SectionLaws.{content-again}
-use Rattle.contents.proofs.Held.{Held, held}
+use Rattle.contents.proofs.Held.{Held, held, ones-of, of-sheet}
 use Rattle.contents.proofs.Accepted.{made-accepted}
 use Rattle.contents.proofs.SheetSize.{sheet-fits, section-fits}
-use Rattle.contents.proofs.MadeOnes.{ones-of}
-use Rattle.contents.proofs.ReadBack.{OfSection, of-accepted, from-ones, from-any}
-use Rattle.turn.specs.Turn.{gives, refuses, sectionFrom, toSection, sheetFrom, sheetIf, toSheet}
+use Rattle.contents.proofs.ReadBack.{of-accepted}
+use Rattle.turn.specs.Turn.{Outcome, gives, refuses, sectionFrom, toSection, sheetFrom, sheetIf, toSheet}
 use Rattle.turn.proofs.TurnLaws.{to-section, to-sheet}
 
 gives-is : {a b : List ℕ} → gives a ≡ gives b → a ≡ b
@@ -34,26 +34,35 @@ no-gives e = let z : _≡_ {A = ℕ} 0 1 = cc in omega arith
 
 -- ---- a turn that ends well
 
+-- the room was large enough
+roomy : (n least : ℕ) (x : Outcome) (t : List ℕ) → (if ltb n least then refuses 21 0 else x) ≡ gives t
+    → (least ≤ n) × (x ≡ gives t)
+roomy n least x t = go (ltb n least) refl
+  where
+    go : (b : Bool) → ltb n least ≡ b → (if b then refuses 21 0 else x) ≡ gives t → (least ≤ n) × (x ≡ gives t)
+    go true q e = absurd (no-gives e)
+    go false q e = (ltb-false n least q, e)
+
 -- the content of a sheet that is turned into a section
-pub record FromSheet (s t : List ℕ) : Type 0 where
+pub record FromSheet (n : ℕ) (s t : List ℕ) : Type 0 where
+  pub room : 4096 ≤ n
   pub content : Content
+  pub shown : Held s content
   pub reads : readSheet s ≡ reading.value content
   pub made : t ≡ sectionOf content
 
-pub from-sheet : (n : ℕ) (s t : List ℕ) → toSection n s ≡ gives t → FromSheet s t
+pub from-sheet : (n : ℕ) (s t : List ℕ) → Bytes s → toSection n s ≡ gives t → FromSheet n s t
 unfolding toSection
-from-sheet n s t e = roomy (ltb n 4096) e
+from-sheet n s t w e = let x = roomy n 4096 (sectionFrom (readSheet s)) t e in read (x .0) (readSheet s) refl (x .1)
   where
-    read : (r : reading.Reading Content) → readSheet s ≡ r → sectionFrom r ≡ gives t → FromSheet s t
-    read (reading.value c) q f = record { content = c; reads = q; made = sym (gives-is f) }
-    read (reading.refused k) q f = absurd (no-gives f)
-
-    roomy : (b : Bool) → (if b then refuses 21 0 else sectionFrom (readSheet s)) ≡ gives t → FromSheet s t
-    roomy true f = absurd (no-gives f)
-    roomy false f = read (readSheet s) refl f
+    read : 4096 ≤ n → (r : reading.Reading Content) → readSheet s ≡ r → sectionFrom r ≡ gives t → FromSheet n s t
+    read h (reading.value c) q f =
+        record { room = h; content = c; shown = held s c w q; reads = q; made = sym (gives-is f) }
+    read h (reading.refused k) q f = absurd (no-gives f)
 
 -- the content of a section that is turned into a sheet
-pub record FromSection (s t : List ℕ) : Type 0 where
+pub record FromSection (n : ℕ) (s t : List ℕ) : Type 0 where
+  pub room : 5120 ≤ n
   pub is-accepted : judged s ≡ verdict.accepted
   pub content : Content
   pub holds : Holds content
@@ -61,14 +70,17 @@ pub record FromSection (s t : List ℕ) : Type 0 where
   pub reads : contentOf s ≡ reading.value content
   pub made : t ≡ sheetOf content
 
-pub from-section : (n : ℕ) (s t : List ℕ) → Bytes s → toSheet n s ≡ gives t → FromSection s t
+pub from-section : (n : ℕ) (s t : List ℕ) → Bytes s → toSheet n s ≡ gives t → FromSection n s t
 unfolding toSheet
-from-section n s t w e = roomy (ltb n 5120) e
+from-section n s t w e =
+    let x = roomy n 5120 (sheetIf (judged s) (sheetFrom (contentOf s))) t e in said (x .0) (judged s) refl (x .1)
   where
-    said : (v : verdict.Said) → judged s ≡ v → sheetIf v (sheetFrom (contentOf s)) ≡ gives t → FromSection s t
-    said verdict.accepted q f =
+    said : 5120 ≤ n → (v : verdict.Said) → judged s ≡ v → sheetIf v (sheetFrom (contentOf s)) ≡ gives t
+        → FromSection n s t
+    said h verdict.accepted q f =
         let x = of-accepted s w q in
         record {
+          room = h;
           is-accepted = q;
           content = x .content;
           holds = x .holds;
@@ -76,12 +88,7 @@ from-section n s t w e = roomy (ltb n 5120) e
           reads = x .reads;
           made = sym (gives-is f) ∙ ap sheetFrom (x .reads);
         }
-    said (verdict.refused k p) q f = absurd (no-gives f)
-
-    roomy : (b : Bool) → (if b then refuses 21 0 else sheetIf (judged s) (sheetFrom (contentOf s))) ≡ gives t
-        → FromSection s t
-    roomy true f = absurd (no-gives f)
-    roomy false f = said (judged s) refl f
+    said h (verdict.refused k p) q f = absurd (no-gives f)
 
 -- ---- demand 2
 
@@ -89,46 +96,46 @@ from-section n s t w e = roomy (ltb n 5120) e
 pub sheet-and-back : (n m : ℕ) (s t : List ℕ) → Bytes s → 5120 ≤ m → toSection n s ≡ gives t
     → (judged t ≡ verdict.accepted) × (toSheet m t ≡ gives s)
 sheet-and-back n m s t w h e =
-    let x = from-sheet n s t e in
-    let y = held s (x .content) w (x .reads) in
-    let a : judged t ≡ verdict.accepted = ap judged (x .made) ∙ made-accepted (x .content) (y .holds) in
-    let b : contentOf t ≡ reading.value (x .content) = ap contentOf (x .made) ∙ content-again (x .content) (y .holds) in
-    (a, to-sheet m t (x .content) h a b ∙ ap gives (sym (y .shows)))
+    let x = from-sheet n s t w e in
+    let holds = x .shown .holds in
+    let a : judged t ≡ verdict.accepted = ap judged (x .made) ∙ made-accepted (x .content) holds in
+    let b : contentOf t ≡ reading.value (x .content) = ap contentOf (x .made) ∙ content-again (x .content) holds in
+    (a, to-sheet m t (x .content) h a b ∙ ap gives (sym (x .shown .shows)))
 
 -- an accepted section made into a sheet and back is the same bytes, if its reserved bits were ones
 pub section-and-back : (n m : ℕ) (s t : List ℕ) → Bytes s → 4096 ≤ n → ReservedWereOnes s → toSheet m s ≡ gives t
     → toSection n t ≡ gives s
 section-and-back n m s t w h u e =
     let x = from-section m s t w e in
-    let back = from-ones (x .content) (x .holds) (subst OnesIn (x .reads) u) in
-    to-section n t (x .content) h (ap readSheet (x .made) ∙ back) ∙ ap gives (x .is)
+    let y = of-sheet (x .content) (x .holds) in
+    let same = y .same (subst OnesIn (x .reads) u) in
+    to-section n t (y .content) h (ap readSheet (x .made) ∙ y .reads) ∙ ap gives (ap sectionOf same ∙ x .is)
 
 -- whatever its reserved bits, it becomes a sheet of which a section as long is made
 pub any-section-and-back : (n m : ℕ) (s t : List ℕ) → Bytes s → 4096 ≤ n → toSheet m s ≡ gives t
     → (u : List ℕ) × (toSection n t ≡ gives u) × (length u ≡ length s)
 any-section-and-back n m s t w h e =
     let x = from-section m s t w e in
-    let back = from-any (x .content) (x .holds) in (
-      sectionOf (back .0),
-      to-section n t (back .0) h (ap readSheet (x .made) ∙ back .1),
-      back .2 ∙ ap length (x .is),
+    let y = of-sheet (x .content) (x .holds) in (
+      sectionOf (y .content),
+      to-section n t (y .content) h (ap readSheet (x .made) ∙ y .reads),
+      y .long ∙ ap length (x .is),
     )
 
 -- the section of a sheet has its reserved bits as ones
 pub made-ones : (n : ℕ) (s t : List ℕ) → Bytes s → toSection n s ≡ gives t → ReservedWereOnes t
 made-ones n s t w e =
-    let x = from-sheet n s t e in
-    let h = held s (x .content) w (x .reads) in
-    let r : contentOf t ≡ reading.value (x .content) = ap contentOf (x .made) ∙ content-again (x .content) (h .holds) in
-    subst OnesIn (sym r) (ones-of (x .content) (h .ok))
+    let x = from-sheet n s t w e in
+    let r : contentOf t ≡ reading.value (x .content) =
+    ap contentOf (x .made) ∙ content-again (x .content) (x .shown .holds) in
+    subst OnesIn (sym r) (ones-of (x .content) (x .shown .ok))
 
 -- ---- "Largest results are proved to fit"
 
 pub section-at-most : (n : ℕ) (s t : List ℕ) → Bytes s → toSection n s ≡ gives t → length t ≤ 4096
 section-at-most n s t w e =
-    let x = from-sheet n s t e in
-    let l = section-fits (x .content) (held s (x .content) w (x .reads) .holds) in
-    subst (λ z. length z ≤ 4096) (sym (x .made)) l
+    let x = from-sheet n s t w e in
+    subst (λ z. length z ≤ 4096) (sym (x .made)) (section-fits (x .content) (x .shown .holds))
 
 pub sheet-at-most : (n : ℕ) (s t : List ℕ) → Bytes s → toSheet n s ≡ gives t → length t ≤ 5120
 sheet-at-most n s t w e =
@@ -138,9 +145,8 @@ sheet-at-most n s t w e =
 -- and what was turned is no longer than that either
 pub accepted-sheet-at-most : (n : ℕ) (s t : List ℕ) → Bytes s → toSection n s ≡ gives t → length s ≤ 5120
 accepted-sheet-at-most n s t w e =
-    let x = from-sheet n s t e in
-    let h = held s (x .content) w (x .reads) in
-    subst (λ z. length z ≤ 5120) (sym (h .shows)) (sheet-fits (x .content) (h .holds))
+    let x = from-sheet n s t w e in
+    subst (λ z. length z ≤ 5120) (sym (x .shown .shows)) (sheet-fits (x .content) (x .shown .holds))
 
 pub accepted-section-at-most : (n : ℕ) (s t : List ℕ) → Bytes s → toSheet n s ≡ gives t → length s ≤ 4096
 accepted-section-at-most n s t w e =

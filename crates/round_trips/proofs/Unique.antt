@@ -1,5 +1,4 @@
 -- Each promise allows one answer: two answers that tell the same are the same.
-use Prim.Native.Nat.{ℕ}
 use mathlib.Core.Path.{_≡_, refl, sym, ap, _∙_}
 use lib.Dec.{eqb}
 use Rattle.wire.specs.If.{if_then_else_}
@@ -47,7 +46,8 @@ refusal-back : (v : Verdict) → sheetBy (toldRefusal (verdict.told v)) ≡ shee
 unfolding sheetBy
 refusal-back v = go v (verdict-back v)
   where
-    go : (v : Verdict) → verdictOf (verdict.numberOf (verdict.told v)) (verdict.placeOf (verdict.told v)) ≡ v → sheetBy (toldRefusal (verdict.told v)) ≡ sheet.Refused v
+    go : (v : Verdict) → verdictOf (verdict.numberOf (verdict.told v)) (verdict.placeOf (verdict.told v)) ≡ v
+        → sheetBy (toldRefusal (verdict.told v)) ≡ sheet.Refused v
     go variants.Accepted e = ap sheet.Refused e
     go variants.TooShort e = ap sheet.Refused e
     go variants.UnknownTable e = ap sheet.Refused e

@@ -11,7 +11,7 @@ use Rattle.wire.specs.Parts.{Part}
 use Rattle.wire.proofs.PartLaws.{part-second, part-taken}
 use Rattle.verdict.specs.Verdict.{Said, accepted, refused, isAccepted}
 use Rattle.loops.specs.Descriptors.{Placed}
-use Rattle.section.specs.Reading.{Reading, judged}
+use Rattle.section.specs.Reading.{LoopsRead, judged}
 use Rattle.section.specs.Grammar.{Section}
 use Rattle.section.specs.Faults.{First}
 use Rattle.search.specs.Search as search
@@ -75,7 +75,7 @@ module _ (s : List ℕ) (tag : ℕ) where
   pub section-sought : (loops : List (List Placed)) → Section s loops → sought s tag ≡ hitFrom tag 0 loops
   unfolding sought
   section-sought loops x =
-      rw (ap isAccepted (section-judged s loops x)) (ap (λ (r : Reading). hitFrom tag 0 (r .items)) (section-read s loops x))
+      rw (ap isAccepted (section-judged s loops x)) (ap (λ (r : LoopsRead). hitFrom tag 0 (r .items)) (section-read s loops x))
 
   first-sought : (k q : ℕ) → First s k q → sought s tag ≡ refusing k q
   unfolding sought

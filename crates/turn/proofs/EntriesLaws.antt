@@ -12,7 +12,7 @@ use Rattle.wire.proofs.PartLaws.{part-second, part-taken}
 use Rattle.tables.specs.Tables.{cell}
 use Rattle.forms.specs.Form.{EachOk}
 use Rattle.forms.specs.Fields.{room, pack, sheetFields}
-use Rattle.forms.specs.Lists.{all, All, times, countedShow, loopShow}
+use Rattle.forms.specs.Lists.{all, times, countedShow, loopShow}
 use Rattle.forms.specs.Room.{put, sum}
 use Rattle.forms.specs.Inner.Turning.{Turned}
 use Rattle.forms.proofs.Puts.{sum-fits, put-put, length-put}
@@ -22,9 +22,8 @@ use Rattle.sheet.specs.Sheet.{sheetEntry}
 use Rattle.sheet.specs.Section.{sectionEntry}
 use Rattle.turn.specs.Inner.Fields.{Shape, running, bared}
 use Rattle.turn.specs.Inner.Ways.{entryFrom, entryTo, entriesShown, behindOwn, ownSize, ownPut, BesideOk, BesideFit, EntriesForth, EntriesBack, NumberIn, putNumber}
-use Rattle.contents.proofs.SectionLaws.{half-bare, entry-full}
+use Rattle.contents.proofs.SectionLaws.{half-bare, no-more, entry-full}
 use Rattle.contents.proofs.Accepted.{says}
-use Rattle.contents.proofs.AllOnes.{no-more}
 use Rattle.turn.proofs.PieceLaws.{part-within, part-byte, part-first-byte, number-put}
 use Rattle.forms.specs.declared.Place.{Place}
 
@@ -46,23 +45,31 @@ status-side (suc (suc (suc (suc (suc (suc row)))))) f g h = running
 
 -- ---- so many entries: what the rest comes to, the whole comes to
 
-module _ (b : Bool) (row number : ℕ) (s : List ℕ) (o : List ℕ) (p : Place) where
-  abbrev pub Turning : List ℕ → Place → ℕ → Type 0
-  Turning o' q left = (r : Place) (o'' : List ℕ) → Turned (times (entryFrom b row) left) (times (entryTo b row) left) s q o' r o''
-      → Turned (times (entryFrom b row) number) (times (entryTo b row) number) s p o r o''
+module _ (b : Bool) (row number : ℕ) (s o : List ℕ) (p : Place) where
+  pub record Turning (o' : List ℕ) (q : Place) (left : ℕ) : Type 0 where
+    pub size : length o' ≡ length o
+    pub rest : (r : Place) (o'' : List ℕ) → Turned (times (entryFrom b row) left) (times (entryTo b row) left) s q o' r o''
+        → Turned (times (entryFrom b row) number) (times (entryTo b row) number) s p o r o''
 
-  pub turning-on : {q q' : Place} {o' o'' : List ℕ} (left k : ℕ) → left ≡ suc k
-      → Turned (entryFrom b row) (entryTo b row) s q o' q' o'' → Turning o' q left → Turning o'' q' k
-  turning-on {q} {q'} {o'} {o''} left k e t f r x u =
-      f r x
-      (subst (λ n. Turned (times (entryFrom b row) n) (times (entryTo b row) n) s q o' r x) (sym e)
-      (turned-suc (entryFrom b row) (entryTo b row) k t u))
+  pub turning-begins : Turning o p number
+  turning-begins = record { size = refl; rest = λ r o'' t. t }
 
-  pub turning-ends : {q : Place} {o' : List ℕ} (left : ℕ) → left ≡ 0 → Turning o' q left
+  pub turning-on : {q q' : Place} {o' o'' : List ℕ} {left : ℕ} → 0 < left → length o'' ≡ length o'
+      → Turned (entryFrom b row) (entryTo b row) s q o' q' o'' → Turning o' q left → Turning o'' q' (left - 1)
+  turning-on {q} {q'} {o'} {o''} {left} some l t f =
+      let e : suc (left - 1) ≡ left = omega arith in
+      record {
+        size = l ∙ f .size;
+        rest = λ r x u.
+            f .rest r x (subst (λ n. Turned (times (entryFrom b row) n) (times (entryTo b row) n) s q o' r x) e
+            (turned-suc (entryFrom b row) (entryTo b row) (left - 1) t u));
+      }
+
+  pub turning-ends : {q : Place} {o' : List ℕ} {left : ℕ} → left ≤ 0 → Turning o' q left
       → Turned (times (entryFrom b row) number) (times (entryTo b row) number) s p o q o'
-  turning-ends {q} {o'} left e f =
-      f q o'
-      (subst (λ n. Turned (times (entryFrom b row) n) (times (entryTo b row) n) s q o' q o') (sym e)
+  turning-ends {q} {o'} {left} ended f =
+      let e : 0 ≡ left = omega arith in
+      f .rest q o' (subst (λ n. Turned (times (entryFrom b row) n) (times (entryTo b row) n) s q o' q o') e
       (turned-zero (entryFrom b row) (entryTo b row)))
 
 -- ---- what is shown of them

@@ -19,9 +19,8 @@ use Rattle.sheet.specs.Sheet.{descriptor}
 use Rattle.sheet.specs.Section.{sectionLoop}
 use Rattle.turn.specs.Inner.Fields.{Shape, keptSize, joinedAt, partedOf, Parted}
 use Rattle.turn.specs.Inner.Ways.{NumberIn, SizeAt, putNumber, Numbered, LoopTurned, loopFrom}
-use Rattle.contents.proofs.SectionLaws.{descriptor-full}
+use Rattle.contents.proofs.SectionLaws.{no-more, descriptor-full}
 use Rattle.contents.proofs.Accepted.{says}
-use Rattle.contents.proofs.AllOnes.{no-more}
 use Rattle.turn.proofs.PieceLaws.{part-within, part-byte, part-first-byte, number-put, shape-room, packed-small, fields-shown, fields-size, fields-joined}
 use Rattle.forms.specs.declared.Place.{Place}
 
@@ -53,11 +52,13 @@ numbered-done {s} {o} ls lo {p} {q} {number} {n} {behind} {o₁} {o'} hb h₁ h 
 module _ {s o : List ℕ} (ls : length s < 2 ^ 64) (lo : length o < 2 ^ 64) {p q : Place} {o' : List ℕ} {span : ℕ} where
   -- to a section: `at` is the place of the number of descriptors, n are their bytes
   pub loop-forth : {at n v from : ℕ} → at ≡ sum (p .at) (keptSize span) → SizeAt s at n → from ≡ sum at 2
-      → v ≡ sum (joinedAt span s (p .at) % 16 * 4096) n → Numbered v n s (record { at = from; to = p .to }) o q o' → LoopTurned true span s p o q o'
+      → v ≡ sum (joinedAt span s (p .at) % 16 * 4096) n → Numbered v n s (record { at = from; to = p .to }) o q o'
+      → LoopTurned true span s p o q o'
   unfolding countedShow loopShow
   loop-forth {at} {n} {v} {from} hat hn hf hv d = record { turned = all-fields }
     where
-      go : {fs : List Field} → Shape fs span 16 → (vs : List ℕ) (ds : List Descriptor) → sheetFields fs .Ok vs → (length ds < 65536) × All descriptor ds
+      go : {fs : List Field} → Shape fs span 16 → (vs : List ℕ) (ds : List Descriptor) → sheetFields fs .Ok vs
+          → (length ds < 65536) × All descriptor ds
           → sectionLoop fs .Ok (vs, ds) → Part s (p .at) (sheetFields fs .show vs ++ countedShow descriptor ds)
           → p .to + length (loopShow descriptor fs (vs, ds)) ≤ length o
           → Done p (sheetFields fs .show vs ++ countedShow descriptor ds) (loopShow descriptor fs (vs, ds)) o q o'
@@ -98,7 +99,8 @@ module _ {s o : List ℕ} (ls : length s < 2 ^ 64) (lo : length o < 2 ^ 64) {p q
   unfolding countedShow loopShow
   loop-back {n} {k} {from} {to} {b} {o₁} hn hf ht hk hb hp d = record { turned = all-fields }
     where
-      go : {fs : List Field} → Shape fs span 16 → (vs : List ℕ) (ds : List Descriptor) → sectionLoop fs .Ok (vs, ds) → Part s (p .at) (loopShow descriptor fs (vs, ds))
+      go : {fs : List Field} → Shape fs span 16 → (vs : List ℕ) (ds : List Descriptor) → sectionLoop fs .Ok (vs, ds)
+          → Part s (p .at) (loopShow descriptor fs (vs, ds))
           → p .to + length (sheetFields fs .show vs ++ countedShow descriptor ds) ≤ length o
           → Done p (loopShow descriptor fs (vs, ds)) (sheetFields fs .show vs ++ countedShow descriptor ds) o q o'
       go {fs} sh vs ds ok w f =

@@ -74,7 +74,8 @@ two-put o to a b lo f =
     ∙ put-put o to (a ∷ []) (omega arith) (b ∷ []) (omega arith)
 
 -- a number of two bytes, put
-pub number-put : (o : List ℕ) (to v : ℕ) → length o < 2 ^ 64 → to + 2 ≤ length o → putNumber o to v ≡ put o to (v / 256 % 256 ∷ v % 256 ∷ [])
+pub number-put : (o : List ℕ) (to v : ℕ) → length o < 2 ^ 64 → to + 2 ≤ length o
+    → putNumber o to v ≡ put o to (v / 256 % 256 ∷ v % 256 ∷ [])
 number-put o to v lo f = two-put o to (v / 256 % 256) (v % 256) lo f
 
 -- ---- fields

@@ -1,4 +1,5 @@
-// How many items fill their bytes, and how many bytes so many descriptors take. Each is right where the bytes are such items; it ends anyhow.
+// How many items fill their bytes, and how many bytes so many descriptors take. Each is right where the bytes are such items; it ends
+// anyhow.
 ghost use Rattle.sheet.specs.Sheet.{descriptor};
 ghost use Rattle.sheet.specs.Section.{sectionEntry};
 ghost use Rattle.turn.specs.Inner.Ways.{NumberIn, SizeAt, EntrySizes};

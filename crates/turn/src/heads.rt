@@ -15,7 +15,8 @@ use tables::is_numbered;
 // What follows last_section_number: in an SDT original_network_id and a reserved byte, in an EIT ids and numbers.
 fn ids(forth: bool, row: usize, s: &[u8], p: Place, room: &mut [u8]) -> Place
     requires { ⌜ row < TDT ⌝ }
-    ensures { λ r. ⌜ Turned (itemsFrom forth (drop 3 (headOf row))) (itemsTo forth (drop 3 (headOf row))) (now (s .entry)) p (now (room .entry)) r (now (room .exit)) ⌝ }
+    ensures { λ r. ⌜ Turned (itemsFrom forth (drop 3 (headOf row))) (itemsTo forth (drop 3 (headOf row)))
+        (now (s .entry)) p (now (room .entry)) r (now (room .exit)) ⌝ }
 {
     if row == SDT {
         let q = plain(s, p, 2, room);
@@ -30,7 +31,8 @@ fn ids(forth: bool, row: usize, s: &[u8], p: Place, room: &mut [u8]) -> Place
 // Extension id, version and current_next_indicator, section numbers, ids.
 fn common(forth: bool, row: usize, s: &[u8], p: Place, room: &mut [u8]) -> Place
     requires { ⌜ row < TDT ⌝ }
-    ensures { λ r. ⌜ Turned (itemsFrom forth (headOf row)) (itemsTo forth (headOf row)) (now (s .entry)) p (now (room .entry)) r (now (room .exit)) ⌝ }
+    ensures { λ r. ⌜ Turned (itemsFrom forth (headOf row)) (itemsTo forth (headOf row))
+        (now (s .entry)) p (now (room .entry)) r (now (room .exit)) ⌝ }
 {
     let version = plain(s, p, 2, room);
     let numbers = packed(forth, 32, s, version, room);
@@ -40,7 +42,8 @@ fn common(forth: bool, row: usize, s: &[u8], p: Place, room: &mut [u8]) -> Place
 
 pub fn head(forth: bool, row: usize, s: &[u8], p: Place, room: &mut [u8]) -> Place
     requires { ⌜ row < UNKNOWN ⌝ }
-    ensures { λ r. ⌜ Turned (itemsFrom forth (headOf row)) (itemsTo forth (headOf row)) (now (s .entry)) p (now (room .entry)) r (now (room .exit)) ⌝ }
+    ensures { λ r. ⌜ Turned (itemsFrom forth (headOf row)) (itemsTo forth (headOf row))
+        (now (s .entry)) p (now (room .entry)) r (now (room .exit)) ⌝ }
 {
     if is_numbered(row) {
         return common(forth, row, s, p, room);
@@ -49,7 +52,8 @@ pub fn head(forth: bool, row: usize, s: &[u8], p: Place, room: &mut [u8]) -> Pla
 }
 
 pub fn entry_fields(forth: bool, row: usize, s: &[u8], p: Place, room: &mut [u8]) -> Place
-    ensures { λ r. ⌜ Turned (itemsFrom forth (entryOf row)) (itemsTo forth (entryOf row)) (now (s .entry)) p (now (room .entry)) r (now (room .exit)) ⌝ }
+    ensures { λ r. ⌜ Turned (itemsFrom forth (entryOf row)) (itemsTo forth (entryOf row))
+        (now (s .entry)) p (now (room .entry)) r (now (room .exit)) ⌝ }
 {
     if row == SDT {
         let q = plain(s, p, 2, room);

@@ -172,6 +172,19 @@ static void part_met(const struct collector *c, const uint8_t *packet, unsigned 
     }
 }
 
+/* The out room by its parts: the sections that were finished, end to end, and no other. */
+static void cut_out(const uint8_t *out, size_t size, lohitunga_collect_answer m)
+{
+    lohitunga_section_step step = lohitunga_next_section(out, size, (lohitunga_part){0, m.size});
+    size_t sections = 0, at = 0;
+    for (; step.found; step = lohitunga_next_section(out, size, step.rest)) {
+        must(step.section.start == at, "the sections of the out room stand end to end");
+        at += step.section.size;
+        sections++;
+    }
+    must(sections == m.sections && at == m.size, "the out room is cut into the sections that were finished");
+}
+
 /* One packet; record, hold and out are then as the library left them. */
 static void compare_collect(struct collector *c, const uint8_t *packet, size_t size, struct second_collected *a)
 {
@@ -195,6 +208,7 @@ static void compare_collect(struct collector *c, const uint8_t *packet, size_t s
         long long library[] = {m.number, m.repeated, (long long)m.sections, (long long)m.size};
         long long second[] = {a->number, repeated, a->sections, a->bytes};
         same("number repeated sections size", library, second, 4);
+        cut_out(out, c->out_size, m);
         memcpy(&now, room_now(&rooms.state), sizeof now);
         same_record(&c->record, &now, &after);
         same_bytes("the hold", room_now(&rooms.hold), hold_second, c->hold_size);

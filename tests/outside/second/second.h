@@ -33,6 +33,28 @@ struct second_step { unsigned number; uint64_t place; int kind; uint8_t tag; siz
 /* What a walk gives at a place of a loop, and its place afterwards. `at` is the place of the tag, `size` that of the whole. */
 struct second_step second_walk(const uint8_t *loop, size_t size, uint64_t place);
 
+/* Parts of the bytes: each call is given what is left, any two numbers, and gives what is left behind what it found */
+
+struct second_part { uint64_t start, size; };
+
+struct second_opened {
+    unsigned number, place;
+    unsigned table_id, network_id, bouquet_id, service_id, transport_stream_id, original_network_id, version, current, section, last;
+    struct second_part utc_time, top, entries;
+};
+struct second_entry {
+    int found;
+    unsigned service_id, event_id, transport_stream_id, original_network_id;
+    struct second_part fixed, start_time, duration, descriptors, rest;
+};
+struct second_descriptor { int found; uint8_t tag; struct second_part whole, body, rest; };
+struct second_cut { int found; struct second_part section, rest; };
+
+struct second_opened second_open(const uint8_t *section, size_t size);
+struct second_entry second_entry(const uint8_t *section, size_t size, struct second_part rest);
+struct second_descriptor second_descriptor(const uint8_t *section, size_t size, struct second_part rest);
+struct second_cut second_cut(const uint8_t *room, size_t size, struct second_part rest);
+
 /* Content sheets */
 
 struct second_written { unsigned number, place; size_t written; };

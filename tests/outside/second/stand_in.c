@@ -72,6 +72,69 @@ lohitunga_walk_answer lohitunga_walk(const uint8_t *loop, size_t size, size_t at
     return a;
 }
 
+static lohitunga_part to_c(struct second_part p) { return (lohitunga_part){p.start, p.size}; }
+
+static struct second_part from_c(lohitunga_part p) { return (struct second_part){p.start, p.size}; }
+
+lohitunga_open_answer lohitunga_open(const uint8_t *section, size_t size)
+{
+    struct second_opened o = second_open(section, size);
+    lohitunga_open_answer a;
+    memset(&a, 0, sizeof a);
+    a.number = o.number;
+    a.place = o.place;
+    a.head.table_id = o.table_id;
+    a.head.network_id = o.network_id;
+    a.head.bouquet_id = o.bouquet_id;
+    a.head.service_id = o.service_id;
+    a.head.transport_stream_id = o.transport_stream_id;
+    a.head.original_network_id = o.original_network_id;
+    a.head.version_number = o.version;
+    a.head.current_next_indicator = o.current;
+    a.head.section_number = o.section;
+    a.head.last_section_number = o.last;
+    a.utc_time = to_c(o.utc_time);
+    a.top = to_c(o.top);
+    a.entries = to_c(o.entries);
+    /* 23: of a section that is refused the head is told */
+    if (fault(23) && o.number >= 6)
+        a.head.table_id = section[0];
+    return a;
+}
+
+lohitunga_entry_step lohitunga_next_entry(const uint8_t *section, size_t size, lohitunga_part rest)
+{
+    struct second_entry e = second_entry(section, size, from_c(rest));
+    lohitunga_entry_step a = {e.found, e.service_id, e.event_id, e.transport_stream_id, e.original_network_id, to_c(e.fixed), to_c(e.start_time),
+                              to_c(e.duration), to_c(e.descriptors), to_c(e.rest)};
+    /* 24: the last entry is not found */
+    if (fault(24) && e.found && e.rest.size == 0) {
+        memset(&a, 0, sizeof a);
+        a.rest = rest;
+    }
+    return a;
+}
+
+lohitunga_descriptor_step lohitunga_next_descriptor(const uint8_t *section, size_t size, lohitunga_part rest)
+{
+    struct second_descriptor d = second_descriptor(section, size, from_c(rest));
+    lohitunga_descriptor_step a = {d.found, d.tag, to_c(d.whole), to_c(d.body), to_c(d.rest)};
+    /* 25: the length counts itself */
+    if (fault(25) && d.found && d.body.size > 0)
+        a.body.size--;
+    return a;
+}
+
+lohitunga_section_step lohitunga_next_section(const uint8_t *out, size_t size, lohitunga_part rest)
+{
+    struct second_cut c = second_cut(out, size, from_c(rest));
+    lohitunga_section_step a = {c.found, to_c(c.section), to_c(c.rest)};
+    /* 26: a part that reaches past the room hands out a section */
+    if (fault(26) && !c.found && size > 0)
+        a.found = 1;
+    return a;
+}
+
 lohitunga_record lohitunga_fresh(uint16_t pid)
 {
     lohitunga_record r;
@@ -93,7 +156,7 @@ lohitunga_collect_answer lohitunga_collect(lohitunga_record *r, uint8_t *hold, s
     uint32_t filler = r->filler;
     record_out(r, &s);
     /* 7: one byte beyond the delivered ones; 8: the hold as scratch room; 9: a counter that stops at its end; 10: control 10 keeps the counter;
-     * 23: what is spare is cleared */
+     * 27: what is spare is cleared */
     if (fault(7) && c.bytes > 0 && c.bytes < out_size)
         out[c.bytes] ^= 1;
     if (fault(8) && c.sections > 0 && s.in_hand < hold_size)
@@ -102,7 +165,7 @@ lohitunga_collect_answer lohitunga_collect(lohitunga_record *r, uint8_t *hold, s
         r->filler = UINT32_MAX;
     if (fault(10) && c.payload == 0 && !a.repeated)
         r->last = packet[3] % 16;
-    if (fault(23))
+    if (fault(27))
         memset(r->spare, 0, sizeof r->spare);
     return a;
 }
@@ -286,6 +349,20 @@ lohitunga_duration_answer lohitunga_read_duration(uint8_t hour, uint8_t minute, 
     a.duration.minute = (uint8_t)s.minutes;
     a.duration.second = (uint8_t)s.seconds;
     return a;
+}
+
+lohitunga_time_answer lohitunga_time_from(const uint8_t *bytes, size_t size)
+{
+    uint8_t b[5] = {0};
+    memcpy(b, bytes, size < sizeof b ? size : sizeof b);
+    return lohitunga_read_time((uint16_t)(b[0] * 256 + b[1]), b[2], b[3], b[4]);
+}
+
+lohitunga_duration_answer lohitunga_duration_from(const uint8_t *bytes, size_t size)
+{
+    uint8_t b[3] = {0};
+    memcpy(b, bytes, size < sizeof b ? size : sizeof b);
+    return lohitunga_read_duration(b[0], b[1], b[2]);
 }
 
 lohitunga_offset_answer lohitunga_read_offset(uint8_t behind, uint8_t hour, uint8_t minute)

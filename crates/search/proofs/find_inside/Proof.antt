@@ -1,7 +1,7 @@
 -- `search::find_inside` meets its contract, shape by shape.
 use mathlib.Core.Path.{sym, ap, _∙_}
 use Rattle.wire.specs.Trail.{answer}
-use Rattle.section.specs.Reading.{Reading}
+use Rattle.section.specs.Reading.{LoopsRead}
 use Rattle.search.specs.Search.{hitFrom}
 use Rattle.section.proofs.Readings.{inside-topped, inside-plain, plain-none, plain-entries}
 use Rattle.search.proofs.find_inside.Statement.{statement}
@@ -17,14 +17,14 @@ returns c =
     let then1 = c .before in
     let args = then1 .before .before .before .args in
     c .find-from-top .ensures
-    ∙ sym (ap (λ (x : Reading). hitFrom (args .tag) 0 (x .items))
+    ∙ sym (ap (λ (x : LoopsRead). hitFrom (args .tag) 0 (x .items))
     (inside-topped (args .row) _ _ (then1 .if1 .taken)))
 
 returns-2 : tie.Need-returns-2
 returns-2 c =
     let else1 = c .before in
     let args = else1 .before .before .before .args in
-    sym (ap (λ (x : Reading). hitFrom (args .tag) 0 (x .items))
+    sym (ap (λ (x : LoopsRead). hitFrom (args .tag) 0 (x .items))
     (inside-plain (args .row) _ _ (else1 .if1 .left) ∙ plain-none _ _ _ (c .if2 .taken)))
 
 find-in-entries-requires : tie.Need-find-in-entries-requires
@@ -41,7 +41,7 @@ returns-3 c =
     let else1 = c .before .before in
     let args = else1 .before .before .before .args in
     c .find-in-entries .ensures
-    ∙ sym (ap (λ (x : Reading). hitFrom (args .tag) 0 (x .items))
+    ∙ sym (ap (λ (x : LoopsRead). hitFrom (args .tag) 0 (x .items))
     (inside-plain (args .row) _ _ (else1 .if1 .left) ∙ plain-entries _ _ _ (c .before .if2 .left)))
 
 pub find-inside-spec : {M : Type 1} → statement M

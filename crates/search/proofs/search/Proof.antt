@@ -4,7 +4,7 @@ use lib.ListN.{drop}
 use Rattle.wire.specs.Trail.{answer}
 use Rattle.tables.specs.Tables.{rowOf, rowAt, FixedTwo}
 use Rattle.verdict.specs.Verdict.{Said, accepted, isAccepted, numberOf, placeOf}
-use Rattle.section.specs.Reading.{Reading, inside, read, judged}
+use Rattle.section.specs.Reading.{LoopsRead, inside, read, judged}
 use Rattle.search.specs.Search.{refusing, hitFrom, sought}
 use Rattle.tables.specs.declared.Row.{Row}
 use Rattle.tables.proofs.RowLaws.{fixed-two}
@@ -72,7 +72,7 @@ returns c =
     let loops = c .before in
     let tag = start (held loops) .args .tag in
     rw (ap isAccepted (ok (held loops)))
-    (c .find-inside .ensures ∙ sym (ap (λ (x : Reading). hitFrom tag 0 (x .items)) (all-read loops)))
+    (c .find-inside .ensures ∙ sym (ap (λ (x : LoopsRead). hitFrom tag 0 (x .items)) (all-read loops)))
 
 returns-2 : tie.Need-returns-2
 unfolding sought

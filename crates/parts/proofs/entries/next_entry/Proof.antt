@@ -1,9 +1,9 @@
 -- The first entry of a part that lies in the section.
 use Rattle.parts.specs.Entries.{entryAt}
 -- The first entry of a part that lies in the section.
-use mathlib.Core.Path.{_≡_, ap, sym, _∙_}
+use mathlib.Core.Path.{ap, sym, _∙_}
 use Rattle.tables.proofs.RowLaws.{fixed-two}
-use Rattle.tables.specs.Tables.{rowAt, rowOf, FixedTwo}
+use Rattle.tables.specs.Tables.{rowAt, rowOf}
 use Rattle.tables.specs.declared.Row.{Row}
 use Rattle.parts.proofs.Fronts.{lies, entry-in, entry-out}
 use borrow.Author.Needs.{needs}
@@ -23,16 +23,19 @@ row-at-requires : tie.Need-row-at-requires
 row-at-requires c κs = search needs
 
 entry-at-requires : tie.Need-entry-at-requires
-entry-at-requires c κs = (rw (c .row-at .ensures) (fixed-two _), lies _ _ (c .before .before .before .before .is-within .ensures) (c .before .before .before .if1 .taken))
+entry-at-requires c κs =
+    let known = c .before .before .before in
+    (rw (c .row-at .ensures) (fixed-two _), lies _ _ (known .before .is-within .ensures) (known .if1 .taken))
 
 returns : tie.Need-returns
 returns c =
     let read = c .before .before .before in
-    let within = read .before .before .is-within .ensures in
-    let args = read .before .before .before .before .args in
+    let known = read .before in
+    let args = known .before .before .before .args in
+    let number = c .before .before .row-of .ensures ∙ ap rowOf (read .byte-at .ensures) in
     c .entry-at .ensures
-    ∙ ap (λ (w : Row). entryAt (w .fixed) (args .section .now) (args .rest)) (c .before .row-at .ensures ∙ ap rowAt (c .before .before .row-of .ensures ∙ ap rowOf (read .byte-at .ensures)))
-    ∙ sym (entry-in _ _ within (read .before .if1 .taken))
+    ∙ ap (λ (w : Row). entryAt (w .fixed) (args .section .now) (args .rest)) (c .before .row-at .ensures ∙ ap rowAt number)
+    ∙ sym (entry-in _ _ (known .before .is-within .ensures) (known .if1 .taken))
 
 no-entry-requires : tie.Need-no-entry-requires
 no-entry-requires c κs = search needs

@@ -11,7 +11,9 @@ no-part-requires : tie.Need-no-part-requires
 no-part-requires c κs = search needs
 
 returns : tie.Need-returns
-returns c = c .no-part .ensures ∙ sym (event-short _ (c .before .before .before .before .args .fixed) _ _ (omega arith))
+returns c =
+    let short = c .before in
+    c .no-part .ensures ∙ sym (event-short _ (short .before .before .before .args .fixed) _ _ (omega arith))
 
 byte-at-requires : tie.Need-byte-at-requires
 byte-at-requires c κs = search needs
@@ -25,8 +27,10 @@ add-t9 c = search needs
 returns-2 : tie.Need-returns-2
 returns-2 c =
     let read = c .before .before in
-    let args = read .before .before .before .before .args in
-    sym (event-there _ (args .fixed) (args .from) (args .size) (omega arith) (sym (c .before .row-of .ensures ∙ ap rowOf (read .byte-at .ensures)) ∙ c .if2 .taken))
+    let long = read .before in
+    let args = long .before .before .before .args in
+    let row = c .before .row-of .ensures ∙ ap rowOf (read .byte-at .ensures) in
+    sym (event-there _ (args .fixed) (args .from) (args .size) (omega arith) (sym row ∙ c .if2 .taken))
 
 no-part-requires-2 : tie.Need-no-part-requires-2
 no-part-requires-2 c κs = search needs
@@ -34,7 +38,8 @@ no-part-requires-2 c κs = search needs
 returns-3 : tie.Need-returns-3
 returns-3 c =
     let read = c .before .before .before in
-    let args = read .before .before .before .before .args in
+    let long = read .before in
+    let args = long .before .before .before .args in
     let row = c .before .before .row-of .ensures ∙ ap rowOf (read .byte-at .ensures) in
     c .no-part2 .ensures ∙ sym (event-other _ (args .fixed) _ _ (omega arith) (λ e. c .before .if2 .left (row ∙ e)))
 

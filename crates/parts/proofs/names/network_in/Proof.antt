@@ -39,8 +39,10 @@ returns-2 c =
 returns-3 : tie.Need-returns-3
 returns-3 c =
     let bytes = c .before .before in
-    let row = bytes .before .row-of .ensures ∙ ap rowOf (bytes .before .before .byte-at .ensures) in
-    sym (network-none _ (bytes .before .before .before .before .args .fixed) (λ e. c .before .if1 .left (row ∙ e)) (λ e. c .if2 .left (row ∙ e)))
+    let read = bytes .before .before in
+    let row = bytes .before .row-of .ensures ∙ ap rowOf (read .byte-at .ensures) in
+    let args = read .before .before .args in
+    sym (network-none _ (args .fixed) (λ e. c .before .if1 .left (row ∙ e)) (λ e. c .if2 .left (row ∙ e)))
 
 pub network-in-spec : {M : Type 1} → statement M
 network-in-spec =

@@ -21,8 +21,9 @@ read-requires c κs = search needs
 
 returns : tie.Need-returns
 returns c =
-    let bytes = c .before .before .before in
-    c .read .ensures ∙ rw (bytes .before .number16-at .ensures, bytes .byte-at .ensures, c .before .before .byte-at2 .ensures, c .before .byte-at3 .ensures)
+    let first = c .before .before .before in
+    let day = first .before .number16-at .ensures in
+    c .read .ensures ∙ rw (day, first .byte-at .ensures, c .before .before .byte-at2 .ensures, c .before .byte-at3 .ensures)
 
 pub time-from-spec : {M : Type 1} → statement M
 time-from-spec =

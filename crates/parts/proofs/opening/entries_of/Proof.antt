@@ -12,7 +12,10 @@ no-part-requires : tie.Need-no-part-requires
 no-part-requires c κs = search needs
 
 returns : tie.Need-returns
-returns c = c .no-part .ensures ∙ sym (entries-none (c .before .before .before .before .before .args .row) _ (c .before .if1 .taken))
+returns c =
+    let none = c .before in
+    let known = none .before .before in
+    c .no-part .ensures ∙ sym (entries-none (known .before .before .args .row) _ (none .if1 .taken))
 
 add-start : tie.Need-add-start
 add-start c = search needs
@@ -34,9 +37,11 @@ returns-2 c =
     let start = c .before in
     let second = start .before in
     let fixed = second .before .before in
-    let args = fixed .before .before .before .before .args in
-    let end = fixed .before .before .before-crc .ensures in
-    sym (entries-second (args .row) _ _ end (c .less .result) (fixed .if1 .left) (start .length12-at .result) (start .length12-at .ensures .same) (c .less .ensures) (second .if2 .taken))
+    let known = fixed .before .before in
+    let n = start .length12-at in
+    sym
+    (entries-second (known .before .before .args .row) _ _ (known .before-crc .ensures) (c .less .result) (fixed .if1 .left) (n .result)
+    (n .ensures .same) (c .less .ensures) (second .if2 .taken))
 
 less-requires-2 : tie.Need-less-requires-2
 less-requires-2 c κs = search needs
@@ -45,9 +50,10 @@ returns-3 : tie.Need-returns-3
 returns-3 c =
     let plain = c .before in
     let fixed = plain .before .before in
-    let args = fixed .before .before .before .before .args in
-    let end = fixed .before .before .before-crc .ensures in
-    sym (entries-first (args .row) _ _ end (c .less2 .result) (fixed .if1 .left) (c .less2 .ensures) (plain .if2 .left))
+    let known = fixed .before .before in
+    sym
+    (entries-first (known .before .before .args .row) _ _ (known .before-crc .ensures) (c .less2 .result) (fixed .if1 .left)
+    (c .less2 .ensures) (plain .if2 .left))
 
 pub entries-of-spec : {M : Type 1} → statement M
 entries-of-spec =

@@ -13,13 +13,17 @@ length12-at-requires c κs = search needs
 
 returns : tie.Need-returns
 returns c =
-    sym (top-there (c .before .before .before .before .args .row) _ (c .length12-at .result) (c .length12-at .ensures .same) (c .before .if1 .taken))
+    let there = c .before in
+    let n = c .length12-at in
+    sym (top-there (there .before .before .before .args .row) _ (n .result) (n .ensures .same) (there .if1 .taken))
 
 no-part-requires : tie.Need-no-part-requires
 no-part-requires c κs = search needs
 
 returns-2 : tie.Need-returns-2
-returns-2 c = c .no-part .ensures ∙ sym (top-none (c .before .before .before .before .args .row) _ (c .before .if1 .left))
+returns-2 c =
+    let plain = c .before in
+    c .no-part .ensures ∙ sym (top-none (plain .before .before .before .args .row) _ (plain .if1 .left))
 
 pub top-of-spec : {M : Type 1} → statement M
 top-of-spec = tie.close (tie.spec add-t5 length12-at-requires returns no-part-requires returns-2)

@@ -10,13 +10,14 @@ use Rattle.turn.proofs.descriptors.loop_back.Tie as tie
 
 returns : tie.Need-returns
 returns c =
-    let made = c .before .before in let back = made .before .before .before in let parted = back .before in
+    let made = c .before .before in let room = made .before .before .before in let parted = room .before in
     let counted = parted .before .before .before in let to = counted .before .before in
     let size = to .before .before .before in let start = size .before .before .before in
     loop-back (start .good .1 .0 .0) (start .good .1 .1 .1 .0 .0) (size .length12-at .ensures .same)
     (to .before .before .past .ensures)
     (to .past2 .ensures ∙ ap (sum (start .args .p .to)) (to .before .kept-size .ensures))
-    (subst (λ l. NumberIn descriptor l (counted .descriptors-in .result)) (counted .before .part .ensures) (counted .descriptors-in .ensures))
+    (subst (λ l. NumberIn descriptor l (counted .descriptors-in .result)) (counted .before .part .ensures)
+    (counted .descriptors-in .ensures))
     (parted .before .before .byte-at .ensures) (parted .parted .ensures) (made .numbered .ensures)
 
 pub loop-back-spec : {M : Type 1} → statement M

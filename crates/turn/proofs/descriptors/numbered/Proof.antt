@@ -6,8 +6,9 @@ use Rattle.turn.proofs.descriptors.numbered.Tie as tie
 
 returns : tie.Need-returns
 returns c =
-    let back = c .before .before .before in let copied = back .before in let back = copied .before .before .before in
-    let put = back .before in let behind = put .before .before in let start = behind .before .before .before in
+    let room2 = c .before .before .before in let copied = room2 .before in
+    let room = copied .before .before .before in let put = room .before in let behind = put .before .before in
+    let start = behind .before .before .before in
     numbered-done (start .good .1 .1 .0 .0) (start .good .1 .1 .1 .1 .0 .0) (behind .past .ensures) (put .put-number .ensures)
     (copied .copy-few .ensures .1) (c .before .past2 .ensures) (c .past3 .ensures)
 

@@ -10,7 +10,7 @@ use Rattle.turn.proofs.entries.entries_back.Tie as tie
 
 returns : tie.Need-returns
 returns c =
-    let made = c .before .before in let back = made .before .before .before in let put = back .before in
+    let made = c .before .before in let room = made .before .before .before in let put = room .before in
     let counted = put .before .before .before in let own = counted .before .before .before in
     let start = own .before .before .before in
     let a = start .args in

@@ -10,7 +10,7 @@ cast-number c = omega arith
 
 returns : tie.Need-returns
 returns c =
-    let made = c .before .before in let back = made .before .before .before in let own = back .before in
+    let made = c .before .before in let room = made .before .before .before in let own = room .before in
     let first = own .before .before .before in let number = first .before in
     let start = number .before .before .before in
     entries-forth (start .good .1 .1 .0 .0) (start .good .1 .1 .1 .1 .1 .0 .0) (start .args .top) (start .args .row)

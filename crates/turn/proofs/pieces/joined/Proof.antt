@@ -32,7 +32,8 @@ returns-2 c =
     let value = c .before .before .before in let span = value .before .before in let test = span .before in
     let start = test .before .before in
     let a = start .args in
-    joined-two (a .span) (a .s .now) (a .at) (test .if1 .left) (span .wide .ensures .same) (value .wide2 .ensures .same ∙ value .before .byte-at .ensures)
+    joined-two (a .span) (a .s .now) (a .at) (test .if1 .left) (span .wide .ensures .same)
+    (value .wide2 .ensures .same ∙ value .before .byte-at .ensures)
     (c .wide3 .ensures .same ∙ c .before .byte-at2 .ensures
     ∙ ap (λ i. getD (a .s .now) i 0) (c .before .before .past .ensures))
 

@@ -20,8 +20,9 @@ rem-put-byte c = omega (arith, c .before .if1 .left)
 
 returns-2 : tie.Need-returns-2
 returns-2 c =
-    let flag = c .before .before in let back = flag .before .before .before in let value = back .before .before in
-    let test = value .before .before in let start = test .before .before in
+    let flag = c .before .before in let slice-known2 = flag .before .before .before in
+    let value = slice-known2 .before .before in let test = value .before .before in
+    let start = test .before .before in
     let a = start .args in
     parted-two (a .span) (a .x) (a .room .now) (a .to) (start .good .1 .1 .0 .0) (test .if1 .left) (value .put-byte .ensures)
     (flag .put-byte2 .ensures

@@ -6,8 +6,8 @@ use Rattle.turn.proofs.pieces.plain.Tie as tie
 
 returns : tie.Need-returns
 returns c =
-    let back = c .before .before .before in let made = back .before in let back = made .before .before .before in
-    let start = back .before in
+    let room = c .before .before .before in let made = room .before in
+    let shared-slice-known = made .before .before .before in let start = shared-slice-known .before in
     turned-raw (start .good .0 .0) (start .good .1 .1 .1 .0 .0) (made .copy-few .ensures .1) (c .before .past .ensures)
     (c .past2 .ensures)
 

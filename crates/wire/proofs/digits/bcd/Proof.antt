@@ -10,7 +10,7 @@ use Rattle.wire.proofs.digits.bcd.Statement.{statement}
 use Rattle.wire.proofs.digits.bcd.Tie as tie
 
 abbrev Inv-loop : tie.InvT-loop
-Inv-loop v n a₀ k₀ a k = (k ≤ 8) × (a ≤ v / 2 ^ (4 * k)) × (bcdAfter a k v ≡ bcdOf n v)
+Inv-loop v n a₀ k₀ a k = (k ≤ 8) × (a ≤ v / 2 ^ (4 * k)) × (bcdAfter a k v ≡ bcdOf v n)
 
 abbrev μ-loop : tie.MeasureT-loop
 μ-loop v n a₀ k₀ a k = k
