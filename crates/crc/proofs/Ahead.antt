@@ -7,7 +7,7 @@ use lib.Bits.{xor-comm, xor-lt, xor-zero-r}
 use lib.ListN.{length, drop, drop-of-length-le}
 use Rattle.wire.specs.Bytes.{Bytes}
 use Rattle.crc.specs.Crc.{feedBits, feedBytes, crc}
-use Rattle.moves.specs.Moves.{second, third, fourth, fifth, added}
+use Rattle.moves.specs.Inner.Moves.{second, third, fourth, fifth, added}
 use Rattle.crc.specs.Inner.Windows.{longAt, feedWords, Ahead, FiveAt, Fronts}
 use Rattle.moves.proofs.Xor.{_⊕_, xor-assoc, xor-left-comm}
 use Rattle.crc.proofs.Bytes.{long-front}

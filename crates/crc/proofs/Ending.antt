@@ -9,7 +9,7 @@ use lib.Pow.{pow-pos, shr-le, shr-lt}
 use lib.Bits.{bitXor, xor-comm, xor-lt, xor-zero-l}
 use Rattle.crc.specs.Crc.{feed, feedBits}
 use Rattle.crc.specs.Inner.Windows.{feedWords}
-use Rattle.moves.specs.Moves.{timesPoly, quotientOf, times64, times96, times128}
+use Rattle.moves.specs.Inner.Moves.{timesPoly, quotientOf, times64, times96, times128}
 use Rattle.moves.proofs.Xor.{_⊕_, xor-assoc}
 use Rattle.moves.proofs.Shifts.{itself, lefts-lt, times64-of, times96-of, times128-of}
 use Rattle.moves.proofs.Products.{times64-at, times96-at, times128-at}

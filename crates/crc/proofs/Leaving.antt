@@ -9,7 +9,7 @@ use lib.Dec.{lit<}
 use lib.Pow.{pow-pos, shr-le}
 use lib.Bits.{xor-block, xor-lt, xor-zero-r}
 use Rattle.crc.specs.Crc.{feed, feedBits}
-use Rattle.moves.specs.Moves.{over, under, second, third, fourth, fifth}
+use Rattle.moves.specs.Inner.Moves.{over, under, second, third, fourth, fifth}
 use Rattle.crc.specs.Inner.Windows.{feedWords}
 use Rattle.moves.proofs.Xor.{_⊕_}
 use Rattle.crc.proofs.Linear.{join, none, zeros-swap, moved-up}

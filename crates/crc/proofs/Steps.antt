@@ -6,7 +6,7 @@ use native.Mathlib.Omega.{arith}
 use lib.Dec.{lit<}
 use lib.Bits.{bitXor, xor-lt, xor-zero-l, xor-zero-r}
 use Rattle.crc.specs.Crc.{feed, feedBits}
-use Rattle.moves.specs.Moves.{rights, lefts, timesPoly, quotientOf}
+use Rattle.moves.specs.Inner.Moves.{rights, lefts, timesPoly, quotientOf}
 use Rattle.moves.proofs.Xor.{_⊕_, xor-assoc, xor-twice}
 use Rattle.crc.proofs.Linear.{linear}
 use Rattle.moves.proofs.Basis.{Additive, agree}

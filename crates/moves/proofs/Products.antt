@@ -2,7 +2,7 @@
 use mathlib.Core.Path.{_≡_}
 use Prim.Native.Nat.{ℕ, _+_, _*_, _^_, _<_}
 use lib.Dec.{eqb, eqb→eq}
-use Rattle.moves.specs.Moves.{rights, lefts, times64, times96, times128, over, under, second, third, fourth, fifth}
+use Rattle.moves.specs.Inner.Moves.{rights, lefts, times64, times96, times128, over, under, second, third, fourth, fifth}
 use Rattle.moves.proofs.Basis.{passed}
 
 pub times64-at : (i : ℕ) → i < 32 → times64 (2 ^ i) ≡ 0x490D678D * 2 ^ i

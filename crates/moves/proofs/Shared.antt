@@ -3,7 +3,7 @@
 use mathlib.Core.Path.{_≡_}
 use mathlib.Core.List.{[], _∷_}
 use Prim.Native.Nat.{ℕ, _*_, _%_, _^_, _<_}
-use Rattle.moves.specs.Moves.{rights, lefts, timesPoly, quotientOf, times64, times96, times128, over, under}
+use Rattle.moves.specs.Inner.Moves.{rights, lefts, timesPoly, quotientOf, times64, times96, times128, over, under}
 use Rattle.moves.proofs.Basis.{Additive, agree}
 use Rattle.moves.proofs.Shifts.{itself, up-of, rights-of, lefts-of, times-of, quotient-of, times64-of, times96-of, times128-of, over-of, under-of}
 

@@ -5,7 +5,7 @@ use Prim.Native.Nat.{ℕ, _*_, _/_, _%_, _^_, _<_}
 use native.Mathlib.Nat.{mod-lt}
 use lib.Pow.{pow-pos}
 use lib.Bits.{bitXor, xor-shr, xor-mod, xor-lt}
-use Rattle.moves.specs.Moves.{rights, lefts, timesPoly, quotientOf, times64, times96, times128, over, under, second, third, fourth, fifth}
+use Rattle.moves.specs.Inner.Moves.{rights, lefts, timesPoly, quotientOf, times64, times96, times128, over, under, second, third, fourth, fifth}
 use Rattle.moves.proofs.Xor.{_⊕_, xor4, xor-shl}
 use Rattle.moves.proofs.Basis.{Additive}
 

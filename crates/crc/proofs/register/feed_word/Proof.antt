@@ -1,6 +1,6 @@
 -- Quotient and product are the law of a word.
 use mathlib.Core.Path.{ap, _∙_}
-use Rattle.moves.specs.Moves.{timesPoly}
+use Rattle.moves.specs.Inner.Moves.{timesPoly}
 use Rattle.crc.proofs.Steps.{word-step}
 use Rattle.crc.proofs.register.feed_word.Statement.{statement}
 use Rattle.crc.proofs.register.feed_word.Tie as tie

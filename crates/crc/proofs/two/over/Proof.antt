@@ -1,5 +1,5 @@
 -- The moves that serve several places make up the sum.
-use Rattle.moves.specs.Moves.{rights}
+use Rattle.moves.specs.Inner.Moves.{rights}
 use Rattle.moves.proofs.Shared.{over-shared}
 use Rattle.crc.proofs.two.over.Statement.{statement}
 use Rattle.crc.proofs.two.over.Tie as tie

@@ -1,5 +1,5 @@
 -- The moves that serve several places make up the sum.
-use Rattle.moves.specs.Moves.{lefts}
+use Rattle.moves.specs.Inner.Moves.{lefts}
 use Rattle.moves.proofs.Shared.{under-shared}
 use Rattle.crc.proofs.two.under.Statement.{statement}
 use Rattle.crc.proofs.two.under.Tie as tie

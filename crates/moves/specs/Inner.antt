@@ -1,0 +1,2 @@
+-- Contracts among the functions of `crc`: nothing that a caller must believe.
+pub mod Moves
