@@ -53,7 +53,8 @@ then-accepted : (v : Said) (x : LoopsRead) → v ≡ accepted → (v andThen x) 
 then-accepted v x e = then-on v x (ap isAccepted e)
 
 -- a loop's descriptors, and what is behind it
-loop-on : (d : Trail Placed Said) (x : LoopsRead) (ds : List Placed) → d ≡ record { items = ds; ends = accepted } → loopThen d x ≡ before ds x
+loop-on : (d : Trail Placed Said) (x : LoopsRead) (ds : List Placed) → d ≡ record { items = ds; ends = accepted }
+    → loopThen d x ≡ before ds x
 loop-on d x ds e = then-accepted (d .ends) _ (ap answer e) ∙ ap (λ (t : Trail Placed Said). before (t .items) x) e
 
 -- ---- TOT
