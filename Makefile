@@ -1,7 +1,7 @@
 # Lohitunga as one library for C, for x86-64 Linux.
 #
-#     make                          target/lib: liblohitunga.a, the shared library and the pkg-config file
-#     make install PREFIX=/usr      library, headers, pkg-config file and documents; DESTDIR is put before PREFIX
+#     make                          target/lib: liblohitunga.a, the shared library and the pkg-config file; target/programs
+#     make install PREFIX=/usr      library, headers, pkg-config file, programs, documents; DESTDIR is put before PREFIX
 #     make dist                     target/lohitunga-VERSION-x86_64-linux.tar.gz, with the built library: no prover needed
 #     make clean                    what `make` and `make dist` have made
 #
@@ -22,7 +22,10 @@ shared := liblohitunga.so.$(interface)
 to := $(DESTDIR)$(PREFIX)
 dist := lohitunga-$(version)-x86_64-linux
 
-all: $(out)/liblohitunga.a $(out)/$(shared) $(out)/lohitunga.pc
+# programs over the library: lohitunga-NAME is tools/NAME.c
+programs := target/programs/lohitunga-account
+
+all: $(out)/liblohitunga.a $(out)/$(shared) $(out)/lohitunga.pc $(programs)
 
 # made anew where the code is newer than the archive, as tools/x86-64 says
 target/staticlib/lib%.a: FORCE
@@ -46,8 +49,13 @@ $(out)/lohitunga.pc: include/lohitunga.h Makefile
 		'Description: Service information of digital television (EN 300 468), verified' 'Version: $(version)' \
 		'Cflags: -I$${includedir}' 'Libs: -L$${libdir} -llohitunga' >$@
 
+target/programs/lohitunga-%: tools/%.c $(archives) include/lohitunga.h include/lohitunga_text.h
+	mkdir -p target/programs
+	examples/build $< $@
+
 install: all
-	mkdir -p $(to)/include $(to)/lib/pkgconfig $(to)/share/doc/lohitunga/docs $(to)/share/doc/lohitunga/examples
+	mkdir -p $(to)/bin $(to)/include $(to)/lib/pkgconfig $(to)/share/doc/lohitunga/docs/maintainers $(to)/share/doc/lohitunga/examples
+	install -m 755 $(programs) $(to)/bin
 	install -m 644 include/lohitunga.h include/lohitunga_text.h $(to)/include
 	install -m 644 $(out)/liblohitunga.a $(to)/lib
 	install -m 755 $(out)/$(shared) $(to)/lib
@@ -55,6 +63,7 @@ install: all
 	install -m 644 $(out)/lohitunga.pc $(to)/lib/pkgconfig
 	install -m 644 README.md LICENSE CHANGELOG.md $(to)/share/doc/lohitunga
 	install -m 644 docs/*.md $(to)/share/doc/lohitunga/docs
+	install -m 644 docs/maintainers/*.md $(to)/share/doc/lohitunga/docs/maintainers
 	install -m 644 examples/services.c $(to)/share/doc/lohitunga/examples
 
 dist: all
@@ -65,7 +74,7 @@ dist: all
 	rm -rf target/dist
 
 clean:
-	rm -rf $(out) target/dist target/$(dist).tar.gz
+	rm -rf $(out) target/programs target/dist target/$(dist).tar.gz
 
 FORCE:
 .PHONY: all install dist clean FORCE

@@ -41,7 +41,7 @@ extern "C" {
 /* The version of the library, and the number of this interface: it goes up when the layout of a struct or the meaning of a call changes. A program that
  * was compiled with this header may use an archive or a shared library for which lohitunga_interface() tells the same number. */
 #define LOHITUNGA_VERSION "0.1"
-#define LOHITUNGA_INTERFACE 1
+#define LOHITUNGA_INTERFACE 2
 
 uint32_t lohitunga_interface(void);
 
@@ -139,16 +139,20 @@ uint32_t lohitunga_crc32(const uint8_t *bytes, size_t size);
 #define LOHITUNGA_NO_COUNTER 255
 
 /* A collector's record. What is in hand stands at the start of the hold; record and hold go together from packet to packet. The five counters count the
- * payload bytes of each fate and run round past 4,294,967,295 to 0. */
+ * payload bytes of each fate and run round past 4,294,967,295 to 0.
+ * The struct has no padding. What is spare is read and altered by no call; a number is rewritten only where its meaning changes. So a record can be kept
+ * and compared byte for byte: one that means the same after a packet is the same bytes. */
 typedef struct lohitunga_record {
     uint16_t pid;
     uint8_t last; /* the last continuity_counter, 0 to 15; LOHITUNGA_NO_COUNTER for none */
+    uint8_t spare[5];
     size_t in_hand;
     uint32_t pointer;
     uint32_t delivered;
     uint32_t broken;
     uint32_t filler;
     uint32_t skipped;
+    uint32_t spare_counter;
 } lohitunga_record;
 
 typedef struct lohitunga_collect_answer {
@@ -158,7 +162,7 @@ typedef struct lohitunga_collect_answer {
     size_t size;       /* how many bytes they are: the first of the out room, end to end */
 } lohitunga_collect_answer;
 
-/* A record without counter, with nothing in hand and zeros. Any number is taken; a pid above 8,191 gets 43 at each packet. */
+/* A record without counter, with nothing in hand and zeros, also in what is spare. Any number is taken; a pid above 8,191 gets 43 at each packet. */
 lohitunga_record lohitunga_fresh(uint16_t pid);
 
 /* One packet. Alters the record; of the hold the first bytes, as many as are then in hand; of the out room the first `size` bytes. All other bytes of
@@ -609,7 +613,7 @@ lohitunga_roll lohitunga_roll_empty(void);
 /* The answer without a section; number is 0. */
 lohitunga_roll_answer lohitunga_roll_ask(const lohitunga_roll *roll);
 
-/* A section. Alters the roll where it is not refused; `begun` and each of `came` are then 0 or 1. */
+/* A section. Alters the roll where it is not refused; `begun` and each of `came` are then 0 or 1. The struct has no padding. */
 lohitunga_roll_answer lohitunga_roll_take(lohitunga_roll *roll, const uint8_t *section, size_t size);
 
 #ifdef __cplusplus

@@ -89,11 +89,12 @@ def stream(count=60):
     return b"".join(out) + out[0][:100]
 
 
-def account(data):
-    """Document 01's rules, a byte at a time."""
+def account(data, pid=None):
+    """Document 01's rules, a byte at a time; the PID is that of the first packet, or another."""
     if len(data) < 188:
         return "no packets\n"
-    pid = (data[1] & 31) << 8 | data[2]
+    if pid is None:
+        pid = (data[1] & 31) << 8 | data[2]
     n = dict.fromkeys(["taken", "repeated", "refused", "pointer", "delivered", "broken", "filler", "skipped"], 0)
     hand, last, sections = b"", None, 0
 

@@ -1,6 +1,6 @@
 #!/bin/sh
 # The account program on the shipped stream, on the worked packet, on nothing, on 187 bytes, on a stream with a cut last piece, and, by pieces.py,
-# on a stream of some megabytes as a file and through a pipe in pieces of odd sizes, and on reads that fail.
+# on a stream of some megabytes as a file and through a pipe in pieces of odd sizes, and on reads that fail; by words.py its words, --why and --pid.
 set -eu
 cd "$(dirname "$0")/../.."
 room=$(mktemp -d)
@@ -24,3 +24,4 @@ says 'no input' "$room/empty" "$room/none"
 says '187 bytes' "$room/187" "$room/none"
 says 'a cut last piece' "$room/cut" "$room/cut.txt"
 python3 tests/outside/pieces.py
+python3 tests/outside/words.py

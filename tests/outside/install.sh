@@ -45,6 +45,11 @@ for place in "$room/usr" "$room/lohitunga-$version-x86_64-linux"; do
     # where programs are emulated there is no C library to share
     [ -n "$static" ] || says "shared, $place" env LD_LIBRARY_PATH="$place/lib" "$room/shared"
 done
+# the program that comes with the library, as `./account --pid` makes it
+for place in "$room/usr" "$room/lohitunga-$version-x86_64-linux"; do
+    $before "$place/bin/lohitunga-account" <samples/stream.ts >"$room/said" || bad "lohitunga-account fails"
+    cmp -s "$room/said" samples/stream.txt || bad "lohitunga-account says $(cat "$room/said")"
+done
 [ -e "$room/usr/share/doc/lohitunga/LICENSE" ] || bad "no LICENSE among the documents"
 
 # the shared library has the header's calls and no other name

@@ -8,13 +8,17 @@ use native.Mathlib.Omega.{arith}
 use lib.Dec.{ltb, eqb}
 use lib.ListN.{length, take, drop, length-append, length-drop}
 use borrow.Author.Tests.{le-ltb}
-use Rattle.collector.specs.Rules.{totalOf, holding, Before, plain, Carried, takenIn}
-use Rattle.collector.specs.Refusals.{_when_, refusals, firstOf, judgedBy, judged, ruledBy, Ruling, ruling, cannotStand, beforeOf}
-use Rattle.collector.specs.Refusals as Refusals
+use Rattle.wire.specs.Sections.{totalOf}
+use Rattle.copy.specs.Laid.{over}
+use Rattle.packet.specs.Ruling.{Before, Carried, ruledBy, Ruling, ruling}
+use Rattle.collector.specs.Rules.{holding, plain, storyAfter, delivers}
+use Rattle.packet.specs.Refusals.{_when_, refusals, firstOf, judgedBy, judged}
+use Rattle.collector.specs.Refusals.{cannotStand, beforeOf, tooSmall}
+use Rattle.packet.specs.Ruling as Ruled
 use Rattle.collector.specs.Answer.{Told, refused, repeated, taken, Outcome}
-use Rattle.collector.specs.Collected.{over, outcomeOf, collected}
+use Rattle.collector.specs.Collected.{outcomeOf, collected, deliveredOf}
 use Rattle.collector.specs.declared.Record.{Record}
-use Rattle.history.specs.Run.{Promised, Call, Run, no-call, one-call, Fare, fareOf, ruledFare, lentOf, beforeAfter, carriedBy, rulingOn, faresFrom, takenFrom, cut, handedBy, handed}
+use Rattle.history.specs.Run.{Promised, Call, Run, no-call, one-call, Fare, fareOf, ruledFare, lentOf, beforeAfter, ruledIn, rulingOn, faresFrom, ruledTaken, cut, handedBy, handed}
 use Rattle.account.specs.Entered.{Kept, tallied, entered, enteredAll}
 use Rattle.account.specs.Lines.{lent, oneTaken, oneRepeated, oneRefused, total}
 use Rattle.account.specs.declared.tally.Account.{Account}
@@ -53,10 +57,10 @@ runs k (p ∷ ps) =
 
 -- the PID stays
 outcome-pid : (r : Record) (hold out : List ℕ) (z : Ruling) → outcomeOf r hold out z .rec .pid ≡ r .pid
-outcome-pid r hold out (Refusals.refused n) = refl
-outcome-pid r hold out Refusals.repeated = refl
-outcome-pid r hold out Refusals.bare = refl
-outcome-pid r hold out (Refusals.takes q) = refl
+outcome-pid r hold out (Ruled.refused n) = refl
+outcome-pid r hold out Ruled.repeated = refl
+outcome-pid r hold out Ruled.bare = refl
+outcome-pid r hold out (Ruled.takes q) = refl
 
 pub pid-stays : (k : Kept) (ps : List (List ℕ)) → enteredAll k ps .account .rec .pid ≡ k .account .rec .pid
 pid-stays k [] = refl
@@ -65,7 +69,7 @@ pid-stays k (p ∷ ps) =
     pid-stays (entered k p) ps
     ∙ ap (λ (z : Record). z .pid) (tallied-rec (k .account) (outcome k p .rec) (outcome k p .said))
     ∙ outcome-pid r (k .hold) (k .out)
-    (ruling (cannotStand r (k .hold)) (r .pid) (beforeOf r) (length (k .hold)) (length (k .out)) p)
+    (ruling (tooSmall (length (k .hold)) (length (k .out))) (cannotStand r (k .hold)) (r .pid) (beforeOf r) p)
 
 -- ---- what the account counts
 
@@ -167,17 +171,17 @@ room-enough pid size before p n k =
     ap (λ (t : Bool). ruledBy before p
     (judgedBy
     (firstOf (41 when not (eqb (length p) 188) ∷ 42 when (ltb size 4096 || t) ∷ 43 when ltb 8191 pid
-    ∷ drop 3 (refusals false pid 0 0 p)))
+    ∷ drop 3 (refusals false false pid p)))
     p))
     (le-ltb n 4280 k ∙ sym (le-ltb 4280 4280 (omega arith)))
 
 -- an out room grows only
 outcome-room : (r : Record) (hold out : List ℕ) (z : Ruling) → length out ≤ length (outcomeOf r hold out z .out)
-outcome-room r hold out (Refusals.refused n) = omega arith
-outcome-room r hold out Refusals.repeated = omega arith
-outcome-room r hold out Refusals.bare = omega arith
-outcome-room r hold out (Refusals.takes q) =
-    over-room (flatten (takenIn plain (beforeOf r) (holding (take (r .in_hand) hold)) q .sections)) out
+outcome-room r hold out (Ruled.refused n) = omega arith
+outcome-room r hold out Ruled.repeated = omega arith
+outcome-room r hold out Ruled.bare = omega arith
+outcome-room r hold out (Ruled.takes q) =
+    over-room (flatten (deliveredOf (storyAfter delivers plain (beforeOf r) (holding (take (r .in_hand) hold)) q))) out
   where
     over-room : (bs room : List ℕ) → length room ≤ length (over bs room)
     over-room bs room = omega (arith, length-append bs (drop (length bs) room), length-drop (length bs) room)
@@ -186,7 +190,7 @@ room-after : (k : Kept) (p : List ℕ) → 4280 ≤ length (k .out) → 4280 ≤
 room-after k p w =
     let r : Record = k .account .rec in
     let o = outcome-room r (k .hold) (k .out)
-    (ruling (cannotStand r (k .hold)) (r .pid) (beforeOf r) (length (k .hold)) (length (k .out)) p) in
+    (ruling (tooSmall (length (k .hold)) (length (k .out))) (cannotStand r (k .hold)) (r .pid) (beforeOf r) p) in
     omega arith
 
 module _ (pid size : ℕ) where
@@ -200,10 +204,10 @@ module _ (pid size : ℕ) where
       (fares-are (entered k p) ps (room-after k p w) (beforeAfter before (rulingOn pid size before (lent p))))
 
   pub taken-are : (k : Kept) (ps : List (List ℕ)) → 4280 ≤ length (k .out) → (before : Before)
-      → takenFrom pid size before (map lentOf (callsFrom k ps)) ≡ takenFrom pid size before (map lent ps)
+      → ruledTaken pid size before (map lentOf (callsFrom k ps)) ≡ ruledTaken pid size before (map lent ps)
   taken-are k [] w before = refl
   taken-are k (p ∷ ps) w before =
       let e = room-enough pid size before p (length (k .out)) w in
-      (λ i. carriedBy (e i) ++ takenFrom pid size (beforeAfter before (e i)) (map lentOf (callsFrom (entered k p) ps)))
-      ∙ ap (λ (l : List (Carried ℕ)). carriedBy (rulingOn pid size before (lent p)) ++ l)
+      (λ i. ruledIn (e i) ++ ruledTaken pid size (beforeAfter before (e i)) (map lentOf (callsFrom (entered k p) ps)))
+      ∙ ap (λ (l : List (Carried ℕ)). ruledIn (rulingOn pid size before (lent p)) ++ l)
       (taken-are (entered k p) ps (room-after k p w) (beforeAfter before (rulingOn pid size before (lent p))))

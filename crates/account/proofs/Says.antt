@@ -12,13 +12,14 @@ use lib.Seq.{length-take-le, drop-drop}
 use borrow.Author.Tests.{ltb-true, ltb-false, eqb-true, eqb-false, ne-eqb}
 use Rattle.wire.specs.If.{if_then_else_}
 use Rattle.wire.proofs.IfLaws.{if-case}
-use Rattle.collector.specs.Rules.{Story, Before, noneBefore, Carried}
-use Rattle.collector.specs.Refusals.{_when_, refusals, firstOf, judgedBy, judged, ruledBy}
+use Rattle.packet.specs.Ruling.{Before, noneBefore, Carried, ruledBy}
+use Rattle.collector.specs.Rules.{Story, delivers}
+use Rattle.packet.specs.Refusals.{_when_, refusals, firstOf, judgedBy, judged}
 use Rattle.collector.specs.Collected.{freshRecord}
-use Rattle.collector.proofs.Marks.{flatten-append, flatten-one}
+use Rattle.collector.proofs.MarkLaws.{flatten-append, flatten-one}
 use Rattle.history.specs.History.{Byte, valueOf, historyOf}
-use Rattle.history.specs.Run.{Promised, Call, Run, Fare, refused, ruledFare, Lent, lentOf, beforeAfter, rulingOn, faresFrom, takenFrom, handed}
-use Rattle.history.specs.Demand3.{Counted, storyBy}
+use Rattle.history.specs.Run.{Promised, Call, Run, Fare, refused, ruledFare, Lent, lentOf, beforeAfter, rulingOn, faresFrom, ruledTaken, handed}
+use Rattle.history.specs.Demand3.{Counted, storyBy, deliveredIn}
 use Rattle.history.proofs.Demand3.{by-packets-alone, counters-are-fates, delivered-in-order}
 use Rattle.account.specs.Entered.{firstPid, freshAccount, Kept, keptAs, entered, enteredAll, pieces}
 use Rattle.account.specs.Heard.{State, endedOf}
@@ -92,7 +93,7 @@ short-refused pid size before x k =
     ap (λ (t : Bool). ruledFare (ruledBy before p
     (judgedBy
     (firstOf (41 when not t ∷ 42 when (ltb size 4096 || ltb (x .room) 4280) ∷ 43 when ltb 8191 pid
-    ∷ drop 3 (refusals false pid 0 0 p)))
+    ∷ drop 3 (refusals false false pid p)))
     p)))
     (ne-eqb (length p) 188 k)
 
@@ -163,8 +164,8 @@ module _ (input hold₀ out₀ : List ℕ) (enough : 188 ≤ length input) (hold
 
   story : storyBy (pidIn input) hold₀ calls ≡ storyIn input
   story =
-      ap (λ (qs : List (Carried ℕ)). historyOf qs .story)
-      (ap (λ (n : ℕ). takenFrom (pidIn input) n noneBefore (map lentOf calls)) hold-is
+      ap (λ (qs : List (Carried ℕ)). historyOf delivers qs .story)
+      (ap (λ (n : ℕ). ruledTaken (pidIn input) n noneBefore (map lentOf calls)) hold-is
       ∙ taken-are (pidIn input) 4096 from (packetsOf input) (omega arith) noneBefore)
 
   tally : Tally (after .account) (0 + total oneTaken (faresBy calls)) (0 + total oneRepeated (faresBy calls))
@@ -176,14 +177,14 @@ module _ (input hold₀ out₀ : List ℕ) (enough : 188 ≤ length input) (hold
   counts : (one : Fare → ℕ) → (0 + total one (faresBy calls)) % 2 ^ 64 ≡ total one (faresIn input) % 2 ^ 64
   counts one = ap (λ (n : ℕ). n % 2 ^ 64) (zero-add (total one (faresBy calls)) ∙ ap (total one) fares)
 
-  sections : (0 + length (handed calls)) % 2 ^ 64 ≡ length (storyIn input .sections) % 2 ^ 64
+  sections : (0 + length (handed calls)) % 2 ^ 64 ≡ length (deliveredIn (storyIn input)) % 2 ^ 64
   sections =
       let out = delivered-in-order (pidIn input) hold₀ calls (after .account .rec) (after .hold) run in
       ap (λ (n : ℕ). n % 2 ^ 64)
       (zero-add (length (handed calls))
       ∙ ap length (out .sections-are)
-      ∙ length-map (storyBy (pidIn input) hold₀ calls .sections) (map valueOf)
-      ∙ ap (λ (s : Story Byte). length (s .sections)) story)
+      ∙ length-map (deliveredIn (storyBy (pidIn input) hold₀ calls)) (map valueOf)
+      ∙ ap (λ (s : Story Byte). length (deliveredIn s)) story)
 
   lines : Lines input (after .account)
   lines =

@@ -6,11 +6,13 @@ use Prim.Native.Nat.{ℕ, _+_, _/_, _%_, _^_, _<_, _≤_}
 use lib.Dec.{eqb}
 use lib.ListN.{length, take}
 use Rattle.wire.specs.If.{if_then_else_}
-use Rattle.collector.specs.Packet.{pidOf}
-use Rattle.collector.specs.Rules.{Kind, in-hand, done, Story, countOf, noneBefore}
+use Rattle.packet.specs.Header.{pidOf}
+use Rattle.packet.specs.Ruling.{noneBefore}
+use Rattle.collector.specs.Rules.{Kind, in-hand, done, Story, countOf, delivers}
 use Rattle.collector.specs.Collected.{bytesCounted, freshRecord}
 use Rattle.history.specs.History.{Byte, historyOf}
-use Rattle.history.specs.Run.{Promised, Call, Run, Fare, refused, repeated, taken, Lent, faresFrom, takenFrom}
+use Rattle.history.specs.Demand3.{deliveredIn}
+use Rattle.history.specs.Run.{Promised, Call, Run, Fare, refused, repeated, taken, Lent, faresFrom, ruledTaken}
 use Rattle.account.specs.Entered.{pieces}
 use Rattle.account.specs.Input.{restOf}
 use Rattle.account.specs.declared.tally.Account.{Account}
@@ -54,7 +56,7 @@ LastPieceRefused = (input : List ℕ) → (length input % 188 ≡ 0 → ⊥)
 
 -- the fate of every payload byte of the packets taken, and the sections delivered
 abbrev pub storyIn : List ℕ → Story Byte
-storyIn input = historyOf (takenFrom (pidIn input) 4096 noneBefore (lentIn input)) .story
+storyIn input = historyOf delivers (ruledTaken (pidIn input) 4096 noneBefore (lentIn input)) .story
 
 -- ---- counting
 
@@ -88,7 +90,7 @@ pub record Lines (input : List ℕ) (a : Account) : Type 0 where
   pub refused-is : a .refused ≡ total oneRefused (faresIn input) % 2 ^ 64
   pub counters-are : (k : Kind) → bytesCounted (done k) (a .rec) ≡ countOf (done k) (storyIn input .marks) % 2 ^ 32
   pub in-hand-is : a .rec .in_hand ≡ countOf in-hand (storyIn input .marks)
-  pub sections-is : a .sections ≡ length (storyIn input .sections) % 2 ^ 64
+  pub sections-is : a .sections ≡ length (deliveredIn (storyIn input)) % 2 ^ 64
 
 -- an account is a run of the collector: from a fresh record for that PID, a call for each packet in order, to the record
 -- that the account has

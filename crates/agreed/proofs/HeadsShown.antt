@@ -15,15 +15,14 @@ use Rattle.head.specs.SubTable.{isSdt, isEit, idsThatCount, networkIn, subTable
 use Rattle.head.proofs.HeadLaws.{version-is}
 use Rattle.forms.specs.Form.{eachShow, EachOk}
 use Rattle.forms.specs.Fields.{pack, room, sheetField}
-use Rattle.sheet.specs.Content.{Item, plain, numbers, version, frame, headOf, Fields, Content, tableOf, frameOf, bodyOf, rowIn}
-use Rattle.sheet.specs.Sheet.{sheetItem, sheetTop, sheetEntries, sheetOf}
+use Rattle.sheet.specs.Content.{Item, plain, numbers, version, frame, headOf, Fields, Content, tableOf, frameOf, rowIn, restIn, topIn, headIn}
+use Rattle.sheet.specs.Sheet.{sheetItem, sheetTop, sheetEntries, sheetOf, shownFor}
 use Rattle.sheet.specs.Section.{sectionItem, sectionTop, sectionEntries, sectionLength, seal, sectionOf}
 use Rattle.sheet.proofs.SectionSize.{second, front-is}
-use Rattle.turn.specs.Holds.{Holds}
+use Rattle.contents.specs.Holds.{Holds}
 use Rattle.turn.proofs.HeadLaws.{common-items}
-use Rattle.turn.proofs.Held.{held}
-use Rattle.turn.proofs.SectionLaws.{first-byte}
-use Rattle.turn.proofs.RoundTrips.{from-sheet, from-section}
+use Rattle.contents.proofs.SectionLaws.{first-byte}
+use Rattle.round_trips.proofs.RoundTrips.{from-sheet, from-section}
 use Rattle.agreed.specs.Agreed.{sheetSubTable, Shows, SectionShown, SheetShown}
 
 -- ---- the fields that the four tables have
@@ -185,24 +184,24 @@ module _ (c : Content) (h : Holds c) (below : rowIn c < TDT) where
   more = drop 3 (headOf row)
 
   abbrev tail : List ℕ
-  tail = sectionTop row .show (bodyOf c .1 .0) ++ sectionEntries row 0 .show (bodyOf c .1 .1)
+  tail = sectionTop row .show (topIn c) ++ sectionEntries row 0 .show (restIn c)
 
   abbrev sheet-tail : List ℕ
-  sheet-tail = sheetTop row .show (bodyOf c .1 .0) ++ sheetEntries row .show (bodyOf c .1 .1)
+  sheet-tail = sheetTop row .show (topIn c) ++ sheetEntries row .show (restIn c)
 
-  common-fields : Common more (bodyOf c .0)
+  common-fields : Common more (headIn c)
   common-fields =
-      common-shown more (bodyOf c .0)
-      (subst (λ (xs : List Item). EachOk sectionItem xs (bodyOf c .0)) (sym (common-items row below)) (h .body .0))
+      common-shown more (headIn c)
+      (subst (λ (xs : List Item). EachOk sectionItem xs (headIn c)) (sym (common-items row below)) (h .body .0))
 
-  module _ (f : Common more (bodyOf c .0)) where
+  module _ (f : Common more (headIn c)) where
     section-is : sectionOf c
         ≡ broadcast (tableOf c) (second c) (sectionLength c % 256) (f .a) (f .b) (f .r) (f .v) (f .k) (f .n) (f .m) []
         (eachShow sectionItem more (f .rest) ++ (tail ++ seal c))
     unfolding sectionOf
     section-is =
         let items = common-items row below in
-        let head = sym (ap (λ (xs : List Item). eachShow sectionItem xs (bodyOf c .0)) items) ∙ f .in-section in
+        let head = sym (ap (λ (xs : List Item). eachShow sectionItem xs (headIn c)) items) ∙ f .in-section in
         ap (λ z. z ++ seal c) (front-is c)
         ∙ ap (λ z. tableOf c ∷ second c ∷ (sectionLength c % 256) ∷ ((z ++ tail) ++ seal c)) head
         ∙ ap (λ z. tableOf c ∷ second c ∷ (sectionLength c % 256)
@@ -211,11 +210,11 @@ module _ (c : Content) (h : Holds c) (below : rowIn c < TDT) where
 
     sheet-is : sheetOf c ≡ shown (tableOf c) 0 0 (f .a) (f .b) 0 (f .v) (f .k) (f .n) (f .m)
         (eachShow sheetItem more (f .rest) ++ sheet-tail) []
-    unfolding sheetOf
+    unfolding shownFor
     sheet-is =
         let items = common-items row below in
-        let head = sym (ap (λ (xs : List Item). eachShow sheetItem xs (bodyOf c .0)) items) ∙ f .in-sheet in
-        ap (λ z. tableOf c ∷ (z ++ (eachShow sheetItem (headOf row) (bodyOf c .0) ++ sheet-tail)))
+        let head = sym (ap (λ (xs : List Item). eachShow sheetItem xs (headIn c)) items) ∙ f .in-sheet in
+        ap (λ z. tableOf c ∷ (z ++ (eachShow sheetItem (headOf row) (headIn c) ++ sheet-tail)))
         (frame-unshown (frameOf c))
         ∙ ap (λ z. tableOf c ∷ (z ++ sheet-tail)) head
 
@@ -242,16 +241,16 @@ numbered-row c e = ltb-true (rowIn c) TDT (ap (λ (i : ℕ). ltb (rowOf i) TDT) 
 
 pub section-shown : SectionShown
 section-shown n s t w e numbered =
-    let x = from-sheet n s t e in
+    let x = from-sheet n s t w e in
     let c = x .content in
-    let y = held s c w (x .reads) in
+    let y = x .shown in
     let below = numbered-row c (ap hasNoSubTable (sym (x .made)) ∙ numbered) in
     subst (λ z. Shows s z) (sym (x .made))
     (subst (λ z. Shows z (sectionOf c)) (sym (y .shows)) (content-shown c (y .holds) below))
 
 pub sheet-shown : SheetShown
 sheet-shown n s t w e numbered =
-    let x = from-section n s t w e .1 in
+    let x = from-section n s t w e in
     let c = x .content in
     let below = numbered-row c (ap hasNoSubTable (x .is) ∙ numbered) in
     subst (λ z. Shows t z) (x .is)

@@ -1,6 +1,6 @@
 -- The collector's record and answer in numbers.
 use Prim.Native.Nat.{ℕ}
-use mathlib.Core.List.{List}
+use mathlib.Core.List.{List, [], _∷_}
 use lib.Dec.{eqb}
 use Rattle.wire.specs.If.{if_then_else_}
 use Rattle.collector.specs.Answer.{Told, refused, repeated, taken}
@@ -34,18 +34,39 @@ recordIn r = record {
   skipped = r .skipped;
 }
 
--- the numbers for a record of the collector
-abbrev pub recordSays : of.Record → Record
-recordSays r = record {
+-- the numbers for a record of the collector, in the place of the numbers before: what is spare stays as it was
+abbrev pub recordAfter : Record → of.Record → Record
+recordAfter before r = record {
   pid = r .pid;
   last = lastSays (r .last);
+  spare = before .spare;
   in_hand = r .in_hand;
   pointer = r .pointer;
   delivered = r .delivered;
   broken = r .broken;
   filler = r .filler;
   skipped = r .skipped;
+  «spare_counter» = before .«spare_counter»;
 }
+
+-- every byte 0
+abbrev pub zeros : Record
+zeros = record {
+  pid = 0;
+  last = 0;
+  spare = 0 ∷ 0 ∷ 0 ∷ 0 ∷ 0 ∷ [];
+  in_hand = 0;
+  pointer = 0;
+  delivered = 0;
+  broken = 0;
+  filler = 0;
+  skipped = 0;
+  «spare_counter» = 0;
+}
+
+-- the numbers for a record of the collector where there were none before: what is spare is 0
+abbrev pub recordSays : of.Record → Record
+recordSays r = recordAfter zeros r
 
 -- a refusal's number; "repeated"; or taken, with the number of sections and of their bytes
 abbrev pub collectSays : Told → CollectAnswer
@@ -64,10 +85,10 @@ pub record Outcome : Type 0 where
 abbrev pub leaves : Record → List ℕ → List ℕ → CollectAnswer → Outcome
 leaves r hold out answer = record { rec = r; hold = hold; out = out; answer = answer }
 
--- the collector's outcome in numbers
-abbrev pub outcomeSays : collector.Outcome → Outcome
-outcomeSays o = leaves (recordSays (o .rec)) (o .hold) (o .out) (collectSays (o .said))
+-- the collector's outcome in numbers, in the place of the numbers before
+abbrev pub outcomeSays : Record → collector.Outcome → Outcome
+outcomeSays before o = leaves (recordAfter before (o .rec)) (o .hold) (o .out) (collectSays (o .said))
 
 -- what `lohitunga_collect` makes of a record in numbers, a hold, an out room and a packet
 unfoldable pub collecting : Record → List ℕ → List ℕ → List ℕ → Outcome
-collecting r hold out packet = outcomeSays (collected (recordIn r) hold out packet)
+collecting r hold out packet = outcomeSays r (collected (recordIn r) hold out packet)

@@ -1,11 +1,12 @@
 // The collector, with its record as numbers.
 ghost use mathlib.Core.Path.{_≡_};
-ghost use Rattle.collector.specs.Answer.{numberOf, told};
+ghost use Rattle.packet.specs.Judgement.{numberOf};
+ghost use Rattle.collector.specs.Answer.{told};
 ghost use Rattle.collector.specs.Collected.{freshRecord};
-ghost use Rattle.cabinet.specs.Collect.{lastIn, lastSays, recordIn, recordSays, collectSays, leaves, collecting};
+ghost use Rattle.cabinet.specs.Collect.{lastIn, lastSays, zeros, recordIn, recordAfter, recordSays, collectSays, leaves, collecting};
 use collector::Answer;
 use collector::Last;
-use collector::Refusal;
+use packet::Refusal;
 
 // The number that stands for no counter. It is above 15 as those are that no counter has, so that each value of a byte has a meaning.
 pub const NO_COUNTER: u8 = 255;
@@ -15,12 +16,15 @@ pub struct Record {
     pub pid: u16,
     // The last counter, or NO_COUNTER.
     pub last: u8,
+    // No call reads or alters what is spare. It stands where a struct of C would have padding, which no promise can cover.
+    pub spare: [u8; 5],
     pub in_hand: usize,
     pub pointer: u32,
     pub delivered: u32,
     pub broken: u32,
     pub filler: u32,
     pub skipped: u32,
+    pub spare_counter: u32,
 }
 
 #[repr(C)]
@@ -74,19 +78,40 @@ fn record_in(rec: Record) -> collector::Record
     }
 }
 
-fn record_says(rec: collector::Record) -> Record
-    ensures { λ r. ⌜ r ≡ recordSays rec ⌝ }
+fn record_after(before: Record, rec: collector::Record) -> Record
+    ensures { λ r. ⌜ r ≡ recordAfter before rec ⌝ }
 {
     let last = rec.last;
+    let spare = before.spare;
     Record {
         pid: rec.pid,
         last: last_says(last),
+        spare,
         in_hand: rec.in_hand,
         pointer: rec.pointer,
         delivered: rec.delivered,
         broken: rec.broken,
         filler: rec.filler,
         skipped: rec.skipped,
+        spare_counter: before.spare_counter,
+    }
+}
+
+fn blank() -> Record
+    ensures { λ r. ⌜ r ≡ zeros ⌝ }
+{
+    let spare = [0u8; 5];
+    Record {
+        pid: 0,
+        last: 0,
+        spare,
+        in_hand: 0,
+        pointer: 0,
+        delivered: 0,
+        broken: 0,
+        filler: 0,
+        skipped: 0,
+        spare_counter: 0,
     }
 }
 
@@ -136,7 +161,7 @@ fn answer_says(answer: Answer) -> CollectAnswer
 pub extern "C" fn lohitunga_fresh(pid: u16) -> Record
     ensures { λ r. ⌜ r ≡ recordSays (freshRecord pid) ⌝ }
 {
-    record_says(collector::fresh(pid))
+    record_after(blank(), collector::fresh(pid))
 }
 
 // One packet, with the record by value.
@@ -147,7 +172,7 @@ fn step(rec: Record, hold: &mut [u8], out: &mut [u8], packet: &[u8]) -> Stepped
     let after = s.record;
     let answer = s.answer;
     Stepped {
-        record: record_says(after),
+        record: record_after(rec, after),
         answer: answer_says(answer),
     }
 }

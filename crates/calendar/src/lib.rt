@@ -16,8 +16,8 @@ pub enum Answer {
     Refused(Fault),
 }
 
-// The formulas of annex C of EN 300 468, its decimals as whole numbers. Months are counted from March of the year before as 4, so that a leap
-// day is a year's last.
+// The formulas of annex C of EN 300 468, its decimals as whole numbers. Months are counted from March of the year
+// before as 4, so that a leap day is a year's last.
 fn by_formula(mjd: u16) -> Date
     requires { ⌜ 15079 ≤ mjd ⌝ }
     ensures { λ r. ⌜ r ≡ gregorian mjd ⌝ }

@@ -10,17 +10,20 @@ use lib.ListN.{length}
 use lib.Dec.{eqb}
 use borrow.Author.Tests.{ne-eqb, eqb-true, eqb-false}
 use Rattle.wire.proofs.IfLaws.{if-case}
-use Rattle.collector.specs.Packet.{control}
-use Rattle.collector.specs.Rules.{Before}
-use Rattle.collector.specs.Refusals.{beforeOf, cannotStand, Judged, refuse, carries, judgedBy, judged, repeats, firstOf, refusals, Ruling, refused, repeated, takes, ruledBy, ruling}
-use Rattle.collector.specs.Refusals as Refusals
+use Rattle.packet.specs.Header.{control}
+use Rattle.packet.specs.Ruling.{Before, repeats, Ruling, refused, repeated, takes, ruledBy, ruling}
+use Rattle.packet.specs.Refusals.{Judged, refuse, has-payload, judgedBy, judged, firstOf, refusals}
+use Rattle.collector.specs.Refusals.{beforeOf, cannotStand, tooSmall}
+use Rattle.packet.specs.Refusals as Refusals
+use Rattle.packet.specs.Ruling as Ruled
 use Rattle.collector.specs.Answer as collector
 use Rattle.collector.specs.Collected.{freshRecord, outcomeOf, collected}
 use Rattle.history.specs.Run as beneath
 use Rattle.collector.specs.declared.Last.the-variants.{None, Counter}
 use Rattle.collector.specs.declared.Record as of
-use Rattle.cabinet.specs.Collect.{lastIn, lastSays, recordIn, recordSays, collectSays, Outcome, leaves, outcomeSays, collecting}
-use Rattle.calls.specs.Collects.{LastIs, Stands, Tells, Promised, Call, Run, no-call, one-call, callSays, Beneath, RunsBeneath}
+use Rattle.cabinet.specs.Collect.{lastIn, lastSays, recordIn, recordAfter, recordSays, collectSays, Outcome, leaves, outcomeSays, collecting}
+use Rattle.cabinet.proofs.Outcomes.{last-kept, record-kept}
+use Rattle.calls.specs.Collects.{LastIs, Stands, Tells, Promised, Kept, KeepsNumbers, Call, Run, no-call, one-call, callSays, Beneath, RunsBeneath}
 use Rattle.cabinet.specs.declared.collect.Record.{Record}
 
 -- ---- a taken packet's counter has four bits
@@ -28,12 +31,12 @@ use Rattle.cabinet.specs.declared.collect.Record.{Record}
 abbrev SmallJudged : Judged → Type 0
 SmallJudged (refuse n) = Unit {0}
 SmallJudged Refusals.bare = Unit {0}
-SmallJudged (carries at start counter) = counter < 16
+SmallJudged (has-payload at start counter) = counter < 16
 
 abbrev Small : Ruling → Type 0
 Small (refused n) = Unit {0}
 Small repeated = Unit {0}
-Small Refusals.bare = Unit {0}
+Small Ruled.bare = Unit {0}
 Small (takes q) = q .counter < 16
 
 small-by : (o : Option ℕ) (packet : List ℕ) → SmallJudged (judgedBy o packet)
@@ -43,14 +46,14 @@ small-by none packet = if-case SmallJudged (eqb (control packet) 2) (λ _. tt) (
 small-ruled : (before : Before) (packet : List ℕ) (j : Judged) → SmallJudged j → Small (ruledBy before packet j)
 small-ruled before packet (refuse n) x = tt
 small-ruled before packet Refusals.bare x = tt
-small-ruled before packet (carries at start counter) x = if-case Small (repeats before counter) (λ _. tt) (λ _. x)
+small-ruled before packet (has-payload at start counter) x = if-case Small (repeats before counter) (λ _. tt) (λ _. x)
 
-small : (unfit : Bool) (pid : ℕ) (before : Before) (hold out : ℕ) (packet : List ℕ)
-    → Small (ruling unfit pid before hold out packet)
+small : (few unfit : Bool) (pid : ℕ) (before : Before) (packet : List ℕ)
+    → Small (ruling few unfit pid before packet)
 unfolding judged
-small unfit pid before hold out packet =
-    small-ruled before packet (judged unfit pid hold out packet)
-    (small-by (firstOf (refusals unfit pid hold out packet)) packet)
+small few unfit pid before packet =
+    small-ruled before packet (judged few unfit pid packet)
+    (small-by (firstOf (refusals few unfit pid packet)) packet)
 
 -- ---- a record that its numbers tell
 
@@ -64,13 +67,13 @@ told-after : (x : of.Record) (hold out : List ℕ) (ruled : Ruling) → Small ru
     → Told (outcomeOf x hold out ruled .rec)
 told-after x hold out (refused n) s t = t
 told-after x hold out repeated s t = t
-told-after x hold out Refusals.bare s t = t
+told-after x hold out Ruled.bare s t = t
 told-after x hold out (takes q) s t = told-counter (q .counter) s
 
 told-on : (x : of.Record) (hold out packet : List ℕ) → Told x → Told (collected x hold out packet .rec)
 told-on x hold out packet t =
-    told-after x hold out (ruling (cannotStand x hold) (x .pid) (beforeOf x) (length hold) (length out) packet)
-    (small (cannotStand x hold) (x .pid) (beforeOf x) (length hold) (length out) packet) t
+    told-after x hold out (ruling (tooSmall (length hold) (length out)) (cannotStand x hold) (x .pid) (beforeOf x) packet)
+    (small (tooSmall (length hold) (length out)) (cannotStand x hold) (x .pid) (beforeOf x) packet) t
 
 told-back : (x : of.Record) → Told x → recordIn (recordSays x) ≡ x
 told-back x t =
@@ -115,18 +118,57 @@ collect-tells (collector.refused k) = Tells.refused refl refl refl refl
 collect-tells collector.repeated = Tells.repeated refl refl refl refl
 collect-tells (collector.taken n b) = Tells.taken refl refl refl refl
 
+-- ---- what stays of the numbers
+
+-- two records that mean the same, with the same in what is spare, are the same
+same-meaning : (r r′ : Record) → r′ .spare ≡ r .spare → r′ .«spare_counter» ≡ r .«spare_counter»
+    → recordIn r′ ≡ recordIn r → r′ ≡ r
+same-meaning r r′ spare counter e =
+    sym (record-kept r′) ∙ ap (recordAfter r′) e ∙ spare-alike ∙ record-kept r
+  where
+    spare-alike : recordAfter r′ (recordIn r) ≡ recordAfter r (recordIn r)
+    spare-alike = rw (spare, counter)
+
+pid-kept : (x : of.Record) (hold out : List ℕ) (ruled : Ruling) → outcomeOf x hold out ruled .rec .pid ≡ x .pid
+pid-kept x hold out (refused n) = refl
+pid-kept x hold out repeated = refl
+pid-kept x hold out Ruled.bare = refl
+pid-kept x hold out (takes q) = refl
+
+last-alike : (n m : ℕ) → lastIn n ≡ lastIn m → n ≡ m
+last-alike n m e = sym (last-kept n) ∙ ap lastSays e ∙ last-kept m
+
+-- what a call leaves, whatever the collector makes of the record
+kept-by : (r : Record) (x : of.Record) → x .pid ≡ r .pid → Kept r (recordAfter r x)
+kept-by r x e = record {
+  pid = e;
+  last = last-alike (lastSays (x .last)) (r .last);
+  spare = refl;
+  spare-counter = refl;
+  whole = same-meaning r (recordAfter r x) refl refl;
+}
+
+pub keeps-numbers : KeepsNumbers Promised
+unfolding collecting
+keeps-numbers r hold out packet o is =
+    let x = recordIn r in
+    let ruled = ruling (tooSmall (length hold) (length out)) (cannotStand x hold) (x .pid) (beforeOf x) packet in
+    subst (λ (z : Outcome). Kept r (z .rec)) (sym is)
+    (kept-by r (collected x hold out packet .rec) (pid-kept x hold out ruled))
+
 -- ---- a run, call by call
 
 -- one call, in numbers, is that of the collector
 says-on : (x : of.Record) (hold out packet : List ℕ) → Told x
-    → collecting (recordSays x) hold out packet ≡ outcomeSays (collected x hold out packet)
+    → collecting (recordSays x) hold out packet ≡ outcomeSays (recordSays x) (collected x hold out packet)
 unfolding collecting
-says-on x hold out packet t = ap (λ (y : of.Record). outcomeSays (collected y hold out packet)) (told-back x t)
+says-on x hold out packet t =
+    ap (λ (y : of.Record). outcomeSays (recordSays x) (collected y hold out packet)) (told-back x t)
 
-call-beneath : (o : collector.Outcome) (r₁ : Record) (hold₁ : List ℕ) (k : Call)
-    → leaves r₁ hold₁ (k .out′) (k .answer) ≡ outcomeSays o
+call-beneath : (r : Record) (o : collector.Outcome) (r₁ : Record) (hold₁ : List ℕ) (k : Call)
+    → leaves r₁ hold₁ (k .out′) (k .answer) ≡ outcomeSays r o
     → _≡_ {A = collector.Outcome} (record { rec = o .rec; hold = hold₁; out = k .out′; said = o .said }) o
-call-beneath o r₁ hold₁ k e = rw (ap (λ (z : Outcome). z .hold) e, ap (λ (z : Outcome). z .out) e)
+call-beneath r o r₁ hold₁ k e = rw (ap (λ (z : Outcome). z .hold) e, ap (λ (z : Outcome). z .out) e)
 
 -- the calls before, in numbers, with this one in front
 calls-on : (k : Call) (ks : List Call) (said : collector.Told) (under : List beneath.Call)
@@ -134,15 +176,15 @@ calls-on : (k : Call) (ks : List Call) (said : collector.Told) (under : List ben
     → k ∷ ks ≡ map callSays (record { packet = k .packet; out = k .out; out′ = k .out′; said = said } ∷ under)
 calls-on k ks said under e is = rw (← is, ← e)
 
-more : {x : of.Record} {hold hold′ : List ℕ} {r′ : Record} (ks : List Call) (r₁ : Record) (hold₁ : List ℕ) (k : Call)
+more : {x : of.Record} {hold hold′ : List ℕ} {r′ : Record} (ks : List Call) (r r₁ : Record) (hold₁ : List ℕ) (k : Call)
     (o : collector.Outcome)
     → o ≡ collected x hold (k .out) (k .packet)
-    → leaves r₁ hold₁ (k .out′) (k .answer) ≡ outcomeSays o → Beneath (o .rec) hold₁ ks r′ hold′
+    → leaves r₁ hold₁ (k .out′) (k .answer) ≡ outcomeSays r o → Beneath (o .rec) hold₁ ks r′ hold′
     → Beneath x hold (k ∷ ks) r′ hold′
-more ks r₁ hold₁ k o is e b = record {
+more ks r r₁ hold₁ k o is e b = record {
   under = record { packet = k .packet; out = k .out; out′ = k .out′; said = o .said } ∷ b .under;
   rec = b .rec;
-  run = beneath.one-call (call-beneath o r₁ hold₁ k e ∙ is) (b .run);
+  run = beneath.one-call (call-beneath r o r₁ hold₁ k e ∙ is) (b .run);
   calls-say = calls-on k ks (o .said) (b .under) (ap (λ (z : Outcome). z .answer) e) (b .calls-say);
   record-says = b .record-says;
   record-stands = b .record-stands;
@@ -160,9 +202,9 @@ runs x hold [] r r′ hold′ t is no-call = record {
 }
 runs x hold (k ∷ ks) r r′ hold′ t is (one-call {r₁ = r₁} {hold₁ = hold₁} p rest) =
     let o = collected x hold (k .out) (k .packet) in
-    let e : leaves r₁ hold₁ (k .out′) (k .answer) ≡ outcomeSays o =
+    let e : leaves r₁ hold₁ (k .out′) (k .answer) ≡ outcomeSays (recordSays x) o =
     p ∙ ap (λ (y : Record). collecting y hold (k .out) (k .packet)) is ∙ says-on x hold (k .out) (k .packet) t in
-    more ks r₁ hold₁ k o refl e
+    more ks (recordSays x) r₁ hold₁ k o refl e
     (runs (o .rec) hold₁ ks r₁ r′ hold′ (told-on x hold (k .out) (k .packet) t) (ap (λ (z : Outcome). z .rec) e)
     rest)
 

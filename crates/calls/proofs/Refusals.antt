@@ -11,15 +11,14 @@ use Rattle.wire.specs.Reading.{Reading, value, refused, _>>=_}
 use Rattle.wire.specs.Number.{number}
 use Rattle.wire.proofs.IfLaws.{if-case}
 use Rattle.tables.specs.Tables.{rowOf, rowAt}
-use Rattle.tables.specs.declared.Row.{Row}
-use Rattle.section.specs.Faults.{EntryFault, FillFault, InsideFault, Applies, First, lowest}
-use Rattle.section.specs.Faults as faults
+use Rattle.section.specs.Faults.{First}
 use Rattle.forms.specs.Form.{Form, rawRead, raw, bothRead, _then_, suchRead, such, eachRead, each}
 use Rattle.forms.specs.Fields.{Field, kept, reserved, belowRead, below, sheetField, sheetFields}
 use Rattle.forms.specs.Lists.{timesRead, countedRead, counted}
 use Rattle.sheet.specs.Content.{Item, plain, numbers, packed, bare, frame, headOf, entryOf, sideOf, rowIn}
-use Rattle.sheet.specs.Sheet.{inOrder, sheetItem, descriptorRead, descriptor, sheetLoop, sheetEntry, sheetTop, sheetEntries, sheetBody, behindId, sheetRead}
-use Rattle.sheet.specs.Section.{sectionLength, readSheet}
+use Rattle.sheet.specs.Sheet.{inOrder, sheetItem, descriptorRead, descriptor, sheetLoop, sheetEntry, sheetTop, topFor, sheetEntries, entriesFor, sheetBody, behindId, sheetRead, readFor}
+use Rattle.sheet.specs.Section.{sectionLength, readSheet, readSheetFor}
+use Rattle.round_trips.proofs.Numbers.{section-numbers}
 
 -- ---- a sheet's
 
@@ -99,11 +98,11 @@ entry-numbered row =
     (each-numbered sheetItem item-numbered (entryOf row)) (loop-numbered (sideOf row))
 
 top-numbered : (row : ℕ) → Reads (sheetTop row)
-unfolding sheetTop
+unfolding topFor
 top-numbered row = if-case Reads (eqb (rowAt row .top) 1) (λ _. loop-numbered bare) (λ _ s. tt)
 
 entries-numbered : (row : ℕ) → Reads (sheetEntries row)
-unfolding sheetEntries
+unfolding entriesFor
 entries-numbered row =
     if-case Reads (eqb (rowAt row .fixed) 0) (λ _ s. tt)
     (λ _. both-numbered (sheetFields _) (counted (sheetEntry row)) (fields-numbered _)
@@ -117,7 +116,7 @@ behind-numbered row =
     (both-numbered (sheetTop row) (sheetEntries row) (top-numbered row) (entries-numbered row)))
 
 pub sheet-numbered : (s : List ℕ) → Numbered (readSheet s)
-unfolding readSheet sheetRead
+unfolding readSheetFor readFor
 sheet-numbered s =
     then-numbered (sheetRead s) _
     (then-numbered (such (raw 1) 23 (λ id. ltb (rowOf (getD id 0 0)) 6) .read s) _
@@ -133,35 +132,5 @@ sheet-refusal s k e = subst Numbered e (sheet-numbered s)
 
 -- ---- a section's
 
-applies-numbered : {s : List ℕ} {k : ℕ} → Applies s k → k ≡ 0 → ⊥
-applies-numbered (faults.too-short h) e = omega arith
-applies-numbered (faults.unknown h) e = omega arith
-applies-numbered (faults.syntax i l r h) e = omega arith
-applies-numbered (faults.below i l r h) e = omega arith
-applies-numbered (faults.above i l r h) e = omega arith
-applies-numbered (faults.size h) e = omega arith
-applies-numbered (faults.register i l r c h) e = omega arith
-applies-numbered (faults.numbers i l r c h) e = omega arith
-
-entry-fault-numbered : {fixed p k q : ℕ} {l : List ℕ} → EntryFault fixed p l k q → k ≡ 0 → ⊥
-entry-fault-numbered (faults.EntryFault.short a b) e = omega arith
-entry-fault-numbered (faults.past head l a b) e = omega arith
-entry-fault-numbered (faults.own head body l a b) e = omega arith
-entry-fault-numbered (faults.later head body a b f) e = entry-fault-numbered f e
-
-fill-fault-numbered : {p k q : ℕ} {m : List ℕ} → FillFault p m k q → k ≡ 0 → ⊥
-fill-fault-numbered (faults.beyond a) e = omega arith
-fill-fault-numbered (faults.FillFault.short a) e = omega arith
-
-inside-fault-numbered : {row : Row} {p k q : ℕ} {m : List ℕ} → InsideFault row p m k q → k ≡ 0 → ⊥
-inside-fault-numbered (faults.filling a b f) e = fill-fault-numbered f e
-inside-fault-numbered (faults.loop a b h l c f) e = omega arith
-inside-fault-numbered (faults.no-room a b c) e = omega arith
-inside-fault-numbered (faults.top a b h l body m c d f) e = omega arith
-inside-fault-numbered (faults.second a b h l body c d x f) e = fill-fault-numbered f e
-inside-fault-numbered (faults.behind a b h l body c x h' l' d f) e = entry-fault-numbered f e
-inside-fault-numbered (faults.entries a b f) e = entry-fault-numbered f e
-
 pub first-numbered : {s : List ℕ} {k q : ℕ} → First s k q → k ≡ 0 → ⊥
-first-numbered (lowest a c) = applies-numbered a
-first-numbered (faults.First.inside clear i middle t f) = inside-fault-numbered f
+first-numbered f e = let n = section-numbers f .0 in omega arith

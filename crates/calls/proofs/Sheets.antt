@@ -18,7 +18,7 @@ use Rattle.section.proofs.Exactly.{refused-exactly-if}
 use Rattle.sheet.specs.Content.{Content}
 use Rattle.sheet.specs.Section.{contentOf, readSheet}
 use Rattle.turn.specs.Turn.{Outcome, gives, refuses, sectionFrom, toSection, sheetFrom, sheetIf, toSheet, answer, roomAfter}
-use Rattle.turn.proofs.RoundTrips as trips
+use Rattle.round_trips.proofs.RoundTrips as trips
 use Rattle.turn.proofs.WholeLaws.{take-put}
 use Rattle.cabinet.specs.Sheets.{sectionSays, sheetSays}
 use Rattle.cabinet.specs.declared.sheets.SectionAnswer.{SectionAnswer}

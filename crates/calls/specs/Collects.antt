@@ -10,7 +10,7 @@ use Rattle.history.specs.Run as beneath
 use Rattle.collector.specs.declared.Last.{Last}
 use Rattle.collector.specs.declared.Last.the-variants.{None, Counter}
 use Rattle.collector.specs.declared.Record as of
-use Rattle.cabinet.specs.Collect.{recordSays, collectSays, Outcome, leaves, collecting}
+use Rattle.cabinet.specs.Collect.{lastIn, recordIn, recordSays, collectSays, Outcome, leaves, collecting}
 use Rattle.cabinet.specs.declared.collect.Record.{Record}
 use Rattle.cabinet.specs.declared.collect.CollectAnswer.{CollectAnswer}
 
@@ -56,6 +56,22 @@ PromisedFresh pid r = r ≡ recordSays (freshRecord pid)
 -- what `lohitunga_collect` promises
 abbrev pub Promised : Collector
 Promised r hold out packet o = o ≡ collecting r hold out packet
+
+-- ---- what stays of the numbers, whatever they are
+
+-- no call alters what is spare, and a number is rewritten only where its meaning changes
+pub record Kept (r r′ : Record) : Type 0 where
+  pub pid : r′ .pid ≡ r .pid
+  pub last : lastIn (r′ .last) ≡ lastIn (r .last) → r′ .last ≡ r .last
+  pub spare : r′ .spare ≡ r .spare
+  pub spare-counter : r′ .«spare_counter» ≡ r .«spare_counter»
+  -- so a record that means the same is the same, byte for byte: it has no padding
+  pub whole : recordIn r′ ≡ recordIn r → r′ ≡ r
+
+abbrev pub KeepsNumbers : Collector → Type 0
+KeepsNumbers C = (r : Record) (hold out packet : List ℕ) (o : Outcome) → C r hold out packet o → Kept r (o .rec)
+
+-- ---- runs
 
 -- a call: the packet, the out room before and after it, and the answer
 pub record Call : Type 0 where

@@ -10,7 +10,7 @@ use Rattle.verdict.specs.Verdict.{accepted}
 use Rattle.section.specs.Reading.{judged}
 use Rattle.section.specs.Faults.{First}
 use Rattle.turn.specs.Turn.{toSection, toSheet, answer, roomAfter}
-use Rattle.turn.specs.Ones.{ReservedWereOnes}
+use Rattle.contents.specs.Ones.{ReservedWereOnes}
 use Rattle.cabinet.specs.Sheets.{sectionSays, sheetSays}
 use Rattle.cabinet.specs.declared.sheets.SectionAnswer.{SectionAnswer}
 use Rattle.cabinet.specs.declared.sheets.SheetAnswer.{SheetAnswer}

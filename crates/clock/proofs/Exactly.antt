@@ -34,13 +34,13 @@ module _ (limit b n : ℕ) (byte : b < 256) (most : limit ≤ 100) where
   unfolding field
   field-exactly = (
     λ e.
-        let t = through (bcdOf 2 b) _ n e in
+        let t = through (bcdOf b 2) _ n e in
         let below : n < limit = field-below limit b n e in
         let same : t .0 ≡ n =
         if-case (λ x. x ≡ value n → t .0 ≡ n) (ltb (t .0) limit) (λ _ q. value-is q) (λ _ q. absurd (never (sym q)))
         (t .2) in
         (below, ap (bcdShow 2) (sym same) ∙ bcd-shown 2 b (t .0) byte (t .1)),
-    λ x. rw (ap (bcdOf 2) (sym (x .1)) ∙ bcd-of-shown 2 n (omega (arith, x .0)), lt-ltb n limit (x .0)),
+    λ x. rw (ap (λ v. bcdOf v 2) (sym (x .1)) ∙ bcd-of-shown 2 n (omega (arith, x .0)), lt-ltb n limit (x .0)),
   )
 
 -- "63 BCD digit above 9"

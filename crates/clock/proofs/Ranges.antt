@@ -23,7 +23,7 @@ use Rattle.clock.specs.declared.time.Moment.the-variants.{At}
 pub field-below : (limit b n : ℕ) → field limit b ≡ value n → n < limit
 unfolding field
 field-below limit b n e =
-    let t = through (bcdOf 2 b) _ n e in
+    let t = through (bcdOf b 2) _ n e in
     if-case (λ x. x ≡ value n → n < limit) (ltb (t .0) limit)
     (λ h q. subst (λ m. m < limit) (value-is q) (ltb-true (t .0) limit h)) (λ _ q. absurd (never (sym q))) (t .2)
 

@@ -18,7 +18,7 @@ below limit n = if ltb n limit then value n else refused (plain 64)
 
 -- two digits, and then the limit: "each 63, 64"
 unfoldable pub field : ℕ → ℕ → Answered ℕ
-field limit b = bcdOf 2 b >>= below limit
+field limit b = bcdOf b 2 >>= below limit
 
 -- hour, minute and second, "fields left to right"; the hour is below the limit
 unfoldable pub hms : ℕ → ℕ → ℕ → ℕ → Answered Hms

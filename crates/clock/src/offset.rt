@@ -1,4 +1,5 @@
-// An offset from UTC: four BCD digits, and a polarity beside them. "An offset is signed minutes (polarity 1 is behind UTC); 1 with 0000 is zero."
+// An offset from UTC: four BCD digits, and a polarity beside them. "An offset is signed minutes (polarity 1 is behind
+// UTC); 1 with 0000 is zero."
 ghost use mathlib.Core.Path.{_≡_};
 ghost use Prim.Native.Nat.{_<_};
 ghost use Rattle.clock.specs.Offset.{offsetOf, signed, told};

@@ -1,14 +1,13 @@
 -- Laws that several proofs cite, and those of stories that `history` rests on.
 pub mod Counters
-pub mod Marks
-pub mod Runs
-pub mod Seam
-pub mod Rooms
-pub mod Turns
-pub mod Goes
-pub mod Beside
-pub mod Keeps
-pub mod Kept
-pub mod Payloads
+pub mod MarkLaws
+pub mod ByteRuns
+pub mod HoldThenPacket
+pub mod SectionLoop
+pub mod StretchInHand
+pub mod Simulation
+pub mod Invariants
+pub mod StoryLaws
+pub mod PayloadLaws
 pub mod Outcomes
-pub mod Table
+pub mod Fits

@@ -7,40 +7,42 @@ use native.Mathlib.Nat.{zero-add, add-zero}
 use native.Mathlib.Omega.{arith}
 use lib.ListN.{length, take, drop, length-append}
 use Rattle.wire.specs.If.{if_then_else_}
-use Rattle.collector.specs.Rules.{Kind, pointer, delivered, broken, filler, skipped, Fate, in-hand, done, Story, sameFate, bytesOf, countOf, handOf, marked, given, brokenOff, holding, joined, plain, goesOn, payload}
+use Rattle.copy.specs.Laid.{over}
+use Rattle.collector.specs.Rules.{Kind, pointer, delivered, broken, Fate, in-hand, done, Story, sameFate, bytesOf, countOf, handOf, marked, given, brokenOff, holding, joined, plain, goesOn, payload, delivers}
 use Rattle.collector.specs.Answer as Answer
 use Rattle.collector.specs.Answer.{came}
-use Rattle.collector.specs.Collected.{bytesCounted, recordWith, recordAfter, over, takenTo}
-use Rattle.collector.specs.Inner.Payload.{Fit, Small}
-use Rattle.collector.specs.Inner.Stretch.{Ends}
-use Rattle.collector.specs.Inner.Taking.{keptOf, pointCount, addedBy, countedOf}
+use Rattle.collector.specs.Collected.{bytesCounted, recordWith, recordAfter, deliveredOf, outcomeAfter}
+use Rattle.collector.specs.Inner.Payload.{Fit}
+use Rattle.collector.specs.Inner.Stretch.{Ends, Small, pointCount, addedBy}
+use Rattle.collector.specs.Inner.Taking.{keptOf, countedOf}
 use Rattle.collector.specs.declared.Record.{Record}
 use Rattle.collector.specs.declared.Last.the-variants.{Counter}
 use Rattle.collector.specs.declared.Answer.the-variants.{Taken}
-use Rattle.collector.specs.declared.stretch.Came.{Came}
-use Rattle.collector.proofs.Marks.{bytesOf-more, bytesOf-marked, settled-hand, settled-marked}
-use Rattle.collector.proofs.Beside.{Beside, beside-payload}
-use Rattle.collector.proofs.Keeps.{keep-goes, keep-sections, keep-payload}
-use Rattle.collector.proofs.Kept.{Any, Kept, keeps-kept, points-kept, kept-holding, delivered-in, keeps-points}
-use Rattle.collector.proofs.Payloads.{plain-sections, any, same-hand, more-sections, small-of}
+use Rattle.collector.specs.declared.stretch.Gain.{Gain}
+use Rattle.collector.proofs.Counters.{added-by}
+use Rattle.collector.proofs.MarkLaws.{bytesOf-more, bytesOf-marked, settled-hand, settled-marked}
+use Rattle.collector.proofs.Simulation.{Beside, beside-payload}
+use Rattle.collector.proofs.Invariants.{keep-goes, keep-sections, keep-payload}
+use Rattle.collector.proofs.StoryLaws.{Any, Kept, keeps-kept, points-kept, kept-holding, all-delivered, delivered-in, keeps-points}
+use Rattle.collector.proofs.PayloadLaws.{plain-sections, any, same-hand, more-sections, small-of}
 
 -- ---- the story of a payload
 
-pub kept-payload : (start : Bool) (h bs : List ℕ) → Kept plain (h ++ bs) (payload plain start (holding h) bs)
-kept-payload start h bs = keep-payload plain Any (Kept plain) (keeps-kept plain) (points-kept plain) start h (holding h) bs (any bs) (kept-holding plain h)
+pub kept-payload : (start : Bool) (h bs : List ℕ) → Kept delivers plain (h ++ bs) (payload delivers plain start (holding h) bs)
+kept-payload start h bs = keep-payload delivers plain Any (Kept delivers plain) (keeps-kept delivers plain) (points-kept delivers plain) start h (holding h) bs (any bs) (kept-holding delivers plain h)
 
 -- the pointer byte is counted once
 no-point : (h : List ℕ) → countOf (done pointer) (marked in-hand h) ≡ 0
 no-point h = ap length (bytesOf-marked (done pointer) in-hand h)
 
-points-payload : (start : Bool) (h bs : List ℕ) → 0 < length bs → countOf (done pointer) (payload plain start (holding h) bs .marks) ≡ pointCount start
-points-payload false h bs k = keep-goes plain Any _ (keeps-points plain 0) h (holding h) bs (any bs) (no-point h)
+points-payload : (start : Bool) (h bs : List ℕ) → 0 < length bs → countOf (done pointer) (payload delivers plain start (holding h) bs .marks) ≡ pointCount start
+points-payload false h bs k = keep-goes delivers plain Any _ (keeps-points delivers plain (λ bs. refl) 0) h (holding h) bs (any bs) (no-point h)
 points-payload true h [] k = absurd (omega arith)
 points-payload true h (p ∷ bs) k =
     let first : countOf (done pointer) (given (done pointer) p (holding h) .marks) ≡ 1 = ap length (bytesOf-more (done pointer) (done pointer) (marked in-hand h) (p ∷ [])) ∙ length-append (bytesOf (done pointer) (marked in-hand h)) (p ∷ []) ∙ ap (λ (n : ℕ). n + 1) (no-point h) in
-    let f : Story ℕ = goesOn plain (given (done pointer) p (holding h)) (take p bs) in
-    let y = keep-goes plain Any _ (keeps-points plain 1) [] (given (done pointer) p (holding h)) (take p bs) (any (take p bs)) first in
-    keep-sections plain Any _ (keeps-points plain 1) [] (brokenOff f) (drop p bs) (any (drop p bs)) (keeps-points plain 1 .breaks [] f y)
+    let f : Story ℕ = goesOn delivers plain (given (done pointer) p (holding h)) (take p bs) in
+    let y = keep-goes delivers plain Any _ (keeps-points delivers plain (λ bs. refl) 1) [] (given (done pointer) p (holding h)) (take p bs) (any (take p bs)) first in
+    keep-sections delivers plain Any _ (keeps-points delivers plain (λ bs. refl) 1) [] (brokenOff f) (drop p bs) (any (drop p bs)) (keeps-points delivers plain (λ bs. refl) 1 .breaks [] f y)
 
 -- ---- what a break in the counter takes stays apart from the packet
 
@@ -68,10 +70,10 @@ none-lost f = none (sameFate f (done broken))
 beside-itself : (s : Story ℕ) → Beside plain (lost 0) [] s s
 beside-itself s = record { hand = map-id (handOf s); sections = plain-sections (s .sections); counts = λ f e. sym (zero-add (countOf f (s .marks))) ∙ ap (λ (n : ℕ). n + countOf f (s .marks)) (none-lost f) }
 
-beside-break : (start : Bool) (h bs : List ℕ) → Beside plain (lost (length h)) [] (payload plain start (holding []) bs) (payload plain start (brokenOff (holding h)) bs)
+beside-break : (start : Bool) (h bs : List ℕ) → Beside plain (lost (length h)) [] (payload delivers plain start (holding []) bs) (payload delivers plain start (brokenOff (holding h)) bs)
 beside-break start h bs =
-    subst (λ (z : List ℕ). Beside plain (lost (length h)) [] (payload plain start (holding []) z) (payload plain start (brokenOff (holding h)) bs)) (map-id bs)
-    (beside-payload plain (lost (length h)) [] start (holding []) (brokenOff (holding h)) bs (record {
+    subst (λ (z : List ℕ). Beside plain (lost (length h)) [] (payload delivers plain start (holding []) z) (payload delivers plain start (brokenOff (holding h)) bs)) (map-id bs)
+    (beside-payload delivers plain (lost (length h)) [] start (holding []) (brokenOff (holding h)) bs (record {
       hand = ap (map plain) (settled-hand (done broken) refl (marked in-hand h));
       sections = refl;
       counts = λ f e. lost-count h f ∙ sym (add-zero (lost (length h) f));
@@ -79,9 +81,9 @@ beside-break start h bs =
 
 -- ---- the outcome
 
-module _ (r : Record) (hold out : List ℕ) (counter : ℕ) (start : Bool) (h bs : List ℕ) (some : 0 < length bs) (e : Came) (hold′ out′ : List ℕ) where
+module _ (r : Record) (hold out : List ℕ) (counter : ℕ) (start : Bool) (h bs : List ℕ) (some : 0 < length bs) (e : Gain) (hold′ out′ : List ℕ) where
   abbrev s : Story ℕ
-  s = payload plain start (holding h) bs
+  s = payload delivers plain start (holding h) bs
 
   pub small : Ends s hold out 0 hold′ out′ e → length h + length bs ≤ 5000 → Small e
   small x w = small-of (h ++ bs) s (kept-payload start h bs) (omega (arith, length-append h bs)) x
@@ -89,24 +91,24 @@ module _ (r : Record) (hold out : List ℕ) (counter : ℕ) (start : Bool) (h bs
   -- the bytes of each kind that the packet adds are those of its story, and those that a break took
   adds : Ends s hold out 0 hold′ out′ e → (n : ℕ) (S : Story ℕ) → Beside plain (lost n) [] s S → (k : Kind)
       → addedBy e n start k ≡ countOf (done k) (S .marks)
-  adds x n S b pointer = sym (points-payload start h bs some) ∙ sym (zero-add _) ∙ sym (b .counts (done pointer) refl)
-  adds x n S b delivered =
-      x .bytes ∙ sym (delivered-in plain (h ++ bs) s (kept-payload start h bs)) ∙ sym (zero-add _) ∙ sym (b .counts (done delivered) refl)
-  adds x n S b broken = ap (λ (z : ℕ). n + z) (x .counts broken refl refl) ∙ sym (b .counts (done broken) refl)
-  adds x n S b filler = x .counts filler refl refl ∙ sym (zero-add _) ∙ sym (b .counts (done filler) refl)
-  adds x n S b skipped = x .counts skipped refl refl ∙ sym (zero-add _) ∙ sym (b .counts (done skipped) refl)
+  adds x n S b =
+      added-by e n start (λ k. countOf (done k) (S .marks))
+      (sym (points-payload start h bs some) ∙ sym (zero-add _) ∙ sym (b .counts (done pointer) refl))
+      (x .bytes ∙ sym (delivered-in plain (h ++ bs) s (kept-payload start h bs)) ∙ sym (zero-add _) ∙ sym (b .counts (done delivered) refl))
+      (ap (λ (z : ℕ). n + z) (x .counts broken refl refl) ∙ sym (b .counts (done broken) refl))
+      (λ k p d o. x .counts k p d ∙ sym (zero-add _) ∙ ap (λ (t : Bool). (if t then n else 0) + countOf (done k) (s .marks)) (sym o) ∙ sym (b .counts (done k) refl))
 
-  taken-to : Ends s hold out 0 hold′ out′ e → (n : ℕ) (S : Story ℕ) → Beside plain (lost n) [] s S → (r′ : Record) → r′ ≡ countedOf r counter e n start → came r′ hold′ out′ (Taken (e .sections) (e .bytes)) ≡ takenTo r hold out counter S
+  taken-to : Ends s hold out 0 hold′ out′ e → (n : ℕ) (S : Story ℕ) → Beside plain (lost n) [] s S → (r′ : Record) → r′ ≡ countedOf r counter e n start → came r′ hold′ out′ (Taken (e .sections) (e .bytes)) ≡ outcomeAfter r hold out counter S
   taken-to x n S b r′ w =
-      let secs : s .sections ≡ S .sections = sym (more-sections b) in
-      let bytes : flatten (s .sections) ≡ flatten (S .sections) = ap flatten secs in
+      let secs : s .sections ≡ deliveredOf S = sym (more-sections b) ∙ sym (all-delivered plain (S .sections)) in
+      let bytes : flatten (s .sections) ≡ flatten (deliveredOf S) = ap flatten secs in
       let hand : handOf s ≡ handOf S = sym (same-hand b) in
       let added : (k : Kind) → addedBy e n start k ≡ countOf (done k) (S .marks) = adds x n S b in
       let the-record : r′ ≡ recordAfter r counter S =
       w
       ∙ (λ i. recordWith (r .pid) (Counter counter) ((x .in-hand ∙ ap length hand) i)
       (λ k. (bytesCounted (done k) r + added k i) % 2 ^ 32)) in
-      let the-out : out′ ≡ over (flatten (S .sections)) out = x .the-out ∙ ap (λ (z : ℕ). flatten (s .sections) ++ drop z out) (zero-add (length (flatten (s .sections)))) ∙ ap (λ (z : List ℕ). over z out) bytes in
+      let the-out : out′ ≡ over (flatten (deliveredOf S)) out = x .the-out ∙ ap (λ (z : ℕ). flatten (s .sections) ++ drop z out) (zero-add (length (flatten (s .sections)))) ∙ ap (λ (z : List ℕ). over z out) bytes in
       λ i. record {
         rec = the-record i;
         hold = (x .the-hold ∙ ap (λ (z : List ℕ). over z hold) hand) i;
@@ -116,26 +118,26 @@ module _ (r : Record) (hold out : List ℕ) (counter : ℕ) (start : Bool) (h bs
 
 -- ---- the two ways of a packet that is taken
 
-module _ (r : Record) (hold out : List ℕ) (counter : ℕ) (start : Bool) (bs : List ℕ) (some : 0 < length bs) (e : Came) (hold′ out′ : List ℕ) (r′ : Record) where
+module _ (r : Record) (hold out : List ℕ) (counter : ℕ) (start : Bool) (bs : List ℕ) (some : 0 < length bs) (e : Gain) (hold′ out′ : List ℕ) (r′ : Record) where
   abbrev hand : List ℕ
   hand = take (r .in_hand) hold
 
   abbrev Comes : Bool → Type 0
-  Comes next = came r′ hold′ out′ (Taken (e .sections) (e .bytes)) ≡ takenTo r hold out counter (payload plain start (joined next (holding hand)) bs)
+  Comes next = came r′ hold′ out′ (Taken (e .sections) (e .bytes)) ≡ outcomeAfter r hold out counter (payload delivers plain start (joined next (holding hand)) bs)
 
-  comes-next : Ends (payload plain start (holding hand) bs) hold out 0 hold′ out′ e → r′ ≡ countedOf r counter e 0 start → Comes true
+  comes-next : Ends (payload delivers plain start (holding hand) bs) hold out 0 hold′ out′ e → r′ ≡ countedOf r counter e 0 start → Comes true
   comes-next x w = taken-to r hold out counter start hand bs some e hold′ out′ x 0 _ (beside-itself _) r′ w
 
-  comes-broken : r .in_hand ≡ length hand → Ends (payload plain start (holding []) bs) hold out 0 hold′ out′ e → r′ ≡ countedOf r counter e (r .in_hand) start → Comes false
+  comes-broken : r .in_hand ≡ length hand → Ends (payload delivers plain start (holding []) bs) hold out 0 hold′ out′ e → r′ ≡ countedOf r counter e (r .in_hand) start → Comes false
   comes-broken l x w = taken-to r hold out counter start [] bs some e hold′ out′ x (length hand) _ (beside-break start hand bs) r′ (w ∙ ap (λ (z : ℕ). countedOf r counter e z start) l)
 
-  pub comes : (next : Bool) (n : ℕ) → n ≡ keptOf next (r .in_hand) → r .in_hand ≡ length hand → Ends (payload plain start (holding (take n hold)) bs) hold out 0 hold′ out′ e → r′ ≡ countedOf r counter e (r .in_hand - n) start → Comes next
+  pub comes : (next : Bool) (n : ℕ) → n ≡ keptOf next (r .in_hand) → r .in_hand ≡ length hand → Ends (payload delivers plain start (holding (take n hold)) bs) hold out 0 hold′ out′ e → r′ ≡ countedOf r counter e (r .in_hand - n) start → Comes next
   comes true n k l x w =
       let none : r .in_hand - n ≡ 0 = omega arith in
-      comes-next (subst (λ (z : ℕ). Ends (payload plain start (holding (take z hold)) bs) hold out 0 hold′ out′ e) k x) (w ∙ ap (λ (z : ℕ). countedOf r counter e z start) none)
+      comes-next (subst (λ (z : ℕ). Ends (payload delivers plain start (holding (take z hold)) bs) hold out 0 hold′ out′ e) k x) (w ∙ ap (λ (z : ℕ). countedOf r counter e z start) none)
   comes false n k l x w =
       let all : r .in_hand - n ≡ r .in_hand = omega arith in
-      comes-broken l (subst (λ (z : ℕ). Ends (payload plain start (holding (take z hold)) bs) hold out 0 hold′ out′ e) k x) (w ∙ ap (λ (z : ℕ). countedOf r counter e z start) all)
+      comes-broken l (subst (λ (z : ℕ). Ends (payload delivers plain start (holding (take z hold)) bs) hold out 0 hold′ out′ e) k x) (w ∙ ap (λ (z : ℕ). countedOf r counter e z start) all)
 
 pub kept-most : (next : Bool) (held : ℕ) → keptOf next held ≤ held
 kept-most true held = omega arith

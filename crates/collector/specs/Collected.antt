@@ -1,9 +1,11 @@
 -- What one call of the collector comes to, for every record, hold, out room and packet.
-use mathlib.Core.List.{List, _++_, flatten}
+use mathlib.Core.List.{List, flatten}
 use Prim.Native.Nat.{ℕ, _+_, _%_, _^_}
-use lib.ListN.{length, take, drop}
-use Rattle.collector.specs.Rules.{Kind, pointer, delivered, broken, filler, skipped, Fate, in-hand, done, Story, countOf, handOf, holding, plain, takenIn}
-use Rattle.collector.specs.Refusals.{beforeOf, cannotStand, Ruling, refused, repeated, bare, takes, ruling}
+use lib.ListN.{length, take}
+use Rattle.copy.specs.Laid.{over}
+use Rattle.collector.specs.Rules.{Kind, pointer, delivered, broken, filler, skipped, Fate, in-hand, done, Story, countOf, handOf, holding, plain, storyAfter, sectionsOf, delivers}
+use Rattle.packet.specs.Ruling.{Ruling, refused, repeated, bare, takes, ruling}
+use Rattle.collector.specs.Refusals.{beforeOf, cannotStand, tooSmall}
 use Rattle.collector.specs.Answer as Answer
 use Rattle.collector.specs.Answer.{Told, Outcome}
 use Rattle.collector.specs.declared.Record.{Record}
@@ -46,24 +48,25 @@ recordAfter r counter s =
     recordWith (r .pid) (Counter counter) (length (handOf s))
     (λ k. (bytesCounted (done k) r + countOf (done k) (s .marks)) % 2 ^ 32)
 
--- bytes at a room's start; "Bytes of either beyond that stay."
-abbrev pub over : List ℕ → List ℕ → List ℕ
-over bytes room = bytes ++ drop (length bytes) room
+-- the sections that are delivered
+abbrev pub deliveredOf : Story ℕ → List (List ℕ)
+deliveredOf s = sectionsOf delivers plain delivered (s .sections)
 
--- "Out gets the finished sections end to end, the answer their number and bytes. Hold begins with the bytes in hand."
-abbrev pub takenTo : Record → List ℕ → List ℕ → ℕ → Story ℕ → Outcome
-takenTo r hold out counter s = record {
+-- "Out gets the finished sections end to end, the answer their number and bytes. Hold begins with the bytes in hand. Bytes of either beyond that
+-- stay."
+abbrev pub outcomeAfter : Record → List ℕ → List ℕ → ℕ → Story ℕ → Outcome
+outcomeAfter r hold out counter s = record {
   rec = recordAfter r counter s;
   hold = over (handOf s) hold;
-  out = over (flatten (s .sections)) out;
-  said = Answer.taken (length (s .sections)) (length (flatten (s .sections)));
+  out = over (flatten (deliveredOf s)) out;
+  said = Answer.taken (length (deliveredOf s)) (length (flatten (deliveredOf s)));
 }
 
 abbrev pub outcomeOf : Record → List ℕ → List ℕ → Ruling → Outcome
 outcomeOf r hold out (refused n) = unaltered r hold out (Answer.refused n)
 outcomeOf r hold out repeated = unaltered r hold out Answer.repeated
 outcomeOf r hold out bare = unaltered r hold out (Answer.taken 0 0)
-outcomeOf r hold out (takes q) = takenTo r hold out (q .counter) (takenIn plain (beforeOf r) (holding (take (r .in_hand) hold)) q)
+outcomeOf r hold out (takes q) = outcomeAfter r hold out (q .counter) (storyAfter delivers plain (beforeOf r) (holding (take (r .in_hand) hold)) q)
 
 abbrev pub collected : Record → List ℕ → List ℕ → List ℕ → Outcome
-collected r hold out packet = outcomeOf r hold out (ruling (cannotStand r hold) (r .pid) (beforeOf r) (length hold) (length out) packet)
+collected r hold out packet = outcomeOf r hold out (ruling (tooSmall (length hold) (length out)) (cannotStand r hold) (r .pid) (beforeOf r) packet)

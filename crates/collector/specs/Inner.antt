@@ -1,5 +1,4 @@
 -- Contracts among this crate's own functions: nothing that a caller must believe.
-pub mod Packet
 pub mod Stretch
 pub mod Payload
 pub mod Taking

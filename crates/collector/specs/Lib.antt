@@ -1,6 +1,4 @@
 -- What the collector promises of a call: definitions that state document 01. `Inner` has what private functions say of each other.
-pub mod Each
-pub mod Packet
 pub mod Rules
 pub mod Refusals
 pub mod Answer

@@ -3,12 +3,12 @@
 -- thing that has a value; a run of calls takes bytes that know their packet, and one call takes bare numbers.
 use mathlib.Core.Bool.{Bool, true, false}
 use mathlib.Core.List.{List, [], _∷_, _++_, map}
-use mathlib.Core.Option.{Option, none, some}
-use Prim.Native.Nat.{ℕ, _+_, _%_}
+use Prim.Native.Nat.{ℕ, _+_}
 use lib.ListN.{length, take, drop}
 use lib.Dec.{ltb, eqb}
 use Rattle.wire.specs.If.{if_then_else_}
-use Rattle.wire.specs.Bytes.{len12At}
+use Rattle.wire.specs.Sections.{totalOf}
+use Rattle.packet.specs.Ruling.{Before, follows, Carried}
 
 -- "one fate ..: pointer, delivered, broken off, filler, skipped, or in hand": of what kind a byte is once it is done with
 pub data Kind : Type 0 where
@@ -26,7 +26,7 @@ pub record Mark (A : Type 0) : Type 0 where
   pub byte : A
   pub fate : Fate
 
--- marks: one for each byte of payload so far, in order; sections: those delivered so far, in order, each with its bytes
+-- marks: one for each byte of payload so far, in order; sections: those that came whole so far, in order, each with its bytes
 pub record Story (A : Type 0) : Type 0 where
   pub marks : List (Mark A)
   pub sections : List (List A)
@@ -100,97 +100,81 @@ module _ {A : Type 0} where
   abbrev pub brokenOff : Story A → Story A
   brokenOff s = record { marks = settled (done broken) (s .marks); sections = s .sections }
 
-  -- what is in hand is a section, and is delivered
-  abbrev pub finished : Story A → Story A
-  finished s = record { marks = settled (done delivered) (s .marks); sections = s .sections ++ (handOf s ∷ []) }
+  -- what is in hand is a whole section, which comes to the kind k
+  abbrev pub finished : Kind → Story A → Story A
+  finished k s = record { marks = settled (done k) (s .marks); sections = s .sections ++ (handOf s ∷ []) }
 
 -- ---- one byte
+
+-- how the rest of a stretch goes once no section is in it, and the kind that its bytes have
+pub data Rest : Type 0 where
+  filling : Rest
+  skipping : Rest
+  breaking : Rest
+
+abbrev pub kindOf : Rest → Kind
+kindOf filling = filler
+kindOf skipping = skipped
+kindOf breaking = broken
 
 -- what the next byte of a stretch is: where a section would begin, one of the section in hand, or one of the stretch's rest
 pub data Mode : Type 0 where
   begin : Mode
   inside : Mode
-  filling : Mode
-  skipping : Mode
-  breaking : Mode
+  outside : Rest → Mode
 
 -- a place in a stretch: what the next byte is, and the story up to it
 pub record Next (A : Type 0) : Type 0 where
   pub mode : Mode
   pub story : Story A
 
--- the bytes of a section, by its header: three, and those of its section_length
-abbrev pub totalOf : List ℕ → ℕ
-totalOf s = 3 + len12At s 1
-
 -- what has come of a section so far: it goes on, it is whole, or it declares too much
 pub data Size : Type 0 where
   going : Size
   whole : Size
-  over : Size
+  too-long : Size
 
 -- "A section_length above 4,093, known at its third byte"
 unfoldable pub sizeOf : List ℕ → Size
-sizeOf s = if ltb (length s) 3 then going else (if ltb 4096 (totalOf s) then over else (if eqb (length s) (totalOf s) then whole else going))
-
--- what of the packets before counts for the next one: "the last counter or none"
-pub record Before : Type 0 where
-  pub last : Option ℕ
-
--- no packet before
-abbrev pub noneBefore : Before
-noneBefore = record { last = none }
-
-abbrev pub nextTo : Option ℕ → ℕ → Bool
-nextTo none counter = true
-nextTo (some last) counter = eqb counter ((last + 1) % 16)
-
--- "If the counter isn't the last plus 1 modulo 16, what is in hand is broken off". Without a last counter nothing is in hand.
-unfoldable pub follows : Before → ℕ → Bool
-follows before counter = nextTo (before .last) counter
+sizeOf s = if ltb (length s) 3 then going else (if ltb 4096 (totalOf s) then too-long else (if eqb (length s) (totalOf s) then whole else going))
 
 -- the value of a bare byte is the byte
 abbrev pub plain : ℕ → ℕ
 plain b = b
 
--- a packet that is taken and has payload
-pub record Carried (A : Type 0) : Type 0 where
-  pub counter : ℕ
-  pub start : Bool
-  pub bytes : List A
-
 module _ {A : Type 0} where
-  -- what counts for the packet behind it: "the counter then becomes the last"
-  abbrev pub handsOn : Carried A → Before
-  handsOn q = record { last = some (q .counter) }
-
   -- "until 0xFF stands where one would begin (the rest is filler)"
   abbrev pub begun : Bool → A → Story A → Next A
-  begun true b s = record { mode = filling; story = given (done filler) b s }
+  begun true b s = record { mode = outside filling; story = given (done filler) b s }
   begun false b s = record { mode = inside; story = given in-hand b s }
 
-  -- after is the mode that a section's end leads to. "the section and the rest of its stretch .. are broken off"
-  abbrev pub grown : Mode → Size → Story A → Next A
-  grown after going s = record { mode = inside; story = s }
-  grown after whole s = record { mode = after; story = finished s }
-  grown after over s = record { mode = breaking; story = brokenOff s }
+  -- after is the mode that a section's end leads to, and k what the section comes to. "the section and the rest of its stretch .. are broken off"
+  abbrev pub grown : Mode → Kind → Size → Story A → Next A
+  grown after k going s = record { mode = inside; story = s }
+  grown after k whole s = record { mode = after; story = finished k s }
+  grown after k too-long s = record { mode = outside breaking; story = brokenOff s }
 
   -- "bytes go to the section in hand .. Nothing in hand: skipped."
   abbrev pub resumed : List A → Mode
-  resumed [] = skipping
+  resumed [] = outside skipping
   resumed (b ∷ bs) = inside
 
   abbrev pub joined : Bool → Story A → Story A
   joined true s = s
   joined false s = brokenOff s
 
-module _ {A : Type 0} (value : A → ℕ) where
+-- What a whole section comes to is told by its bytes, and the rules go by whatever tells it.
+module _ (comes : List ℕ → Kind) {A : Type 0} (value : A → ℕ) where
+  -- the whole sections that come to the kind k, in order
+  abbrev pub sectionsOf : Kind → List (List A) → List (List A)
+  sectionsOf k [] = []
+  sectionsOf k (s ∷ secs) = if sameKind k (comes (map value s)) then s ∷ sectionsOf k secs else sectionsOf k secs
+
   abbrev pub byteIn : Mode → Mode → A → Story A → Next A
   byteIn after begin b s = begun (eqb (value b) 255) b s
-  byteIn after inside b s = grown after (sizeOf (map value (handOf s ++ (b ∷ [])))) (given in-hand b s)
-  byteIn after filling b s = record { mode = filling; story = given (done filler) b s }
-  byteIn after skipping b s = record { mode = skipping; story = given (done skipped) b s }
-  byteIn after breaking b s = record { mode = breaking; story = given (done broken) b s }
+  byteIn after inside b s =
+      grown after (comes (map value (handOf s ++ (b ∷ [])))) (sizeOf (map value (handOf s ++ (b ∷ [])))) (given in-hand b s)
+  byteIn after (outside m) b s = record { mode = outside m; story = given (done (kindOf m)) b s }
 
   -- ---- a stretch of payload
 
@@ -200,7 +184,7 @@ module _ {A : Type 0} (value : A → ℕ) where
 
   -- "bytes go to the section in hand; after its end, filler. Nothing in hand: skipped."
   abbrev pub goesOn : Story A → List A → Story A
-  goesOn s bs = stretch filling (record { mode = resumed (handOf s); story = s }) bs .story
+  goesOn s bs = stretch (outside filling) (record { mode = resumed (handOf s); story = s }) bs .story
 
   -- "Then sections follow end to end until 0xFF stands where one would begin (the rest is filler) or the payload ends"
   abbrev pub sectionsIn : Story A → List A → Story A
@@ -218,5 +202,11 @@ module _ {A : Type 0} (value : A → ℕ) where
   payload false s bs = goesOn s bs
 
   -- a packet that is taken, after what counts of the packets before and the story so far
-  abbrev pub takenIn : Before → Story A → Carried A → Story A
-  takenIn before s q = payload (q .start) (joined (follows before (q .counter)) s) (q .bytes)
+  abbrev pub storyAfter : Before → Story A → Carried A → Story A
+  storyAfter before s q = payload (q .start) (joined (follows before (q .counter)) s) (q .bytes)
+
+-- ---- what a whole section comes to
+
+-- "Out gets the finished sections": each is delivered
+abbrev pub delivers : List ℕ → Kind
+delivers s = delivered

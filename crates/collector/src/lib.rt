@@ -1,11 +1,12 @@
 // The collector of document 01: packets of one PID go in, one at a time, and the sections that they carry come out.
 mod bytes;
-mod packet;
+mod lent;
 mod payload;
 mod stretch;
 mod taking;
 
-use packet::Verdict;
+use packet::Judgement;
+use packet::Refusal;
 ghost use mathlib.Core.Path.{_≡_};
 ghost use Rattle.collector.specs.Answer.{came};
 ghost use Rattle.collector.specs.Collected.{collected, freshRecord};
@@ -26,19 +27,6 @@ pub struct Record {
     pub broken: u32,
     pub filler: u32,
     pub skipped: u32,
-}
-
-// Refusals 41 to 49, in document 01's order.
-pub enum Refusal {
-    NotAPacket,
-    Room,
-    Unfit,
-    Sync,
-    Error,
-    OtherPid,
-    Scrambled,
-    Adaptation,
-    Pointer,
 }
 
 // What a call answers. Taken: "the finished sections end to end, the answer their number and bytes".
@@ -74,20 +62,20 @@ pub fn fresh(pid: u16) -> Record
 pub fn step(rec: Record, hold: &mut [u8], out: &mut [u8], packet: &[u8]) -> Stepped
     ensures { λ r. ⌜ came (r .record) (now (hold .exit)) (now (out .exit)) (r .answer) ≡ collected rec (now (hold .entry)) (now (out .entry)) (now (packet .entry)) ⌝ }
 {
-    let v = packet::judge(rec, hold, out.len(), packet);
+    let v = lent::judge(rec, hold, out.len(), packet);
     match v {
-        Verdict::Refuse(refusal) => Stepped {
+        Judgement::Refuse(refusal) => Stepped {
             record: rec,
             answer: Answer::Refused(refusal),
         },
-        Verdict::Bare => Stepped {
+        Judgement::Bare => Stepped {
             record: rec,
             answer: Answer::Taken {
                 sections: 0,
                 bytes: 0,
             },
         },
-        Verdict::Carries {
+        Judgement::Payload {
             from,
             start,
             counter,

@@ -1,32 +1,17 @@
 // A packet's payload: the stretch before the pointer's target, and the sections from there on.
 use crate::stretch;
-use crate::stretch::Came;
+use crate::stretch::Gain;
 ghost use mathlib.Core.Path.{_≡_};
 ghost use Prim.Native.Nat.{_<_};
 ghost use lib.ListN.{length, take, drop};
-ghost use Rattle.collector.specs.Rules.{holding, payload, plain};
+ghost use Rattle.collector.specs.Rules.{holding, payload, plain, delivers};
 ghost use Rattle.collector.specs.Inner.Stretch.{Ends};
-ghost use Rattle.collector.specs.Inner.Payload.{Fit, Small, frontOf, bothOf};
+ghost use Rattle.collector.specs.Inner.Payload.{Fit, frontOf};
 
 // The stretch that goes to the section in hand: so many bytes of the packet, from index from on.
 struct Front {
     from: usize,
     bytes: usize,
-}
-
-// One stretch after another.
-fn both(a: Came, b: Came) -> Came
-    requires { ⌜ Small a × Small b ⌝ }
-    ensures { λ r. ⌜ r ≡ bothOf a b ⌝ }
-{
-    Came {
-        in_hand: b.in_hand,
-        sections: a.sections + b.sections,
-        bytes: a.bytes + b.bytes,
-        broken: a.broken + b.broken,
-        filler: a.filler + b.filler,
-        skipped: a.skipped + b.skipped,
-    }
 }
 
 // "one pointer byte p. The next p bytes go as above"; without the start flag, all of the payload.
@@ -56,16 +41,16 @@ pub fn carry(
     from: usize,
     start: bool,
     out: &mut [u8],
-) -> Came
+) -> Gain
     requires { ⌜ Fit n (now hold) (now out) (now packet) from start ⌝ }
-    ensures { λ r. ⌜ Ends (payload plain start (holding (take n (now (hold .entry)))) (drop from (now (packet .entry)))) (now (hold .entry)) (now (out .entry)) 0 (now (hold .exit)) (now (out .exit)) r ⌝ }
+    ensures { λ r. ⌜ Ends (payload delivers plain start (holding (take n (now (hold .entry)))) (drop from (now (packet .entry)))) (now (hold .entry)) (now (out .entry)) 0 (now (hold .exit)) (now (out .exit)) r ⌝ }
 {
     let front = front_of(packet, from, start);
     let a = stretch::go_on(hold, n, packet, front.from, front.bytes, out, !start);
     if start {
         let at = a.bytes;
         let b = stretch::sections(packet, front.from + front.bytes, hold, out, at);
-        return both(a, b);
+        return stretch::both(a, b);
     }
     a
 }

@@ -5,8 +5,9 @@ ghost use mathlib.Core.List.{[], _++_};
 ghost use Prim.Native.Nat.{_+_, _-_, _≤_, _<_};
 ghost use lib.ListN.{length, take, drop, getD};
 ghost use Rattle.wire.specs.Bytes.{len12};
-ghost use Rattle.collector.specs.Rules.{holding, joined, goesOn, sectionsIn, plain};
-ghost use Rattle.collector.specs.Inner.Stretch.{LookSays, Ends, CanStand};
+ghost use Rattle.wire.specs.Sections.{Unfinished};
+ghost use Rattle.collector.specs.Rules.{holding, joined, goesOn, sectionsIn, plain, delivers};
+ghost use Rattle.collector.specs.Inner.Stretch.{LookSays, Ends, Small, bothOf};
 
 // What stands first in a run of bytes: a section that goes on past them, one that declares too much, or a whole one, of so many bytes.
 pub enum Look {
@@ -16,13 +17,28 @@ pub enum Look {
 }
 
 // What came of a stretch: the bytes in hand after it, the finished sections' number and bytes, and the bytes of three fates.
-pub struct Came {
+pub struct Gain {
     pub in_hand: usize,
     pub sections: usize,
     pub bytes: usize,
     pub broken: usize,
     pub filler: usize,
     pub skipped: usize,
+}
+
+// One stretch after another.
+pub fn both(a: Gain, b: Gain) -> Gain
+    requires { ⌜ Small a × Small b ⌝ }
+    ensures { λ r. ⌜ r ≡ bothOf a b ⌝ }
+{
+    Gain {
+        in_hand: b.in_hand,
+        sections: a.sections + b.sections,
+        bytes: a.bytes + b.bytes,
+        broken: a.broken + b.broken,
+        filler: a.filler + b.filler,
+        skipped: a.skipped + b.skipped,
+    }
 }
 
 // Byte i of the n bytes in hand with m bytes of the packet after them.
@@ -65,9 +81,9 @@ fn looked(hold: &[u8], n: usize, packet: &[u8], from: usize, m: usize) -> Look
 }
 
 // "Then sections follow end to end", from index from to the packet's end; out has what is finished from index at on.
-pub fn sections(packet: &[u8], from: usize, hold: &mut [u8], out: &mut [u8], at: usize) -> Came
+pub fn sections(packet: &[u8], from: usize, hold: &mut [u8], out: &mut [u8], at: usize) -> Gain
     requires { ⌜ (from ≤ length (now packet)) × (length (now packet) ≤ 188) × (188 ≤ length (now hold)) × (at + (length (now packet) - from) ≤ length (now out)) ⌝ }
-    ensures { λ r. ⌜ Ends (sectionsIn plain (holding []) (drop from (now (packet .entry)))) (now (hold .entry)) (now (out .entry)) at (now (hold .exit)) (now (out .exit)) r ⌝ }
+    ensures { λ r. ⌜ Ends (sectionsIn delivers plain (holding []) (drop from (now (packet .entry)))) (now (hold .entry)) (now (out .entry)) at (now (hold .exit)) (now (out .exit)) r ⌝ }
 {
     let mut i = from;
     let mut o = at;
@@ -75,7 +91,7 @@ pub fn sections(packet: &[u8], from: usize, hold: &mut [u8], out: &mut [u8], at:
     while i < packet.len() {
         let left = packet.len() - i;
         if packet[i] == 255 {
-            return Came {
+            return Gain {
                 in_hand: 0,
                 sections: n,
                 bytes: o - at,
@@ -88,7 +104,7 @@ pub fn sections(packet: &[u8], from: usize, hold: &mut [u8], out: &mut [u8], at:
         match look {
             Look::Going => {
                 bytes::copy_at(packet, i, left, hold, 0);
-                return Came {
+                return Gain {
                     in_hand: left,
                     sections: n,
                     bytes: o - at,
@@ -98,7 +114,7 @@ pub fn sections(packet: &[u8], from: usize, hold: &mut [u8], out: &mut [u8], at:
                 };
             }
             Look::Over => {
-                return Came {
+                return Gain {
                     in_hand: 0,
                     sections: n,
                     bytes: o - at,
@@ -115,7 +131,7 @@ pub fn sections(packet: &[u8], from: usize, hold: &mut [u8], out: &mut [u8], at:
             }
         }
     }
-    Came {
+    Gain {
         in_hand: 0,
         sections: n,
         bytes: o - at,
@@ -135,12 +151,12 @@ pub fn go_on(
     m: usize,
     out: &mut [u8],
     keep: bool,
-) -> Came
+) -> Gain
     requires { ⌜ (n < 4096) × (4096 ≤ length (now hold)) × (from + m ≤ length (now packet)) × (length (now packet) ≤ 188) × (4280 ≤ length (now out)) ⌝ }
-    requires { ⌜ CanStand (take n (now hold)) ⌝ }
-    ensures { λ r. ⌜ Ends (joined keep (goesOn plain (holding (take n (now (hold .entry)))) (take m (drop from (now (packet .entry)))))) (now (hold .entry)) (now (out .entry)) 0 (now (hold .exit)) (now (out .exit)) r ⌝ }
+    requires { ⌜ Unfinished (take n (now hold)) ⌝ }
+    ensures { λ r. ⌜ Ends (joined keep (goesOn delivers plain (holding (take n (now (hold .entry)))) (take m (drop from (now (packet .entry)))))) (now (hold .entry)) (now (out .entry)) 0 (now (hold .exit)) (now (out .exit)) r ⌝ }
 {
-    let none = Came {
+    let none = Gain {
         in_hand: 0,
         sections: 0,
         bytes: 0,

@@ -4,16 +4,18 @@ use crate::Last;
 use crate::Record;
 use crate::Stepped;
 use crate::payload;
-use crate::stretch::Came;
+use crate::stretch::Gain;
 ghost use mathlib.Core.Path.{_≡_};
 ghost use Prim.Native.Nat.{_<_};
 ghost use lib.ListN.{take, drop};
-ghost use Rattle.collector.specs.Rules.{follows, holding, joined, plain, payload};
-ghost use Rattle.collector.specs.Refusals.{lastBefore, beforeOf, repeats, carriedIn, ruledOn};
+ghost use Rattle.packet.specs.Ruling.{follows, repeats, loadOf, ruledOn};
+ghost use Rattle.collector.specs.Rules.{holding, joined, plain, payload, delivers};
+ghost use Rattle.collector.specs.Refusals.{lastBefore, beforeOf};
 ghost use Rattle.collector.specs.Answer.{came};
-ghost use Rattle.collector.specs.Collected.{takenTo, outcomeOf};
-ghost use Rattle.collector.specs.Inner.Payload.{Fit, Small};
-ghost use Rattle.collector.specs.Inner.Taking.{keptOf, pointCount, countedOf};
+ghost use Rattle.collector.specs.Collected.{outcomeAfter, outcomeOf};
+ghost use Rattle.collector.specs.Inner.Stretch.{Small, pointCount};
+ghost use Rattle.collector.specs.Inner.Payload.{Fit};
+ghost use Rattle.collector.specs.Inner.Taking.{keptOf, countedOf};
 
 // "a counter equal to the last"
 fn is_repeat(last: Last, counter: u8) -> bool
@@ -42,7 +44,7 @@ fn point_count(start: bool) -> u32
 }
 
 // The record after a packet that is taken; broken bytes were in hand and are broken off by a break in the counter.
-fn counted(rec: Record, counter: u8, e: Came, broken: usize, start: bool) -> Record
+fn counted(rec: Record, counter: u8, e: Gain, broken: usize, start: bool) -> Record
     requires { ⌜ Small e × (broken < 4096) ⌝ }
     ensures { λ r. ⌜ r ≡ countedOf rec counter e broken start ⌝ }
 {
@@ -82,7 +84,7 @@ fn taken(
     next: bool,
 ) -> Stepped
     requires { ⌜ Fit (rec .in_hand) (now hold) (now out) (now packet) from start ⌝ }
-    ensures { λ r. ⌜ came (r .record) (now (hold .exit)) (now (out .exit)) (r .answer) ≡ takenTo rec (now (hold .entry)) (now (out .entry)) counter (payload plain start (joined next (holding (take (rec .in_hand) (now (hold .entry))))) (drop from (now (packet .entry)))) ⌝ }
+    ensures { λ r. ⌜ came (r .record) (now (hold .exit)) (now (out .exit)) (r .answer) ≡ outcomeAfter rec (now (hold .entry)) (now (out .entry)) counter (payload delivers plain start (joined next (holding (take (rec .in_hand) (now (hold .entry))))) (drop from (now (packet .entry)))) ⌝ }
 {
     let held = rec.in_hand;
     let n = kept(next, held);
@@ -108,7 +110,7 @@ pub fn carried(
     counter: u8,
 ) -> Stepped
     requires { ⌜ Fit (rec .in_hand) (now hold) (now out) (now packet) from start ⌝ }
-    ensures { λ r. ⌜ came (r .record) (now (hold .exit)) (now (out .exit)) (r .answer) ≡ outcomeOf rec (now (hold .entry)) (now (out .entry)) (ruledOn (beforeOf rec) (carriedIn (now (packet .entry)) from start counter)) ⌝ }
+    ensures { λ r. ⌜ came (r .record) (now (hold .exit)) (now (out .exit)) (r .answer) ≡ outcomeOf rec (now (hold .entry)) (now (out .entry)) (ruledOn (beforeOf rec) (loadOf (now (packet .entry)) from start counter)) ⌝ }
 {
     let last = rec.last;
     if is_repeat(last, counter) {

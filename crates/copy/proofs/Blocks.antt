@@ -21,7 +21,7 @@ through src d b o from at n fits e f =
     ∙ ap (λ (l : List ℕ). take at d ++ l ++ drop (at + n) d) (ap (λ (k : ℕ). take k (paste (replicate n 0) 0 s n)) (sym z) ∙ take-paste (replicate n 0) 0 s n (omega arith) long)
 
 -- of a copy of i bytes, what stands before its byte j
-front : (d s : List ℕ) (at i j : ℕ) → at ≤ length d → i ≤ length s → j ≤ i → take (at + j) (paste d at s i) ≡ take at d ++ take j s
+pub front : (d s : List ℕ) (at i j : ℕ) → at ≤ length d → i ≤ length s → j ≤ i → take (at + j) (paste d at s i) ≡ take at d ++ take j s
 front d s at i j hd hs le =
     sym (take-take (at + j) (at + i) (paste d at s i) (omega arith))
     ∙ ap (take (at + j)) (take-paste d at s i hd hs)
@@ -30,7 +30,7 @@ front d s at i j hd hs le =
     ∙ ap (λ (l : List ℕ). take at d ++ l) (take-take j i s le)
 
 -- and what stands behind it
-behind : (d s : List ℕ) (at i m : ℕ) → at ≤ length d → i ≤ length s → i ≤ m → drop (at + m) (paste d at s i) ≡ drop (at + m) d
+pub behind : (d s : List ℕ) (at i m : ℕ) → at ≤ length d → i ≤ length s → i ≤ m → drop (at + m) (paste d at s i) ≡ drop (at + m) d
 behind d s at i m hd hs le =
     let e : at + i + (m - i) ≡ at + m = omega arith in
     ap (λ (k : ℕ). drop k (paste d at s i)) (sym e)

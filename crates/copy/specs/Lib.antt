@@ -1,2 +1,4 @@
--- What a copy of bytes leaves.
+-- What a copy of bytes leaves, and what a move within one list does.
 pub mod Copy
+pub mod Move
+pub mod Laid

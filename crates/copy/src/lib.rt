@@ -1,10 +1,12 @@
-// Bytes copied from one place to another.
+// Bytes copied from one place to another, and moved within one room.
 ghost use mathlib.Core.Path.{_≡_};
 ghost use Prim.Native.Nat.{_+_, _≤_};
 ghost use lib.ListN.{length, drop};
 ghost use lib.Seq.{paste};
 ghost use lib.Dec.{ltb};
 ghost use Rattle.copy.specs.Copy.{block, copies, copied};
+ghost use Rattle.copy.specs.Move.{movesDown, movedDown, movesUp, movedUp};
+mod within;
 
 // n bytes from a place on are more than there are, of so many.
 pub fn lacks(all: usize, at: usize, n: usize) -> bool
@@ -108,4 +110,41 @@ pub fn copy_few(src: &[u8], from: usize, n: usize, dst: &mut [u8], at: usize) ->
     ensures { λ r. ⌜ (r ≡ copies (now (src .entry)) from n (now (dst .entry)) at) × (now (dst .exit) ≡ copied (now (src .entry)) from n (now (dst .entry)) at) ⌝ }
 {
     copy_by(false, src, from, n, dst, at)
+}
+
+// n bytes of room from index from go down to index to, which is no higher, as they were before, where room has them; otherwise it stays.
+// It tells which.
+pub fn move_down(room: &mut [u8], from: usize, n: usize, to: usize) -> bool
+    ensures { λ r. ⌜ (r ≡ movesDown (now (room .entry)) from n to) × (now (room .exit) ≡ movedDown (now (room .entry)) from n to) ⌝ }
+{
+    if from < to {
+        return false;
+    }
+    if lacks(room.len(), from, n) {
+        return false;
+    }
+    if n < 32 {
+        within::few(room, from, n, to);
+        return true;
+    }
+    within::down(room, from, n, to);
+    true
+}
+
+// The same up to index to, which is no lower, where room has place for them.
+pub fn move_up(room: &mut [u8], from: usize, n: usize, to: usize) -> bool
+    ensures { λ r. ⌜ (r ≡ movesUp (now (room .entry)) from n to) × (now (room .exit) ≡ movedUp (now (room .entry)) from n to) ⌝ }
+{
+    if to < from {
+        return false;
+    }
+    if lacks(room.len(), to, n) {
+        return false;
+    }
+    if n < 32 {
+        within::few(room, from, n, to);
+        return true;
+    }
+    within::up(room, from, n, to);
+    true
 }

@@ -7,9 +7,9 @@ use lib.Bits.{xor-comm, xor-lt, xor-zero-r}
 use lib.ListN.{length, drop, drop-of-length-le}
 use Rattle.wire.specs.Bytes.{Bytes}
 use Rattle.crc.specs.Crc.{feedBits, feedBytes, crc}
-use Rattle.crc.specs.Inner.Moves.{second, third, fourth, fifth, added}
+use Rattle.moves.specs.Moves.{second, third, fourth, fifth, added}
 use Rattle.crc.specs.Inner.Windows.{longAt, feedWords, Ahead, FiveAt, Fronts}
-use Rattle.crc.proofs.Xor.{_⊕_, xor-assoc, xor-left-comm}
+use Rattle.moves.proofs.Xor.{_⊕_, xor-assoc, xor-left-comm}
 use Rattle.crc.proofs.Bytes.{long-front}
 use Rattle.crc.proofs.Feeding.{words-append}
 use Rattle.crc.proofs.Leaving.{leaves-five, second-lt, third-lt, fourth-lt}
@@ -20,11 +20,14 @@ side-by-side : (m a b c d e f g h : ℕ) → m ⊕ (a ⊕ b) ⊕ (c ⊕ d) ⊕ (
 side-by-side m a b c d e f g h = simp (xor-assoc, xor-comm, xor-left-comm)
 
 pub in-pairs : (m p q r t : ℕ)
-    → m ⊕ ((p * 2 ^ 20 % 2 ^ 64) ⊕ (q / 2 ^ 44)) ⊕ ((q * 2 ^ 45 % 2 ^ 64) ⊕ (r / 2 ^ 19)) ⊕ ((r * 2 ^ 47 % 2 ^ 64) ⊕ (t / 2 ^ 17)) ⊕ (r * 2 ^ 9 % 2 ^ 64)
+    → m ⊕ ((p * 2 ^ 20 % 2 ^ 64) ⊕ (q / 2 ^ 44)) ⊕ ((q * 2 ^ 45 % 2 ^ 64) ⊕ (r / 2 ^ 19))
+    ⊕ ((r * 2 ^ 47 % 2 ^ 64) ⊕ (t / 2 ^ 17)) ⊕ (r * 2 ^ 9 % 2 ^ 64)
     ⊕ (t / 2 ^ 55)
     ≡ added m p q r t
 unfolding added second third fourth fifth
-in-pairs m p q r t = side-by-side m (p * 2 ^ 20 % 2 ^ 64) (q / 2 ^ 44) (q * 2 ^ 45 % 2 ^ 64) (r / 2 ^ 19) (r * 2 ^ 47 % 2 ^ 64) (t / 2 ^ 17) (r * 2 ^ 9 % 2 ^ 64) (t / 2 ^ 55)
+in-pairs m p q r t =
+    side-by-side m (p * 2 ^ 20 % 2 ^ 64) (q / 2 ^ 44) (q * 2 ^ 45 % 2 ^ 64) (r / 2 ^ 19) (r * 2 ^ 47 % 2 ^ 64)
+    (t / 2 ^ 17) (r * 2 ^ 9 % 2 ^ 64) (t / 2 ^ 55)
 
 -- The sum `added`, where some of the four words are not there.
 
@@ -116,8 +119,10 @@ module _ (a b c₀ d₀ e₀ m n o p q : ℕ) where
       ≡ feedWords (a ∷ b ∷ c₀ ∷ d₀ ∷ e₀ ∷ m ∷ n ∷ o ∷ p ∷ q ∷ []) 0
   unfolding feedWords
   five-leave ha hb hc hd he =
-      leaves-five e (m ⊕ fifth a ⊕ fourth b ⊕ third c ⊕ second d) (n ⊕ fifth b ⊕ fourth c ⊕ third d) (o ⊕ fifth c ⊕ fourth d) (p ⊕ fifth d) q (e-lt ha hb hc he)
-      ∙ ap (feedWords (q ∷ [])) (leaves-five d e (m ⊕ fifth a ⊕ fourth b ⊕ third c) (n ⊕ fifth b ⊕ fourth c) (o ⊕ fifth c) p (d-lt ha hb hd))
+      leaves-five e (m ⊕ fifth a ⊕ fourth b ⊕ third c ⊕ second d) (n ⊕ fifth b ⊕ fourth c ⊕ third d)
+      (o ⊕ fifth c ⊕ fourth d) (p ⊕ fifth d) q (e-lt ha hb hc he)
+      ∙ ap (feedWords (q ∷ []))
+      (leaves-five d e (m ⊕ fifth a ⊕ fourth b ⊕ third c) (n ⊕ fifth b ⊕ fourth c) (o ⊕ fifth c) p (d-lt ha hb hd))
       ∙ ap (feedWords (p ∷ q ∷ [])) (leaves-five c d (e₀ ⊕ fourth a ⊕ third b) (m ⊕ fifth a ⊕ fourth b) (n ⊕ fifth b) o (c-lt ha hc))
       ∙ ap (feedWords (o ∷ p ∷ q ∷ [])) (leaves-five b c (d₀ ⊕ third a) (e₀ ⊕ fourth a) (m ⊕ fifth a) n hb)
       ∙ ap (feedWords (n ∷ o ∷ p ∷ q ∷ [])) (leaves-five a b c₀ d₀ e₀ m ha)
@@ -150,7 +155,8 @@ module _ {s : List ℕ} where
 
 module _ {s : List ℕ} (hs : Bytes s) where
   -- three words more make a window of five
-  pub three-come : (a b c d e i : ℕ) → Ahead s (a ∷ b ∷ []) i → i + 24 ≤ length s → c ≡ longAt s i → d ≡ longAt s (i + 8) → e ≡ longAt s (i + 16)
+  pub three-come : (a b c d e i : ℕ) → Ahead s (a ∷ b ∷ []) i → i + 24 ≤ length s → c ≡ longAt s i
+      → d ≡ longAt s (i + 8) → e ≡ longAt s (i + 16)
       → Ahead s (a ∷ b ∷ c ∷ d ∷ e ∷ []) (i + 24)
   three-come a b c d e i k h ec ed ee =
       let one = comes hs (a ∷ b ∷ []) i (i + 8) c k refl (omega arith) ec in
@@ -159,7 +165,8 @@ module _ {s : List ℕ} (hs : Bytes s) where
 
   -- the window of five moves on by a word
   pub five-move : (a b c d e m c' d' e' m' i : ℕ) → Ahead s (a ∷ b ∷ c ∷ d ∷ e ∷ []) i → a < 2 ^ 64 → i + 8 ≤ length s → m ≡ longAt s i
-      → c' ≡ added c 0 0 0 a → d' ≡ added d 0 0 a 0 → e' ≡ added e 0 a 0 0 → m' ≡ added m a 0 0 0 → Ahead s (b ∷ c' ∷ d' ∷ e' ∷ m' ∷ []) (i + 8)
+      → c' ≡ added c 0 0 0 a → d' ≡ added d 0 0 a 0 → e' ≡ added e 0 a 0 0 → m' ≡ added m a 0 0 0
+      → Ahead s (b ∷ c' ∷ d' ∷ e' ∷ m' ∷ []) (i + 8)
   five-move a b c d e m c' d' e' m' i k ha h em ec ed ee el =
       instead (comes hs (a ∷ b ∷ c ∷ d ∷ e ∷ []) i (i + 8) m k refl h em)
       (ap (λ (l : List ℕ). feedWords l 0) (cc (the-second c a, the-third d a, the-fourth e a, the-fifth m a)) ∙ leaves-five a b c d e m ha)

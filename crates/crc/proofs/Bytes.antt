@@ -39,7 +39,9 @@ four a b c d r hb hc hd =
 module _ (s : List ℕ) (i r : ℕ) where
   pub byte-front : i < length s → feedBytes (drop i s) r ≡ feedBytes (drop (i + 1) s) (feedBits 8 (getD s i 0) r)
   unfolding feedBytes
-  byte-front h = ap (λ (l : List ℕ). feedBytes l r) (drop-cons s i 0 h) ∙ ap (λ (m : ℕ). feedBytes (drop m s) (feedBits 8 (getD s i 0) r)) (sym (add-one i))
+  byte-front h =
+      ap (λ (l : List ℕ). feedBytes l r) (drop-cons s i 0 h)
+      ∙ ap (λ (m : ℕ). feedBytes (drop m s) (feedBits 8 (getD s i 0) r)) (sym (add-one i))
 
   pub none-left : length s ≤ i → feedBytes (drop i s) r ≡ r
   unfolding feedBytes
@@ -49,7 +51,9 @@ pub word-lt : (a b c d : ℕ) → a < 2 ^ 8 → b < 2 ^ 8 → c < 2 ^ 8 → d < 
 word-lt a b c d ha hb hc hd = omega arith
 
 four-front : (s : List ℕ) (i r : ℕ) → i + 4 ≤ length s
-    → feedBytes (drop i s) r ≡ feedBytes (drop (i + 4) s) (feedBytes (getD s i 0 ∷ getD s (i + 1) 0 ∷ getD s (i + 2) 0 ∷ getD s (i + 3) 0 ∷ []) r)
+    → feedBytes (drop i s) r
+    ≡ feedBytes (drop (i + 4) s)
+    (feedBytes (getD s i 0 ∷ getD s (i + 1) 0 ∷ getD s (i + 2) 0 ∷ getD s (i + 3) 0 ∷ []) r)
 unfolding feedBytes
 four-front s i r h =
     byte-front s i r (omega arith)
@@ -58,15 +62,21 @@ four-front s i r h =
     ∙ byte-front s (i + 1 + 1 + 1) _ (omega arith)
     ∙ simp add-assoc
 
-pub word-front : (s : List ℕ) → Bytes s → (i r : ℕ) → i + 4 ≤ length s → feedBytes (drop i s) r ≡ feedBytes (drop (i + 4) s) (feedBits 32 (wordAt s i) r)
+pub word-front : (s : List ℕ) → Bytes s → (i r : ℕ) → i + 4 ≤ length s
+    → feedBytes (drop i s) r ≡ feedBytes (drop (i + 4) s) (feedBits 32 (wordAt s i) r)
 word-front s hs i r h =
     four-front s i r h
-    ∙ ap (feedBytes (drop (i + 4) s)) (four (getD s i 0) (getD s (i + 1) 0) (getD s (i + 2) 0) (getD s (i + 3) 0) r (hs (i + 1)) (hs (i + 2)) (hs (i + 3)))
+    ∙ ap (feedBytes (drop (i + 4) s))
+    (four (getD s i 0) (getD s (i + 1) 0) (getD s (i + 2) 0) (getD s (i + 3) 0) r (hs (i + 1)) (hs (i + 2))
+    (hs (i + 3)))
 
 pub word-at-lt : (s : List ℕ) → Bytes s → (i : ℕ) → wordAt s i < 2 ^ 32
-word-at-lt s hs i = word-lt (getD s i 0) (getD s (i + 1) 0) (getD s (i + 2) 0) (getD s (i + 3) 0) (hs i) (hs (i + 1)) (hs (i + 2)) (hs (i + 3))
+word-at-lt s hs i =
+    word-lt (getD s i 0) (getD s (i + 1) 0) (getD s (i + 2) 0) (getD s (i + 3) 0) (hs i) (hs (i + 1)) (hs (i + 2))
+    (hs (i + 3))
 
-pub long-front : (s : List ℕ) → Bytes s → (i r : ℕ) → i + 8 ≤ length s → feedBytes (drop i s) r ≡ feedBytes (drop (i + 8) s) (feedBits 64 (longAt s i) r)
+pub long-front : (s : List ℕ) → Bytes s → (i r : ℕ) → i + 8 ≤ length s
+    → feedBytes (drop i s) r ≡ feedBytes (drop (i + 8) s) (feedBits 64 (longAt s i) r)
 long-front s hs i r h =
     word-front s hs i r (omega arith)
     ∙ word-front s hs (i + 4) _ (omega arith)

@@ -1,15 +1,15 @@
--- The theorems about CRC_32: a published value, its range, and that a section ends in its own CRC_32 exactly if the register is zero after it.
+-- The theorems about CRC_32: a published value, its range, and that a section ends in its own CRC_32 exactly if the
+-- register is zero after it.
 use mathlib.Core.Path.{_≡_, refl, sym, ap, _∙_}
 use mathlib.Core.List.{List, [], _∷_, _++_}
-use Prim.Native.Nat.{ℕ, zero, suc, _+_, _-_, _*_, _/_, _%_, _^_, _<_}
+use Prim.Native.Nat.{ℕ, _+_, _-_, _*_, _/_, _%_, _^_, _<_}
 use mathlib.Core.Logic.{_↔_}
-use native.Mathlib.Nat.{zero-div, mod-eq-of-lt}
 use native.Mathlib.Omega.{arith}
 use lib.Dec.{lit<}
-use lib.Bits.{xor-zero-l, xor-zero-r, xor-lt}
-use Rattle.crc.specs.Crc.{poly, feed, feedBits, feedBytes, crc, bytesOf}
-use Rattle.crc.proofs.Xor.{_⊕_, xor-zero-eq}
-use Rattle.crc.proofs.Linear.{feed-sum, feed-lt}
+use lib.Bits.{xor-zero-l, xor-lt}
+use Rattle.crc.specs.Crc.{feed, feedBits, feedBytes, crc, bytesOf}
+use Rattle.moves.proofs.Xor.{_⊕_, xor-zero-eq}
+use Rattle.crc.proofs.Linear.{bits-zero}
 use Rattle.crc.proofs.Steps.{own, absorb}
 use Rattle.crc.proofs.Bytes.{feed-append, bytes-lt, four, word-lt}
 
@@ -43,27 +43,6 @@ closes s =
     ∙ ap (λ (w : ℕ). feedBits 32 w v) (again v)
     ∙ own v (crc-lt s)
 
-odd : (t r : ℕ) → r < 2 ^ 32 → t ≡ r / 2 ^ 31 → t * poly ≡ r * 2 % 2 ^ 32 → r ≡ 0
-odd zero r h top e =
-    let half : r * 2 < 2 ^ 32 = omega arith in
-    omega (arith, mod-eq-of-lt half)
-odd (suc zero) r h top e = omega arith
-odd (suc (suc t)) r h top e = omega (arith, h)
-
--- no register but zero becomes zero by a zero bit, since the polynomial is odd
-feed-zero : (r : ℕ) → r < 2 ^ 32 → feed r 0 ≡ 0 → r ≡ 0
-feed-zero r h e =
-    odd (r / 2 ^ 31) r h refl
-    (ap (λ (t : ℕ). t * poly) (sym (xor-zero-r (r / 2 ^ 31)))
-    ∙ xor-zero-eq ((r / 2 ^ 31 ⊕ 0) * poly) (r * 2 % 2 ^ 32) (sym (feed-sum r 0 h (lit< tt)) ∙ e))
-
-bits-zero : (n r : ℕ) → r < 2 ^ 32 → feedBits n 0 r ≡ 0 → r ≡ 0
-unfolding feedBits
-bits-zero zero r h e = e
-bits-zero (suc n) r h e =
-    let none : 0 / 2 ^ n % 2 ≡ 0 = ap (λ (v : ℕ). v % 2) (zero-div (2 ^ n)) in
-    feed-zero r h (bits-zero n (feed r 0) (feed-lt r 0 h (lit< tt)) (ap (λ (x : ℕ). feedBits n 0 (feed r x)) (sym none) ∙ e))
-
 -- the one word that makes a register zero is that register
 only-own : (w v : ℕ) → w < 2 ^ 32 → v < 2 ^ 32 → feedBits 32 w v ≡ 0 → w ≡ v
 only-own w v hw hv e =
@@ -84,6 +63,7 @@ same-bytes a b c d v ha hb hc hd e =
 pub closes-exactly : (s : List ℕ) (a b c d : ℕ) → a < 2 ^ 8 → b < 2 ^ 8 → c < 2 ^ 8 → d < 2 ^ 8
     → (crc (s ++ (a ∷ b ∷ c ∷ d ∷ [])) ≡ 0) ↔ (a ∷ b ∷ c ∷ d ∷ [] ≡ bytesOf (crc s))
 closes-exactly s a b c d ha hb hc hd = (
-  λ e. same-bytes a b c d (crc s) ha hb hc hd (only-own _ (crc s) (word-lt a b c d ha hb hc hd) (crc-lt s) (sym (ending s a b c d hb hc hd) ∙ e)),
+  λ e. same-bytes a b c d (crc s) ha hb hc hd
+      (only-own _ (crc s) (word-lt a b c d ha hb hc hd) (crc-lt s) (sym (ending s a b c d hb hc hd) ∙ e)),
   λ e. ap (λ (t : List ℕ). crc (s ++ t)) e ∙ closes s,
 )

@@ -8,7 +8,7 @@ use lib.Bits.{bitXor, xor-lt, xor-zero-l, xor-zero-r}
 use lib.ListN.{length}
 use Rattle.crc.specs.Crc.{feedBits}
 use Rattle.crc.specs.Inner.Windows.{feedWords}
-use Rattle.crc.proofs.Xor.{_⊕_, xor-assoc}
+use Rattle.moves.proofs.Xor.{_⊕_, xor-assoc}
 use Rattle.crc.proofs.Linear.{linear, bits-lt, zeros-add, zeros-sum}
 
 pub words-append : (v w : List ℕ) (r : ℕ) → feedWords (v ++ w) r ≡ feedWords w (feedWords v r)
@@ -16,9 +16,9 @@ unfolding feedWords
 words-append [] w r = refl
 words-append (a ∷ v) w r = words-append v w (feedBits 64 a r)
 
--- what the register holds before a word is a part of its own
-before-word : (w r : ℕ) → r < 2 ^ 32 → feedBits 64 w r ≡ feedBits 64 w 0 ⊕ feedBits 64 0 r
-before-word w r h = sym (ap₂ (feedBits 64) (xor-zero-r w) (xor-zero-l r)) ∙ linear 64 w 0 0 r (lit< tt) h
+-- what the register holds before n bits is a part of its own
+pub before-bits : (n w r : ℕ) → r < 2 ^ 32 → feedBits n w r ≡ feedBits n w 0 ⊕ feedBits n 0 r
+before-bits n w r h = sym (ap₂ (feedBits n) (xor-zero-r w) (xor-zero-l r)) ∙ linear n w 0 0 r (lit< tt) h
 
 -- and so it is before any number of words
 pub before-words : (ws : List ℕ) (r : ℕ) → r < 2 ^ 32 → feedWords ws r ≡ feedWords ws 0 ⊕ feedBits (64 * length ws) 0 r
@@ -31,7 +31,7 @@ before-words (w ∷ ws) r h =
     let q : ℕ = feedBits 64 0 r in
     let hp : p < 2 ^ 32 = bits-lt 64 w 0 (lit< tt) in
     let hq : q < 2 ^ 32 = bits-lt 64 0 r h in
-    ap (feedWords ws) (before-word w r h)
+    ap (feedWords ws) (before-bits 64 w r h)
     ∙ before-words ws (p ⊕ q) (xor-lt 32 p q hp hq)
     ∙ ap (λ (v : ℕ). feedWords ws 0 ⊕ v) (zeros-sum n p q hp hq)
     ∙ sym (xor-assoc (feedWords ws 0) (feedBits n 0 p) (feedBits n 0 q))
@@ -43,7 +43,8 @@ xors [] w = []
 xors (a ∷ v) [] = a ∷ v
 xors (a ∷ v) (b ∷ w) = (a ⊕ b) ∷ xors v w
 
-words-linear : (v w : List ℕ) (r s : ℕ) → length v ≡ length w → r < 2 ^ 32 → s < 2 ^ 32 → feedWords (xors v w) (r ⊕ s) ≡ feedWords v r ⊕ feedWords w s
+words-linear : (v w : List ℕ) (r s : ℕ) → length v ≡ length w → r < 2 ^ 32 → s < 2 ^ 32
+    → feedWords (xors v w) (r ⊕ s) ≡ feedWords v r ⊕ feedWords w s
 unfolding feedWords
 words-linear [] [] r s e hr hs = refl
 words-linear [] (b ∷ w) r s e hr hs = absurd (omega arith)
@@ -53,7 +54,8 @@ words-linear (a ∷ v) (b ∷ w) r s e hr hs =
     ∙ words-linear v w (feedBits 64 a r) (feedBits 64 b s) (omega arith) (bits-lt 64 a r hr) (bits-lt 64 b s hs)
 
 -- a word leaves where w, added to the words v behind it, stands for it
-pub leaves : (v w : List ℕ) (a : ℕ) → length v ≡ length w → feedWords w 0 ≡ feedBits (64 * length v) 0 (feedBits 64 a 0) → feedWords (xors v w) 0 ≡ feedWords (a ∷ v) 0
+pub leaves : (v w : List ℕ) (a : ℕ) → length v ≡ length w → feedWords w 0 ≡ feedBits (64 * length v) 0 (feedBits 64 a 0)
+    → feedWords (xors v w) 0 ≡ feedWords (a ∷ v) 0
 unfolding feedWords
 leaves v w a e stands =
     words-linear v w 0 0 e (lit< tt) (lit< tt)

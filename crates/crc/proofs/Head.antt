@@ -7,14 +7,14 @@ use native.Mathlib.Numerals.{add-one}
 use native.Mathlib.Omega.{arith}
 use lib.Dec.{eqb, eqb→eq, lit<}
 use lib.Pow.{pow-pos, shr-lt}
-use lib.Bits.{bitXor, xor-block, xor-shr, xor-lt, xor-zero-l, xor-zero-r}
+use lib.Bits.{xor-block, xor-shr, xor-lt, xor-zero-l, xor-zero-r}
 use lib.ListN.{length, drop, getD}
 use Rattle.wire.specs.Bytes.{Bytes}
 use Rattle.crc.specs.Crc.{feedBits, feedBytes, crc}
-use Rattle.crc.specs.Inner.Windows.{wordAt, longAt, feedWords, Ahead}
-use Rattle.crc.proofs.Xor.{_⊕_}
+use Rattle.crc.specs.Inner.Windows.{longAt, feedWords, Ahead}
+use Rattle.moves.proofs.Xor.{_⊕_}
 use Rattle.crc.proofs.Linear.{linear, join, zeros-add, zeros-first, moved-up}
-use Rattle.crc.proofs.Basis.{passed}
+use Rattle.moves.proofs.Basis.{passed}
 use Rattle.crc.proofs.Steps.{absorb}
 use Rattle.crc.proofs.Ahead.{instead}
 use Rattle.crc.proofs.Bytes.{byte-front, long-front, long-at-lt}
@@ -90,7 +90,9 @@ module _ (s : List ℕ) (hs : Bytes s) (j : ℕ) (hj : j < 8) where
   a-lt : a < 2 ^ (8 * suc j)
   a-lt =
       let whole : 64 ≡ 8 * suc j + (56 - 8 * j) = omega arith in
-      shr-lt (8 * suc j) (56 - 8 * j) (subst (λ (n : ℕ). longAt s 0 ⊕ preset < 2 ^ n) whole (xor-lt 64 (longAt s 0) preset (long-at-lt s hs 0) (lit< tt)))
+      shr-lt (8 * suc j) (56 - 8 * j)
+      (subst (λ (n : ℕ). longAt s 0 ⊕ preset < 2 ^ n) whole
+      (xor-lt 64 (longAt s 0) preset (long-at-lt s hs 0) (lit< tt)))
 
   two-words : feedBits 64 next (feedBits (8 * suc j) here ones) ≡ feedWords (a ∷ b ∷ []) 0
   unfolding feedWords

@@ -1,15 +1,15 @@
 -- The register is linear: what goes in may be split by xor, bits and register alike. All that the code and the theorems rest on.
 use mathlib.Core.Path.{_≡_, refl, sym, ap, ap₂, _∙_}
 use Prim.Native.Nat.{ℕ, zero, suc, _+_, _*_, _/_, _%_, _^_, _<_}
-use native.Mathlib.Nat.{zero-add, add-zero, add-suc, suc-add, add-comm, mod-lt, zero-div, div-eq-of-lt}
+use native.Mathlib.Nat.{zero-add, add-zero, add-suc, suc-add, add-comm, mod-lt, zero-div, div-eq-of-lt, mod-eq-of-lt}
 use native.Mathlib.Numerals.{add-one}
 use native.Mathlib.Omega.{arith}
 use lib.Dec.{eqb, lit<}
 use lib.Pow.{pow-pos, high, low, shl-lt, shr-shr, field, mod-mod-pow}
-use lib.Bits.{bitXor, xor-shr, xor-mod, xor-lt, xor-comm}
+use lib.Bits.{bitXor, xor-shr, xor-mod, xor-lt, xor-comm, xor-self, xor-zero-r}
 use Rattle.wire.specs.If.{if_then_else_}
 use Rattle.crc.specs.Crc.{poly, feed, feedBits}
-use Rattle.crc.proofs.Xor.{_⊕_, xor4, xor-shl}
+use Rattle.moves.proofs.Xor.{_⊕_, xor4, xor-shl, xor-zero-eq}
 
 no-digit : (x : ℕ) → suc (suc x) < 2 → ⊥
 no-digit x h = omega arith
@@ -76,7 +76,8 @@ linear (suc n) b c r s hr hs =
     ap (feedBits n (b ⊕ c))
     (ap (feed (r ⊕ s)) (ap (λ (v : ℕ). v % 2) (xor-shr b c n) ∙ xor-mod (b / 2 ^ n) (c / 2 ^ n) 1)
     ∙ feed-linear r s (b / 2 ^ n % 2) (c / 2 ^ n % 2) hr hs (bit-lt b n) (bit-lt c n))
-    ∙ linear n b c (feed r (b / 2 ^ n % 2)) (feed s (c / 2 ^ n % 2)) (feed-lt r (b / 2 ^ n % 2) hr (bit-lt b n)) (feed-lt s (c / 2 ^ n % 2) hs (bit-lt c n))
+    ∙ linear n b c (feed r (b / 2 ^ n % 2)) (feed s (c / 2 ^ n % 2)) (feed-lt r (b / 2 ^ n % 2) hr (bit-lt b n))
+    (feed-lt s (c / 2 ^ n % 2) hs (bit-lt c n))
 
 -- the high bits of y go in before its n low ones
 pub cat : (m n y r : ℕ) → feedBits (m + n) y r ≡ feedBits n y (feedBits m (y / 2 ^ n) r)
@@ -85,7 +86,8 @@ cat zero n y r = ap (λ (k : ℕ). feedBits k y r) (zero-add n)
 cat (suc m) n y r =
     ap (λ (k : ℕ). feedBits k y r) (suc-add m n)
     ∙ cat m n y (feed r (y / 2 ^ (m + n) % 2))
-    ∙ ap (λ (v : ℕ). feedBits n y (feedBits m (y / 2 ^ n) (feed r (v % 2)))) (ap (λ (k : ℕ). y / 2 ^ k) (add-comm m n) ∙ sym (shr-shr y n m))
+    ∙ ap (λ (v : ℕ). feedBits n y (feedBits m (y / 2 ^ n) (feed r (v % 2))))
+    (ap (λ (k : ℕ). y / 2 ^ k) (add-comm m n) ∙ sym (shr-shr y n m))
 
 -- only the low bits of the number go in
 lows : (n j y r : ℕ) → feedBits n (y % 2 ^ (j + n)) r ≡ feedBits n y r
@@ -94,7 +96,8 @@ lows zero j y r = refl
 lows (suc n) j y r =
     ap (λ (k : ℕ). feedBits n (y % 2 ^ k) (feed r (y % 2 ^ k / 2 ^ n % 2))) (add-suc j n ∙ sym (suc-add j n))
     ∙ ap (λ (v : ℕ). feedBits n (y % 2 ^ (suc j + n)) (feed r (v % 2))) (field y (suc j) n)
-    ∙ ap (λ (v : ℕ). feedBits n (y % 2 ^ (suc j + n)) (feed r v)) (ap (λ (k : ℕ). y / 2 ^ n % 2 ^ k % 2) (sym (add-one j)) ∙ mod-mod-pow (y / 2 ^ n) j 1)
+    ∙ ap (λ (v : ℕ). feedBits n (y % 2 ^ (suc j + n)) (feed r v))
+    (ap (λ (k : ℕ). y / 2 ^ n % 2 ^ k % 2) (sym (add-one j)) ∙ mod-mod-pow (y / 2 ^ n) j 1)
     ∙ lows n (suc j) y (feed r (y / 2 ^ n % 2))
 
 pub join : (m n a b r : ℕ) → b < 2 ^ n → feedBits n b (feedBits m a r) ≡ feedBits (m + n) (a * 2 ^ n + b) r
@@ -133,3 +136,31 @@ moved-up j n i b h =
     zeros-first j (n + i) (b * 2 ^ i) (shl-lt n i h)
     ∙ ap (λ (v : ℕ). feedBits (n + i) v 0) (sym (add-zero (b * 2 ^ i)))
     ∙ sym (join n i b 0 0 (pow-pos i))
+
+odd : (t r : ℕ) → r < 2 ^ 32 → t ≡ r / 2 ^ 31 → t * poly ≡ r * 2 % 2 ^ 32 → r ≡ 0
+odd zero r h top e =
+    let half : r * 2 < 2 ^ 32 = omega arith in
+    omega (arith, mod-eq-of-lt half)
+odd (suc zero) r h top e = omega arith
+odd (suc (suc t)) r h top e = omega (arith, h)
+
+-- no register but zero becomes zero by a zero bit, since the polynomial is odd
+feed-zero : (r : ℕ) → r < 2 ^ 32 → feed r 0 ≡ 0 → r ≡ 0
+feed-zero r h e =
+    odd (r / 2 ^ 31) r h refl
+    (ap (λ (t : ℕ). t * poly) (sym (xor-zero-r (r / 2 ^ 31)))
+    ∙ xor-zero-eq ((r / 2 ^ 31 ⊕ 0) * poly) (r * 2 % 2 ^ 32) (sym (feed-sum r 0 h (lit< tt)) ∙ e))
+
+pub bits-zero : (n r : ℕ) → r < 2 ^ 32 → feedBits n 0 r ≡ 0 → r ≡ 0
+unfolding feedBits
+bits-zero zero r h e = e
+bits-zero (suc n) r h e =
+    let none : 0 / 2 ^ n % 2 ≡ 0 = ap (λ (v : ℕ). v % 2) (zero-div (2 ^ n)) in
+    feed-zero r h (bits-zero n (feed r 0) (feed-lt r 0 h (lit< tt)) (ap (λ (x : ℕ). feedBits n 0 (feed r x)) (sym none) ∙ e))
+
+-- nor do two registers become one by zeros
+pub zeros-same : (n a b : ℕ) → a < 2 ^ 32 → b < 2 ^ 32 → feedBits n 0 a ≡ feedBits n 0 b → a ≡ b
+zeros-same n a b ha hb e =
+    xor-zero-eq a b
+    (bits-zero n (a ⊕ b) (xor-lt 32 a b ha hb)
+    (zeros-sum n a b ha hb ∙ ap (λ (v : ℕ). v ⊕ feedBits n 0 b) e ∙ xor-self (feedBits n 0 b)))

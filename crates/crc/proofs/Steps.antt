@@ -1,20 +1,24 @@
--- A word and a byte go in by moves and sums alone: each claim is one of functions that take sums to sums, so that a test at the powers of two proves it.
+-- A word and a byte go in by moves and sums alone: each claim is one of functions that take sums to sums, so that a
+-- test at the powers of two proves it.
 use mathlib.Core.Path.{_≡_, refl, sym, ap, ap₂, _∙_}
 use Prim.Native.Nat.{ℕ, _*_, _/_, _%_, _^_, _<_}
 use native.Mathlib.Omega.{arith}
 use lib.Dec.{lit<}
 use lib.Bits.{bitXor, xor-lt, xor-zero-l, xor-zero-r}
 use Rattle.crc.specs.Crc.{feed, feedBits}
-use Rattle.crc.specs.Inner.Moves.{rights, lefts, timesPoly, quotientOf}
-use Rattle.crc.proofs.Xor.{_⊕_, xor-assoc, xor-twice}
+use Rattle.moves.specs.Moves.{rights, lefts, timesPoly, quotientOf}
+use Rattle.moves.proofs.Xor.{_⊕_, xor-assoc, xor-twice}
 use Rattle.crc.proofs.Linear.{linear}
-use Rattle.crc.proofs.Basis.{Additive, agree}
-use Rattle.crc.proofs.Shifts.{itself, down-of, up-of, sum-of, times-of, quotient-of, fed-of}
+use Rattle.moves.proofs.Basis.{Additive, agree}
+use Rattle.moves.proofs.Shifts.{itself, down-of, up-of, sum-of, times-of, quotient-of}
+use Rattle.crc.proofs.Fed.{fed-of}
 
 -- a register fed with its own bits is zero
 pub own : (v : ℕ) → v < 2 ^ 32 → feedBits 32 v v ≡ 0
 unfolding feedBits feed
-own = agree 32 {f = λ v. feedBits 32 v v} {g = λ v. 0} (record { sums = λ a b ha hb. linear 32 a b a b ha hb }) (record { sums = λ a b ha hb. refl }) tt
+own =
+    agree 32 {f = λ v. feedBits 32 v v} {g = λ v. 0} (record { sums = λ a b ha hb. linear 32 a b a b ha hb })
+    (record { sums = λ a b ha hb. refl }) tt
 
 -- a word goes into a register as their sum goes into zero
 pub absorb : (w r : ℕ) → r < 2 ^ 32 → feedBits 32 w r ≡ feedBits 32 (w ⊕ r) 0

@@ -10,7 +10,7 @@ ghost use Prim.Native.Nat.{_+_, _-_, _*_, _/_, _%_, _^_, _≤_, _<_};
 ghost use lib.Bits.{bitXor};
 ghost use lib.ListN.{length};
 ghost use Rattle.crc.specs.Crc.{crc};
-ghost use Rattle.crc.specs.Inner.Moves.{added};
+ghost use Rattle.moves.specs.Moves.{added};
 ghost use Rattle.crc.specs.Inner.Windows.{feedWords, Window, FiveAt, Fronts};
 
 // The window, and the place in a sequence behind it.

@@ -5,7 +5,7 @@ ghost use mathlib.Core.Path.{_≡_};
 ghost use Prim.Native.Nat.{_≤_};
 ghost use lib.ListN.{length, drop};
 ghost use Rattle.crc.specs.Crc.{feedBits, feedBytes};
-ghost use Rattle.crc.specs.Inner.Moves.{timesPoly, quotientOf};
+ghost use Rattle.moves.specs.Moves.{timesPoly, quotientOf};
 
 // The low half of q times P. The exponents of P, x ^ 32 left out, are 0, 4, 6, 10 moved up by 0, 1 and 2; 22 and 26;
 // 16; and 23.

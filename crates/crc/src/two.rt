@@ -8,7 +8,7 @@ ghost use mathlib.Core.List.{[], _∷_};
 ghost use Prim.Native.Nat.{_^_, _≤_, _<_};
 ghost use lib.ListN.{length};
 ghost use Rattle.crc.specs.Crc.{crc};
-ghost use Rattle.crc.specs.Inner.Moves.{over, under, times64, times96, times128};
+ghost use Rattle.moves.specs.Moves.{over, under, times64, times96, times128};
 ghost use Rattle.crc.specs.Inner.Windows.{feedWords};
 
 // What the word a adds to the word after it.

@@ -1,4 +1,5 @@
--- A delivery system is read exactly if the bytes are its tag, its length and a body whose fields, in the order of the table, have its values.
+-- A delivery system is read exactly if the bytes are its tag, its length and a body whose fields, in the order of the
+-- table, have its values.
 use Prim.Native.Nat.{ℕ, _*_}
 use mathlib.Core.Path.{_≡_, refl, sym, ap, _∙_, subst}
 use mathlib.Core.Logic.{_↔_}
@@ -113,8 +114,8 @@ module _ (b : List ℕ) (bytes : Bytes b) (l : length b ≡ 11) (f : Cable) wher
       → cable.Digits f × (keptOf cable.layout (spans 0 cable.layout b) ≡ cable.shown f)
   unfolding cable.fields numberAt bitsAt
   cable-places e =
-      let t = through (digitsAt 8 b 0) _ f e in
-      let u = through (digitsAt 7 b 7) _ f (t .2) in
+      let t = through (digitsAt b 0 8) _ f e in
+      let u = through (digitsAt b 7 7) _ f (t .2) in
       let frequency = digits-shown b bytes 8 0 (t .0) (omega arith) (omega arith) (t .1) in
       let rate = digits-shown b bytes 7 7 (u .0) (omega arith) (omega arith) (u .1) in
       subst (λ g. cable.Digits g × (keptOf cable.layout (spans 0 cable.layout b) ≡ cable.shown g)) (value-is (u .2))
@@ -124,9 +125,9 @@ module _ (b : List ℕ) (bytes : Bytes b) (l : length b ≡ 11) (f : Cable) wher
   unfolding cable.fields numberAt bitsAt
   cable-read d e =
       let of : ℕ → List ℕ → ℕ = λ i vs. getD vs i 0 in
-      let outer : bitsAt 3 0 b 5 ≡ f .«fec_outer» = ap (of 1) e in
+      let outer : bitsAt b 5 3 0 ≡ f .«fec_outer» = ap (of 1) e in
       let modulation : getD b 6 0 ≡ f .modulation = sym (whole-span b bytes 1 6) ∙ ap (of 2) e in
-      let inner : bitsAt 3 0 b 10 ≡ f .«fec_inner» = ap (of 4) e in
+      let inner : bitsAt b 10 3 0 ≡ f .«fec_inner» = ap (of 4) e in
       rw (
         digits-read b bytes 8 0 (f .frequency .0) (omega arith) (omega arith) (ap (of 0) e) (d .0),
         digits-read b bytes 7 7 (f .«symbol_rate») (omega arith) (omega arith) (ap (of 3) e) (d .1),
@@ -163,19 +164,19 @@ module _ (b : List ℕ) (bytes : Bytes b) (l : length b ≡ 11) (f : Satellite) 
   satellite-places : satellite.fields b ≡ value f → satellite.Digits f × Placed f
   unfolding satellite.fields satellite.system numberAt bitsAt
   satellite-places e =
-      let t = through (digitsAt 8 b 0) _ f e in
-      let u = through (digitsAt 4 b 4) _ f (t .2) in
-      let v = through (digitsAt 7 b 7) _ f (u .2) in
+      let t = through (digitsAt b 0 8) _ f e in
+      let u = through (digitsAt b 4 4) _ f (t .2) in
+      let v = through (digitsAt b 7 7) _ f (u .2) in
       let frequency = digits-shown b bytes 8 0 (t .0) (omega arith) (omega arith) (t .1) in
       let position = digits-shown b bytes 4 4 (u .0) (omega arith) (omega arith) (u .1) in
       let rate = digits-shown b bytes 7 7 (v .0) (omega arith) (omega arith) (v .1) in
       let placed : Placed (satellite.made b (t .0) (u .0) (v .0)) =
-      if-case (By (t .0) (u .0) (v .0)) (eqb (bitsAt 2 2 b 6) 0)
+      if-case (By (t .0) (u .0) (v .0)) (eqb (bitsAt b 6 2 2) 0)
       (λ h. frequency .0 also position .0 also flag _ also refl also eqb-true _ _ h also refl also rate .0 also refl
       also refl)
       (λ h.
-      let n = eqb-false (bitsAt 2 2 b 6) 0 h in
-      let one : bitsAt 2 2 b 6 ≡ 1 = omega (arith, n) in
+      let n = eqb-false (bitsAt b 6 2 2) 0 h in
+      let one : bitsAt b 6 2 2 ≡ 1 = omega (arith, n) in
       frequency .0 also position .0 also flag _ also refl also refl also one also refl also rate .0 also refl also
       refl) in
       subst (λ g. satellite.Digits g × Placed g) (value-is (v .2)) ((frequency .1, position .1, rate .1), placed)
@@ -183,14 +184,14 @@ module _ (b : List ℕ) (bytes : Bytes b) (l : length b ≡ 11) (f : Satellite) 
       By : ℕ → ℕ → ℕ → System → Type 0
       By x y z w =
           keptOf (satellite.layoutUnder w) (spans 0 (satellite.layoutUnder w) b)
-          ≡ bcdShow 8 x ∷ bcdShow 4 y ∷ bit (eqb (bitsAt 7 7 b 6) 1) ∷ bitsAt 6 5 b 6
-          ∷ satellite.systemShown w (bitsAt 1 0 b 6 ∷ bcdShow 7 z ∷ bitsAt 3 0 b 10 ∷ [])
+          ≡ bcdShow 8 x ∷ bcdShow 4 y ∷ bit (eqb (bitsAt b 6 7 7) 1) ∷ bitsAt b 6 6 5
+          ∷ satellite.systemShown w (bitsAt b 6 1 0 ∷ bcdShow 7 z ∷ bitsAt b 10 3 0 ∷ [])
 
   -- the fields that have those values
   Fielded : System → ℕ → ℕ → ℕ → ℕ → ℕ → ℕ → ℕ → Type 0
   Fielded w frequency position east polarization type rate inner =
-      (span 0 32 b ≡ frequency) × (span 32 16 b ≡ position) × (bitsAt 7 7 b 6 ≡ east) × (bitsAt 6 5 b 6 ≡ polarization)
-      × (satellite.system b ≡ w) × (bitsAt 1 0 b 6 ≡ type) × (span 56 28 b ≡ rate) × (bitsAt 3 0 b 10 ≡ inner)
+      (span 0 32 b ≡ frequency) × (span 32 16 b ≡ position) × (bitsAt b 6 7 7 ≡ east) × (bitsAt b 6 6 5 ≡ polarization)
+      × (satellite.system b ≡ w) × (bitsAt b 6 1 0 ≡ type) × (span 56 28 b ≡ rate) × (bitsAt b 10 3 0 ≡ inner)
 
   fielded : (w : System) (x y p q m z c : ℕ)
       → keptOf (satellite.layoutUnder w) (spans 0 (satellite.layoutUnder w) b)
@@ -199,11 +200,11 @@ module _ (b : List ℕ) (bytes : Bytes b) (l : length b ≡ 11) (f : Satellite) 
   unfolding Fielded satellite.system numberAt bitsAt
   fielded S x y p q m z c e =
       let of : ℕ → List ℕ → ℕ = λ i vs. getD vs i 0 in
-      let system : bitsAt 2 2 b 6 ≡ 0 = ap (of 4) e in
+      let system : bitsAt b 6 2 2 ≡ 0 = ap (of 4) e in
       (ap (of 0) e, ap (of 1) e, ap (of 2) e, ap (of 3) e, rw system, ap (of 5) e, ap (of 6) e, ap (of 7) e)
   fielded (S2 r) x y p q m z c e =
       let of : ℕ → List ℕ → ℕ = λ i vs. getD vs i 0 in
-      let system : bitsAt 2 2 b 6 ≡ 1 = ap (of 5) e in (
+      let system : bitsAt b 6 2 2 ≡ 1 = ap (of 5) e in (
         ap (of 0) e,
         ap (of 1) e,
         ap (of 2) e,

@@ -2,7 +2,7 @@
 use mathlib.Core.Path.{_≡_, refl}
 use mathlib.Core.Bool.{true}
 use mathlib.Core.List.{[], _∷_}
-use Rattle.wire.specs.Reading.{value, _>>=_}
+use Rattle.wire.specs.Reading.{value}
 use Rattle.wire.specs.Number.{numberAt, bitsAt}
 use Rattle.wire.specs.Digits.{bcdAfter, bcdOf}
 use Rattle.layout.specs.Body.{framed, fixed}

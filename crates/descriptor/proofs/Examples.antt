@@ -1,5 +1,5 @@
--- A descriptor of each layout that `delivery/Printed` has none of, put together by hand from clause 6.2 of EN 300 468, each of its fields told from
--- its neighbours: the checker reads it.
+-- A descriptor of each layout that `delivery/Printed` has none of, put together by hand from clause 6.2 of EN 300 468,
+-- each of its fields told from its neighbours: the checker reads it.
 use mathlib.Core.Path.{_≡_, refl}
 use mathlib.Core.Bool.{true, false}
 use mathlib.Core.List.{[], _∷_}
@@ -51,7 +51,8 @@ pub offset-example : offsets.localTimeOffset
       «time_of_change» = At (record { mjd = 0xC079; clock = record { hour = 12; minute = 45; second = 0 } });
       «next_time_offset» = negℤ (pos 135);
     })
-unfolding offsets.localTimeOffset offsets.fields offsets.offsetAt offsets.timeAt item place items framed numberAt bitsAt timeOf offsetOf hms field bcdOf bcdAfter
+unfolding offsets.localTimeOffset offsets.fields offsets.offsetAt offsets.timeAt item place items framed numberAt bitsAt
+    timeOf offsetOf hms field bcdOf bcdAfter
 offset-example = refl
 
 -- two services: 0x1020 of type 0x01 and 0x1038 of type 0x02
@@ -66,7 +67,8 @@ unfolding content item place items framed bitsAt
 content-example = refl
 
 -- GBR, at least 7 years
-pub rating-example : parentalRating (0x55 ∷ 0x04 ∷ 0x47 ∷ 0x42 ∷ 0x52 ∷ 0x04 ∷ []) 0 ≡ value (record { «country_code» = 0x474252; rating = 4 })
+pub rating-example : parentalRating (0x55 ∷ 0x04 ∷ 0x47 ∷ 0x42 ∷ 0x52 ∷ 0x04 ∷ []) 0
+    ≡ value (record { «country_code» = 0x474252; rating = 4 })
 unfolding parentalRating item place items framed numberAt
 rating-example = refl
 
@@ -82,6 +84,10 @@ service-example = refl
 
 -- "fre", "A" and no text
 pub short-event-example : short-event.shortEvent (0x4D ∷ 0x06 ∷ 0x66 ∷ 0x72 ∷ 0x65 ∷ 0x01 ∷ 0x41 ∷ 0x00 ∷ [])
-    ≡ value (record { «language_code» = 0x667265; «event_name» = record { start = 6; length = 1 }; text = record { start = 8; length = 0 } })
+    ≡ value (record {
+      «language_code» = 0x667265;
+      «event_name» = record { start = 6; length = 1 };
+      text = record { start = 8; length = 0 };
+    })
 unfolding short-event.shortEvent short-event.fields framed twoTexts numberAt
 short-event-example = refl

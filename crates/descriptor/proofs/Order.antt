@@ -71,7 +71,7 @@ fixed-order n tag f = record {
 
 -- ---- two texts
 
-not-read : (h : ℕ) (b : List ℕ) → ((t : TwoTexts) → twoTexts h b ≡ value t → ⊥) → twoTexts h b ≡ refused (plain 62)
+not-read : (h : ℕ) (b : List ℕ) → ((t : TwoTexts) → twoTexts b h ≡ value t → ⊥) → twoTexts b h ≡ refused (plain 62)
 unfolding twoTexts
 not-read h b =
     let a : ℕ = getD b h 0 in
@@ -80,11 +80,11 @@ not-read h b =
     (λ _ g. absurd (g _ refl)) (λ _ g. refl)
 
 texts-order : {A : Type 0} (h tag : ℕ) (f : TwoTexts → List ℕ → Answered A)
-    → InOrder tag (Texts h tag) (λ s. framed tag s >>= λ b. twoTexts h b >>= λ t. f t b)
+    → InOrder tag (Texts h tag) (λ s. framed tag s >>= λ b. twoTexts b h >>= λ t. f t b)
 texts-order h tag f = record {
   tag-first = no-tag tag _;
   then-body = λ s u g. no-fit tag _ s u (λ b e.
-      refused-on (twoTexts h b) (λ t. f t b) (not-read h b (λ t q. g (b, e, (t, texts-exactly h b t .0 q)))));
+      refused-on (twoTexts b h) (λ t. f t b) (not-read h b (λ t q. g (b, e, (t, texts-exactly h b t .0 q)))));
 }
 
 -- ---- items

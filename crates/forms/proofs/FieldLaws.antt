@@ -1,20 +1,18 @@
 -- Laws of fields: what is packed is unpacked, and what is unpacked is packed.
 use Prim.{tt}
-use Prim.Native.Nat.{ℕ, zero, suc, _+_, _-_, _*_, _/_, _%_, _^_, _<_, _≤_}
+use Prim.Native.Nat.{ℕ, suc, _+_, _-_, _*_, _/_, _%_, _^_, _<_, _≤_}
 use mathlib.Core.Path.{_≡_, refl, sym, ap, ap₂, _∙_, subst}
 use mathlib.Core.List.{List, [], _∷_, _++_}
 use native.Mathlib.Omega.{arith}
 use native.Mathlib.Nat.{mul-le-mul-right, suc-mul, mul-add-div-right, mul-add-mod-self-right, div-eq-of-lt, mod-eq-of-lt, mod-lt, div-add-mod', mul-pos, div-lt-iff-lt-mul}
 use borrow.Author.Tests.{ltb-true, lt-ltb}
 use lib.Pow.{pow-pos}
-use lib.ListN.{length, getD}
+use lib.ListN.{getD}
 use lib.Dec.{ltb}
-use Rattle.wire.specs.If.{if_then_else_}
-use Rattle.wire.specs.Bytes.{Bytes}
-use Rattle.wire.specs.Reading.{Reading, value, refused, _>>=_}
+use Rattle.wire.specs.Reading.{value}
 use Rattle.wire.proofs.ReadingLaws.{value-is, never, through}
 use Rattle.wire.proofs.IfLaws.{if-case}
-use Rattle.forms.specs.Form.{Front, Form, rawRead, EachOk}
+use Rattle.forms.specs.Form.{Front, rawRead, EachOk}
 use Rattle.forms.specs.Fields.{Field, kept, reserved, width, belowRead, below, sheetField, sheetFields, room, pack, unpack, Fit, byteRead, byteOf}
 use Rattle.forms.specs.Laws.{Lawful, Sound, Complete}
 use Rattle.forms.proofs.Lawful.{read-on, mute-lawful, raw-read, raw-shown, one-of, each-lawful, each-ok}
@@ -88,14 +86,17 @@ unpack-pack [] (v ∷ vs) o = absurd o
 unpack-pack (f ∷ fs) [] o = absurd o
 unpack-pack (f ∷ fs) (v ∷ vs) o =
     let h = pack-lt fs vs (o .1) in
-    let p : (v * room fs + pack fs vs) / room fs ≡ v = mul-add-div-right (room-pos fs) v (pack fs vs) ∙ ap (λ n. v + n) (div-eq-of-lt h) ∙ omega arith in
+    let p : (v * room fs + pack fs vs) / room fs ≡ v =
+    mul-add-div-right (room-pos fs) v (pack fs vs) ∙ ap (λ n. v + n) (div-eq-of-lt h) ∙ omega arith in
     let q : (v * room fs + pack fs vs) % room fs ≡ pack fs vs = mul-add-mod-self-right v (room fs) (pack fs vs) ∙ mod-eq-of-lt h in
     ap₂ (λ x y. x ∷ y) p (ap (unpack fs) q ∙ unpack-pack fs vs (o .1))
 
 pub pack-unpack : (fs : List Field) (x : ℕ) → x < room fs → pack fs (unpack fs x) ≡ x
 unfolding room pack unpack
 pack-unpack [] x h = omega arith
-pack-unpack (f ∷ fs) x h = ap (λ n. x / room fs * room fs + n) (pack-unpack fs (x % room fs) (mod-lt x (room-pos fs))) ∙ div-add-mod' x (room fs)
+pack-unpack (f ∷ fs) x h =
+    ap (λ n. x / room fs * room fs + n) (pack-unpack fs (x % room fs) (mod-lt x (room-pos fs)))
+    ∙ div-add-mod' x (room fs)
 
 pub unpack-fits : (fs : List Field) (x : ℕ) → x < room fs → Fit fs (unpack fs x)
 unfolding room unpack EachOk

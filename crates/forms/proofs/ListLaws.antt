@@ -1,16 +1,16 @@
 -- Laws of lists of values: counted in a sheet, sized in a section.
-use Prim.Native.Nat.{ℕ, zero, suc, _+_, _-_, _*_, _/_, _%_, _<_, _≤_}
+use Prim.Native.Nat.{ℕ, zero, suc, _+_, _*_, _/_, _%_, _<_, _≤_}
 use mathlib.Core.Path.{_≡_, refl, sym, ap, ap₂, _∙_, subst}
 use mathlib.Core.List.{List, [], _∷_, _++_, append-assoc}
 use native.Mathlib.Omega.{arith}
 use lib.ListN.{length, getD, length-append}
 use Rattle.wire.specs.Bytes.{Bytes, len12At}
 use Rattle.wire.specs.Number.{number}
-use Rattle.wire.specs.Reading.{Reading, value, refused, _>>=_}
-use Rattle.wire.proofs.ReadingLaws.{value-is, never, through}
-use Rattle.forms.specs.Form.{Front, Form, rawRead}
-use Rattle.forms.specs.Fields.{Field, room, pack, unpack, Fit}
-use Rattle.forms.specs.Lists.{timesRead, all, All, none, one, times, countedRead, countedShow, counted, untilRead, fillingRead, filling, loopRead, loopShow, loop}
+use Rattle.wire.specs.Reading.{value, _>>=_}
+use Rattle.wire.proofs.ReadingLaws.{value-is, through}
+use Rattle.forms.specs.Form.{Form, rawRead}
+use Rattle.forms.specs.Fields.{Field, room, pack, unpack}
+use Rattle.forms.specs.Lists.{timesRead, all, All, none, one, countedRead, countedShow, counted, untilRead, fillingRead, filling, loopRead, loopShow, loop}
 use Rattle.forms.specs.Laws.{Lawful, Sound, Complete}
 use Rattle.forms.proofs.Lawful.{read-on, raw-read, raw-shown, two-of, bytes-behind}
 use Rattle.forms.proofs.FieldLaws.{pack-lt, unpack-pack}
@@ -92,7 +92,8 @@ module _ {A : Type 0} (c : Form A) where
   abbrev pub Full : Type 0
   Full = (a : A) → c .Ok a → 0 < length (c .show a)
 
-  until-by : (k : ℕ) (s : List ℕ) → 0 < length s → untilRead c (suc k) s ≡ (c .read s >>= λ a. untilRead c k (a .1) >>= λ l. value (a .0 ∷ l))
+  until-by : (k : ℕ) (s : List ℕ) → 0 < length s
+      → untilRead c (suc k) s ≡ (c .read s >>= λ a. untilRead c k (a .1) >>= λ l. value (a .0 ∷ l))
   unfolding untilRead
   until-by k [] h = absurd (omega arith)
   until-by k (b ∷ s) h = refl

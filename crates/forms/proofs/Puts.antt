@@ -1,6 +1,6 @@
 -- Laws of bytes put into a room, and of sums of places.
 use Prim.Native.Nat.{ℕ, suc, _+_, _-_, _≤_, _<_, _^_}
-use mathlib.Core.Path.{_≡_, refl, sym, ap, ap₂, _∙_}
+use mathlib.Core.Path.{_≡_, sym, ap, ap₂, _∙_}
 use mathlib.Core.List.{List, [], _∷_, _++_, append-assoc}
 use native.Mathlib.Omega.{arith}
 use borrow.Author.Tests.{le-leb, lt-leb}
@@ -36,10 +36,13 @@ put-one o to b h =
     set-split o to b h ∙ ap (λ k. take to o ++ (b ∷ drop k o)) i ∙ sym (put-fits o to (b ∷ []) (omega arith))
 
 pub put-none : (o : List ℕ) (to : ℕ) → to ≤ length o → put o to [] ≡ o
-put-none o to h = let i : to + 0 ≡ to = omega arith in put-fits o to [] (omega arith) ∙ ap (λ k. take to o ++ drop k o) i ∙ take-append-drop to o
+put-none o to h =
+    let i : to + 0 ≡ to =
+    omega arith in put-fits o to [] (omega arith) ∙ ap (λ k. take to o ++ drop k o) i ∙ take-append-drop to o
 
 -- a copy that is made
-pub copied-put : (s : List ℕ) (at n : ℕ) (o : List ℕ) (to : ℕ) → at + n ≤ length s → to + n ≤ length o → copied s at n o to ≡ put o to (take n (drop at s))
+pub copied-put : (s : List ℕ) (at n : ℕ) (o : List ℕ) (to : ℕ) → at + n ≤ length s → to + n ≤ length o
+    → copied s at n o to ≡ put o to (take n (drop at s))
 copied-put s at n o to h g =
     let e : length (take n (drop at s)) ≡ n = length-take-le n (drop at s) (omega (arith, length-drop at s)) in
     copied-yes s at n o to h g

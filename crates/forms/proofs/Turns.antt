@@ -1,5 +1,5 @@
 -- Laws of turning one form into another: what is turned piece by piece is turned as a whole.
-use Prim.Native.Nat.{ℕ, zero, suc, _+_, _≤_, _<_}
+use Prim.Native.Nat.{ℕ, suc, _+_, _≤_}
 use mathlib.Core.Path.{_≡_, refl, sym, ap, ap₂, _∙_, subst}
 use mathlib.Core.List.{List, [], _∷_, _++_}
 use mathlib.Core.Bool.{Bool}
@@ -7,15 +7,16 @@ use native.Mathlib.Omega.{arith}
 use lib.ListN.{length, length-append}
 use Rattle.wire.specs.Parts.{Part}
 use Rattle.wire.proofs.PartLaws.{part-first, part-second}
-use Rattle.forms.specs.Form.{Form, mute, _then_, such, each, eachShow, EachOk}
-use Rattle.forms.specs.Lists.{all, All, none, one, times}
+use Rattle.forms.specs.Form.{Form, _then_, such, each, eachShow, EachOk}
+use Rattle.forms.specs.Lists.{all, All, one, times}
 use Rattle.forms.specs.Room.{put}
 use Rattle.forms.specs.Inner.Turning.{Done, Turned}
 use Rattle.forms.proofs.Puts.{put-none, put-put, length-put}
 use Rattle.forms.specs.declared.Place.{Place}
 
 -- two pieces, joined: x and y are read, u and v written
-pub done-both : {p q r : Place} {o o' o'' : List ℕ} (x y u v : List ℕ) → p .to + length (u ++ v) ≤ length o → Done p x u o q o' → Done q y v o' r o''
+pub done-both : {p q r : Place} {o o' o'' : List ℕ} (x y u v : List ℕ) → p .to + length (u ++ v) ≤ length o
+    → Done p x u o q o' → Done q y v o' r o''
     → Done p (x ++ y) (u ++ v) o r o''
 done-both {p = p} {o = o} x y u v f g h =
     let lx = length-append x y in
@@ -35,7 +36,8 @@ pub turned-never : {A : Type 0} {c d : Form A} {s : List ℕ} {p q : Place} {o o
 turned-never h = record { turned = λ a k w f. absurd (h a k w f) }
 
 -- nothing stands there, and nothing is written
-pub turned-nothing : {A : Type 0} (c d : Form A) (s : List ℕ) (p : Place) (o : List ℕ) → ((a : A) → c .Ok a → (c .show a ≡ []) × (d .show a ≡ []))
+pub turned-nothing : {A : Type 0} (c d : Form A) (s : List ℕ) (p : Place) (o : List ℕ)
+    → ((a : A) → c .Ok a → (c .show a ≡ []) × (d .show a ≡ []))
     → Turned c d s p o p o
 turned-nothing c d s p o h = record {
   turned = λ a k w f.
@@ -50,7 +52,8 @@ module _ {A B : Type 0} {c d : Form A} {c' d' : Form B} {s : List ℕ} {p q r : 
   pub turned-then : Turned c d s p o q o' → Turned c' d' s q o' r o'' → Turned (c then c') (d then d') s p o r o''
   turned-then g h = record { turned = λ a k w f. go (a .0) (a .1) (k .0) (k .1) w f }
     where
-      go : (a : A) (b : B) → c .Ok a → c' .Ok b → Part s (p .at) (c .show a ++ c' .show b) → p .to + length (d .show a ++ d' .show b) ≤ length o
+      go : (a : A) (b : B) → c .Ok a → c' .Ok b → Part s (p .at) (c .show a ++ c' .show b)
+          → p .to + length (d .show a ++ d' .show b) ≤ length o
           → Done p (c .show a ++ c' .show b) (d .show a ++ d' .show b) o r o''
       go a b k m w f =
           let x = c .show a in
@@ -66,7 +69,8 @@ module _ {A B : Type 0} {c d : Form A} {c' d' : Form B} {s : List ℕ} {p q r : 
 
 -- what is turned as one form is turned as another that shows the same
 module _ {A B : Type 0} {c d : Form A} {c' d' : Form B} {s : List ℕ} {p q : Place} {o o' : List ℕ} where
-  pub turned-as : ((b : B) → c' .Ok b → (a : A) × c .Ok a × (c' .show b ≡ c .show a) × (d' .show b ≡ d .show a)) → Turned c d s p o q o' → Turned c' d' s p o q o'
+  pub turned-as : ((b : B) → c' .Ok b → (a : A) × c .Ok a × (c' .show b ≡ c .show a) × (d' .show b ≡ d .show a))
+      → Turned c d s p o q o' → Turned c' d' s p o q o'
   turned-as h g = record {
     turned = λ b k w f.
         let x = h b k in
@@ -91,12 +95,15 @@ module _ {X A : Type 0} (f g : X → Form A) where
       nothing : (l : List A) → EachOk f [] l → (eachShow f [] l ≡ []) × (eachShow g [] l ≡ [])
       nothing l k = (refl, refl)
 
-  pub turned-one : {s : List ℕ} {p q r : Place} {o o' o'' : List ℕ} (x : X) (xs : List X) → Turned (f x) (g x) s p o q o' → Turned (each f xs) (each g xs) s q o' r o'' → Turned (each f (x ∷ xs)) (each g (x ∷ xs)) s p o r o''
+  pub turned-one : {s : List ℕ} {p q r : Place} {o o' o'' : List ℕ} (x : X) (xs : List X)
+      → Turned (f x) (g x) s p o q o' → Turned (each f xs) (each g xs) s q o' r o''
+      → Turned (each f (x ∷ xs)) (each g (x ∷ xs)) s p o r o''
   unfolding eachShow EachOk
   turned-one x xs h t = turned-as cut (turned-then h t)
     where
       cut : (l : List A) → EachOk f (x ∷ xs) l → (a : A × List A) × (f x .Ok (a .0) × EachOk f xs (a .1))
-          × (eachShow f (x ∷ xs) l ≡ f x .show (a .0) ++ eachShow f xs (a .1)) × (eachShow g (x ∷ xs) l ≡ g x .show (a .0) ++ eachShow g xs (a .1))
+          × (eachShow f (x ∷ xs) l ≡ f x .show (a .0) ++ eachShow f xs (a .1))
+          × (eachShow g (x ∷ xs) l ≡ g x .show (a .0) ++ eachShow g xs (a .1))
       cut [] k = absurd k
       cut (a ∷ l) k = ((a, l), k, refl, refl)
 
@@ -110,7 +117,8 @@ module _ {A : Type 0} (c d : Form A) where
       nothing [] k = (refl, refl)
       nothing (a ∷ l) k = let e = k .0 in absurd (omega arith)
 
-  pub turned-suc : {s : List ℕ} {p q r : Place} {o o' o'' : List ℕ} (k : ℕ) → Turned c d s p o q o' → Turned (times c k) (times d k) s q o' r o'' → Turned (times c (suc k)) (times d (suc k)) s p o r o''
+  pub turned-suc : {s : List ℕ} {p q r : Place} {o o' o'' : List ℕ} (k : ℕ) → Turned c d s p o q o'
+      → Turned (times c k) (times d k) s q o' r o'' → Turned (times c (suc k)) (times d (suc k)) s p o r o''
   unfolding all
   turned-suc k h t = turned-as cut (turned-then h t)
     where

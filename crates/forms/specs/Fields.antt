@@ -1,11 +1,10 @@
 -- Fields of some bits each, packed into a byte or half a byte as a section has them, and in a byte each as a sheet has them.
-use Prim.Native.Nat.{ℕ, zero, suc, _+_, _-_, _*_, _/_, _%_, _^_, _<_}
-use mathlib.Core.Path.{_≡_}
+use Prim.Native.Nat.{ℕ, _+_, _-_, _*_, _/_, _%_, _^_, _<_}
 use mathlib.Core.List.{List, [], _∷_}
 use lib.ListN.{getD}
 use lib.Dec.{ltb}
 use Rattle.wire.specs.If.{if_then_else_}
-use Rattle.wire.specs.Reading.{Reading, value, refused, _>>=_}
+use Rattle.wire.specs.Reading.{value, refused, _>>=_}
 use Rattle.forms.specs.Form.{Front, Form, mute, rawRead, each, EachOk}
 
 -- a field of so many bits; a reserved one is in no sheet
@@ -17,6 +16,11 @@ pub data Field : Type 0 where
 abbrev pub width : Field → ℕ
 width (kept w) = w
 width (reserved w) = w
+
+-- the bits of all fields
+abbrev pub bits : List Field → ℕ
+bits [] = 0
+bits (f ∷ fs) = width f + bits fs
 
 -- ---- in a sheet
 

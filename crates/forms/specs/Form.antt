@@ -1,5 +1,5 @@
 -- A form of a value in bytes: how it is read from the front of a list, and how it is shown; Ok says which values it can show.
-use Prim.{Unit, tt}
+use Prim.{Unit}
 use Prim.Native.Nat.{ℕ}
 use mathlib.Core.Path.{_≡_}
 use mathlib.Core.List.{List, [], _∷_, _++_}

@@ -4,4 +4,5 @@ pub mod Laws
 pub mod Fields
 pub mod Lists
 pub mod Room
+pub mod Outcome
 pub mod Inner

@@ -9,7 +9,7 @@ pub struct Place {
     pub to: usize,
 }
 
-// The place n bytes on; the greatest number where there is no such place.
+// Saturating addition: the place n bytes on, or the greatest number where there is no such place.
 pub fn past(at: usize, n: usize) -> usize
     ensures { λ r. ⌜ r ≡ sum at n ⌝ }
 {

@@ -11,26 +11,31 @@ use lib.Seq.{take-append-seam, drop-append-seam}
 use lib.Dec.{ltb}
 use borrow.Author.Tests.{ltb-false}
 use Rattle.wire.specs.If.{if_then_else_}
-use Rattle.collector.specs.Each.{Each}
-use Rattle.collector.specs.Rules.{Fate, in-hand, done, Story, sameFate, countOf, handOf, marked, holding, totalOf, Before, plain, Carried, takenIn}
-use Rattle.collector.specs.Refusals.{beforeOf, cannotStand, Judged, refuse, carries, judged, repeats, Ruling, repeated, takes, carriedIn, ruledBy, ruling}
-use Rattle.collector.specs.Refusals as Refusals
+use Rattle.wire.specs.Each.{Each}
+use Rattle.wire.specs.Sections.{totalOf, WholeSection}
+use Rattle.copy.specs.Laid.{over}
+use Rattle.packet.specs.Ruling.{Before, Carried, repeats, Ruling, repeated, takes, loadOf, ruledBy, ruling}
+use Rattle.collector.specs.Rules.{Fate, in-hand, done, Story, sameFate, countOf, handOf, marked, holding, plain, storyAfter, delivered, sectionsOf, delivers}
+use Rattle.packet.specs.Refusals.{Judged, refuse, has-payload, judged}
+use Rattle.collector.specs.Refusals.{beforeOf, cannotStand, tooSmall}
+use Rattle.packet.specs.Refusals as Refusals
+use Rattle.packet.specs.Ruling as Ruled
 use Rattle.collector.specs.Answer.{Outcome}
-use Rattle.collector.specs.Collected.{bytesCounted, freshRecord, recordAfter, over, takenTo, outcomeOf}
+use Rattle.collector.specs.Collected.{bytesCounted, freshRecord, recordAfter, outcomeAfter, outcomeOf, deliveredOf}
 use Rattle.collector.specs.declared.Record.{Record}
 use Rattle.collector.specs.declared.Last.the-variants.{None, Counter}
 use Rattle.collector.proofs.Counters.{counts-with}
-use Rattle.collector.proofs.Marks.{bytesOf-marked}
-use Rattle.collector.proofs.Runs.{total-prefix}
-use Rattle.collector.proofs.Beside.{Beside, beside-taken}
-use Rattle.collector.proofs.Keeps.{keep-taken}
-use Rattle.collector.proofs.Kept.{Any, WholeSection, AllWhole, keeps-whole}
-use Rattle.collector.proofs.Payloads.{any}
-use Rattle.collector.proofs.Table.{or-false, carries-of}
-use Rattle.history.specs.History.{Byte, valueOf, numbered, History, unbegun, numberedIn, after, historyFrom}
-use Rattle.history.specs.Run.{Promised, Call, Run, no-call, one-call, fareOf, ruledFare, lentOf, rulingOn, beforeAfter, carriedBy, faresFrom, takenFrom, cut, handedBy, handed, bytesBy, toldBy}
-use Rattle.history.specs.Demand3.{Counted}
-use Rattle.history.proofs.Stands.{Standing, standing-none, stands-taken, few-standing, stands-after}
+use Rattle.collector.proofs.MarkLaws.{bytesOf-marked}
+use Rattle.collector.proofs.ByteRuns.{total-prefix}
+use Rattle.collector.proofs.Simulation.{Beside, beside-taken}
+use Rattle.collector.proofs.Invariants.{keep-taken}
+use Rattle.collector.proofs.StoryLaws.{Any, AllWhole, keeps-whole, sections-more, sections-values, sections-each}
+use Rattle.collector.proofs.PayloadLaws.{any}
+use Rattle.packet.proofs.Table.{or-false, payload-of}
+use Rattle.history.specs.History.{Byte, valueOf, numbered, History, unbegun, numberedIn, historyAfter, historyFrom}
+use Rattle.history.specs.Run.{Promised, Call, Run, no-call, one-call, fareOf, ruledFare, lentOf, rulingOn, beforeAfter, ruledIn, faresFrom, ruledTaken, cut, handedBy, handed, bytesBy, toldBy}
+use Rattle.history.specs.Demand3.{Counted, deliveredIn}
+use Rattle.history.proofs.LeftInHand.{Standing, standing-none, stands-taken, few-standing, stands-after}
 
 -- ---- sections cut by their own headers
 
@@ -52,11 +57,11 @@ plain-whole (s ∷ secs) x = (subst WholeSection (map-id s) (x .0), plain-whole 
 
 -- the sections that a packet finishes are whole
 pub whole-taken : (before : Before) (h : List ℕ) (q : Carried ℕ)
-    → Each WholeSection (takenIn plain before (holding h) q .sections)
+    → Each WholeSection (storyAfter delivers plain before (holding h) q .sections)
 whole-taken before h q =
-    plain-whole (takenIn plain before (holding h) q .sections)
-    (keep-taken plain Any (AllWhole plain) (keeps-whole plain) (λ b l s r x. x) before h (holding h) q (any (q .bytes))
-    tt)
+    plain-whole (storyAfter delivers plain before (holding h) q .sections)
+    (keep-taken delivers plain Any (AllWhole delivers plain) (keeps-whole delivers plain) (λ b l s r x. x) before h (holding h) q
+    (any (q .bytes)) tt)
 
 -- ---- what a ruling tells of a packet that is taken with payload
 
@@ -65,9 +70,9 @@ or-none true = refl
 or-none false = refl
 
 abbrev Taking : ℕ → Ruling → Type 0
-Taking size (Refusals.refused n) = Unit {0}
+Taking size (Ruled.refused n) = Unit {0}
 Taking size repeated = Unit {0}
-Taking size Refusals.bare = Unit {0}
+Taking size Ruled.bare = Unit {0}
 Taking size (takes q) = (q .counter ≤ 15) × (4096 ≤ size)
 
 taking-if : (size : ℕ) (q : Carried ℕ) (t : Bool) → (q .counter ≤ 15) × (4096 ≤ size)
@@ -76,18 +81,18 @@ taking-if size q true x = tt
 taking-if size q false x = x
 
 taking-at : (unfit : Bool) (pid size out : ℕ) (before : Before) (p : List ℕ) (j : Judged)
-    → judged unfit pid size out p ≡ j → Taking size (ruledBy before p j)
+    → judged (tooSmall size out) unfit pid p ≡ j → Taking size (ruledBy before p j)
 taking-at unfit pid size out before p (refuse n) e = tt
 taking-at unfit pid size out before p Refusals.bare e = tt
-taking-at unfit pid size out before p (carries from start c) e =
-    let x = carries-of unfit pid size out p from start c e in
+taking-at unfit pid size out before p (has-payload from start c) e =
+    let x = payload-of (tooSmall size out) unfit pid p from start c e in
     let few : c ≤ 15 = omega (arith, x .count) in
-    taking-if size (carriedIn p from start c) (repeats before c)
+    taking-if size (loadOf p from start c) (repeats before c)
     (few, ltb-false _ _ (or-false (ltb size 4096) _ (x .passed .1 .0) .0))
 
 taking-of : (unfit : Bool) (pid size out : ℕ) (before : Before) (p : List ℕ)
-    → Taking size (ruling unfit pid before size out p)
-taking-of unfit pid size out before p = taking-at unfit pid size out before p (judged unfit pid size out p) refl
+    → Taking size (ruling (tooSmall size out) unfit pid before p)
+taking-of unfit pid size out before p = taking-at unfit pid size out before p (judged (tooSmall size out) unfit pid p) refl
 
 -- ---- the record agrees with a history
 
@@ -151,23 +156,23 @@ module _ {pid size : ℕ} {r : Record} {hold : List ℕ} {h : History} (g : Agre
   -- a packet that is taken with payload
   module _ (q : Carried ℕ) where
     abbrev s : Story ℕ
-    s = takenIn plain (h .before) (holding hand) q
+    s = storyAfter delivers plain (h .before) (holding hand) q
 
     -- the packet's own story stands beside the history that goes on
-    beside-after : Beside valueOf base secs s (after h q .story)
+    beside-after : Beside valueOf base secs s (historyAfter delivers h q .story)
     beside-after =
         subst
         (λ (bs : List ℕ). Beside valueOf base secs
-        (takenIn plain (h .before) (holding hand) (record { counter = q .counter; start = q .start; bytes = bs }))
-        (after h q .story))
+        (storyAfter delivers plain (h .before) (holding hand) (record { counter = q .counter; start = q .start; bytes = bs }))
+        (historyAfter delivers h q .story))
         (values-of (h .packets) (q .bytes))
-        (beside-taken valueOf base secs (h .before) (holding hand) (h .story) (numberedIn (h .packets) q) beside)
+        (beside-taken delivers valueOf base secs (h .before) (holding hand) (h .story) (numberedIn (h .packets) q) beside)
 
     standing-after : Standing (handOf s)
-    standing-after = stands-taken (h .before) hand q (subst Standing (sym (g .counted .hold-is)) (g .standing))
+    standing-after = stands-taken delivers (h .before) hand q (subst Standing (sym (g .counted .hold-is)) (g .standing))
 
     agrees-taken : (q .counter ≤ 15) × (4096 ≤ size)
-        → Agrees pid size (recordAfter r (q .counter) s) (over (handOf s) hold) (after h q)
+        → Agrees pid size (recordAfter r (q .counter) s) (over (handOf s) hold) (historyAfter delivers h q)
     agrees-taken x =
         let b = beside-after in
         let few = few-standing (handOf s) standing-after in
@@ -192,49 +197,54 @@ module _ {pid size : ℕ} {r : Record} {hold : List ℕ} {h : History} (g : Agre
                 (λ j. (bytesCounted (done j) r + countOf (done j) (s .marks)) % 2 ^ 32) k
                 ∙ runs-round (bytesCounted (done k) r) (base (done k)) (countOf (done k) (s .marks)) _
                 (g .counted .counters-are k) (b .counts (done k) refl);
-            in-hand-is = ap length (sym (b .hand)) ∙ map-long (handOf (after h q .story));
+            in-hand-is = ap length (sym (b .hand)) ∙ map-long (handOf (historyAfter delivers h q .story));
             hold-is = take-append-seam (handOf s) (drop (length (handOf s)) hold) ∙ sym (b .hand);
           };
           standing = subst Standing (sym (b .hand)) standing-after;
         }
 
-    sections-taken : map (map valueOf) (after h q .story .sections) ≡ secs ++ s .sections
-    sections-taken = beside-after .sections
+    sections-taken : map (map valueOf) (deliveredIn (historyAfter delivers h q .story)) ≡ map (map valueOf) (deliveredIn (h .story)) ++ deliveredOf s
+    sections-taken =
+        sections-values delivers valueOf delivered (historyAfter delivers h q .story .sections)
+        ∙ ap (sectionsOf delivers plain delivered) (beside-after .sections)
+        ∙ sections-more delivers plain delivered secs (s .sections)
+        ∙ ap (λ (l : List (List ℕ)). l ++ deliveredOf s) (sym (sections-values delivers valueOf delivered (h .story .sections)))
 
 -- ---- one call
 
 -- what a call comes to, as it is ruled on
 record Went (pid size : ℕ) (h : History) (z : Ruling) (o : Outcome) : Type 0 where
   fare : fareOf (o .said) ≡ ruledFare z
-  agrees : Agrees pid size (o .rec) (o .hold) (historyFrom h (carriedBy z))
-  before : historyFrom h (carriedBy z) .before ≡ beforeAfter (h .before) z
-  sections : map (map valueOf) (historyFrom h (carriedBy z) .story .sections)
-      ≡ map (map valueOf) (h .story .sections) ++ handedBy (o .said) (o .out)
+  agrees : Agrees pid size (o .rec) (o .hold) (historyFrom delivers h (ruledIn z))
+  before : historyFrom delivers h (ruledIn z) .before ≡ beforeAfter (h .before) z
+  sections : map (map valueOf) (deliveredIn (historyFrom delivers h (ruledIn z) .story))
+      ≡ map (map valueOf) (deliveredIn (h .story)) ++ handedBy (o .said) (o .out)
   bytes : flatten (handedBy (o .said) (o .out)) ≡ bytesBy (o .said) (o .out)
   told : length (flatten (handedBy (o .said) (o .out))) ≡ toldBy (o .said)
 
 module _ {pid size : ℕ} {r : Record} {hold : List ℕ} {h : History} (g : Agrees pid size r hold h) (out : List ℕ) where
   went-taken : (q : Carried ℕ) → (q .counter ≤ 15) × (4096 ≤ size)
-      → Went pid size h (takes q) (takenTo r hold out (q .counter) (s g q))
+      → Went pid size h (takes q) (outcomeAfter r hold out (q .counter) (s g q))
   went-taken q x =
-      let secs : List (List ℕ) = s g q .sections in
+      let secs : List (List ℕ) = deliveredOf (s g q) in
       let front : take (length (flatten secs)) (over (flatten secs) out) ≡ flatten secs =
       take-append-seam (flatten secs) (drop (length (flatten secs)) out) in
       let given : cut (length secs) (take (length (flatten secs)) (over (flatten secs) out)) ≡ secs =
-      ap (cut (length secs)) front ∙ cut-whole secs (whole-taken (h .before) (hand g) q) in
+      ap (cut (length secs)) front
+      ∙ cut-whole secs (sections-each delivers plain delivered WholeSection (s g q .sections) (whole-taken (h .before) (hand g) q)) in
       record {
         fare = refl;
         agrees = agrees-taken g q x;
         before = refl;
         sections =
-            sections-taken g q ∙ ap (λ (l : List (List ℕ)). map (map valueOf) (h .story .sections) ++ l) (sym given);
+            sections-taken g q ∙ ap (λ (l : List (List ℕ)). map (map valueOf) (deliveredIn (h .story)) ++ l) (sym given);
         bytes = ap flatten given ∙ sym front;
         told = ap (λ (l : List (List ℕ)). length (flatten l)) given;
       }
 
   went-by : (z : Ruling) → Taking size z → Went pid size h z (outcomeOf r hold out z)
   unfolding flatten
-  went-by (Refusals.refused n) x = record {
+  went-by (Ruled.refused n) x = record {
     fare = refl;
     agrees = g;
     before = refl;
@@ -250,7 +260,7 @@ module _ {pid size : ℕ} {r : Record} {hold : List ℕ} {h : History} (g : Agre
     bytes = refl;
     told = refl;
   }
-  went-by Refusals.bare x = record {
+  went-by Ruled.bare x = record {
     fare = refl;
     agrees = g;
     before = refl;
@@ -261,16 +271,16 @@ module _ {pid size : ℕ} {r : Record} {hold : List ℕ} {h : History} (g : Agre
   went-by (takes q) x =
       subst
       (λ (l : Before). Went pid size h (takes q)
-      (takenTo r hold out (q .counter) (takenIn plain l (holding (hand g)) q)))
+      (outcomeAfter r hold out (q .counter) (storyAfter delivers plain l (holding (hand g)) q)))
       (sym (g .before-is)) (went-taken q x)
 
   -- the ruling on the packet is the one that the packets alone give
   went : (packet : List ℕ) (o : Outcome) → Promised r hold out packet o
       → Went pid size h (rulingOn pid size (h .before) (record { packet = packet; room = length out })) o
   went packet o e =
-      let z : Ruling = ruling (cannotStand r hold) (r .pid) (beforeOf r) (length hold) (length out) packet in
+      let z : Ruling = ruling (tooSmall (length hold) (length out)) (cannotStand r hold) (r .pid) (beforeOf r) packet in
       let same : z ≡ rulingOn pid size (h .before) (record { packet = packet; room = length out }) =
-      λ i. ruling (g .stand-is i) (g .pid-is i) (g .before-is i) (g .size-is i) (length out) packet in
+      λ i. ruling (tooSmall (g .size-is i) (length out)) (g .stand-is i) (g .pid-is i) (g .before-is i) packet in
       let taking : Taking size z =
       subst (λ (n : ℕ). Taking n z) (g .size-is)
       (taking-of (cannotStand r hold) (r .pid) (length hold) (length out) (beforeOf r) packet) in
@@ -278,15 +288,15 @@ module _ {pid size : ℕ} {r : Record} {hold : List ℕ} {h : History} (g : Agre
 
 -- ---- a run of calls
 
-history-append : (h : History) (a c : List (Carried ℕ)) → historyFrom h (a ++ c) ≡ historyFrom (historyFrom h a) c
+history-append : (h : History) (a c : List (Carried ℕ)) → historyFrom delivers h (a ++ c) ≡ historyFrom delivers (historyFrom delivers h a) c
 history-append h [] c = refl
-history-append h (q ∷ a) c = history-append (after h q) a c
+history-append h (q ∷ a) c = history-append (historyAfter delivers h q) a c
 
 pub record Ran (pid size : ℕ) (h : History) (ks : List Call) (r′ : Record) (hold′ : List ℕ) : Type 0 where
   pub fares : map (λ k. fareOf (k .said)) ks ≡ faresFrom pid size (h .before) (map lentOf ks)
-  pub agrees : Agrees pid size r′ hold′ (historyFrom h (takenFrom pid size (h .before) (map lentOf ks)))
-  pub sections : map (map valueOf) (historyFrom h (takenFrom pid size (h .before) (map lentOf ks)) .story .sections)
-      ≡ map (map valueOf) (h .story .sections) ++ handed ks
+  pub agrees : Agrees pid size r′ hold′ (historyFrom delivers h (ruledTaken pid size (h .before) (map lentOf ks)))
+  pub sections : map (map valueOf) (deliveredIn (historyFrom delivers h (ruledTaken pid size (h .before) (map lentOf ks)) .story))
+      ≡ map (map valueOf) (deliveredIn (h .story)) ++ handed ks
   pub bytes : Each (λ k. flatten (handedBy (k .said) (k .out′)) ≡ bytesBy (k .said) (k .out′)) ks
   pub told : Each (λ k. length (flatten (handedBy (k .said) (k .out′))) ≡ toldBy (k .said)) ks
 
@@ -296,21 +306,21 @@ ran no-call h g = record { fares = refl; agrees = g; sections = sym (append-nil 
 ran {pid} {size} {r′ = r′} {hold′ = hold′} (one-call {k = k} {ks = ks} c rest) h g =
     let w = went g (k .out) (k .packet) _ c in
     let z : Ruling = rulingOn pid size (h .before) (lentOf k) in
-    let h₁ : History = historyFrom h (carriedBy z) in
+    let h₁ : History = historyFrom delivers h (ruledIn z) in
     let x = ran rest h₁ (w .agrees) in
-    let from : historyFrom h₁ (takenFrom pid size (h₁ .before) (map lentOf ks))
-    ≡ historyFrom h (carriedBy z ++ takenFrom pid size (beforeAfter (h .before) z) (map lentOf ks)) =
-    ap (λ (l : Before). historyFrom h₁ (takenFrom pid size l (map lentOf ks))) (w .before)
-    ∙ sym (history-append h (carriedBy z) (takenFrom pid size (beforeAfter (h .before) z) (map lentOf ks))) in
+    let from : historyFrom delivers h₁ (ruledTaken pid size (h₁ .before) (map lentOf ks))
+    ≡ historyFrom delivers h (ruledIn z ++ ruledTaken pid size (beforeAfter (h .before) z) (map lentOf ks)) =
+    ap (λ (l : Before). historyFrom delivers h₁ (ruledTaken pid size l (map lentOf ks))) (w .before)
+    ∙ sym (history-append h (ruledIn z) (ruledTaken pid size (beforeAfter (h .before) z) (map lentOf ks))) in
     record {
       fares = (λ i. w .fare i ∷ x .fares i)
           ∙ ap (λ (l : Before). ruledFare z ∷ faresFrom pid size l (map lentOf ks)) (w .before);
       agrees = subst (Agrees pid size r′ hold′) from (x .agrees);
       sections =
-          ap (λ (y : History). map (map valueOf) (y .story .sections)) (sym from)
+          ap (λ (y : History). map (map valueOf) (deliveredIn (y .story))) (sym from)
           ∙ x .sections
           ∙ ap (λ (l : List (List ℕ)). l ++ handed ks) (w .sections)
-          ∙ append-assoc (map (map valueOf) (h .story .sections)) (handedBy (k .said) (k .out′)) (handed ks);
+          ∙ append-assoc (map (map valueOf) (deliveredIn (h .story))) (handedBy (k .said) (k .out′)) (handed ks);
       bytes = (w .bytes, x .bytes);
       told = (w .told, x .told);
     }

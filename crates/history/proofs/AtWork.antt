@@ -1,8 +1,10 @@
 -- Each story of `specs/AtWork.antt`, computed.
 use mathlib.Core.Path.{refl}
 use mathlib.Core.List.{flatten}
-use Rattle.collector.specs.Rules.{sizeOf, follows}
-use Rattle.collector.specs.Refusals.{cannotStand, judged, repeats}
+use Rattle.packet.specs.Ruling.{follows, repeats}
+use Rattle.collector.specs.Rules.{sizeOf}
+use Rattle.packet.specs.Refusals.{judged}
+use Rattle.collector.specs.Refusals.{cannotStand}
 use Rattle.history.specs.AtWork.{AtWork}
 
 pub at-work : AtWork

@@ -5,20 +5,21 @@ use mathlib.Core.Logic.{_↔_}
 use Prim.Native.Nat.{ℕ}
 use native.Mathlib.Omega.{arith}
 use lib.ListN.{length}
-use Rattle.collector.specs.Refusals.{beforeOf, cannotStand, Ruling, takes, ruling}
-use Rattle.collector.specs.Refusals as Refusals
+use Rattle.packet.specs.Ruling.{Ruling, takes, ruling}
+use Rattle.collector.specs.Refusals.{beforeOf, cannotStand, tooSmall}
+use Rattle.packet.specs.Ruling as Ruled
 use Rattle.collector.specs.Answer.{Told, Outcome, refused, repeated, taken}
 use Rattle.collector.specs.Collected.{unaltered, outcomeOf}
 use Rattle.collector.specs.declared.Record.{Record}
 use Rattle.history.specs.Run.{Promised, fareOf, ruledFare}
 use Rattle.history.specs.Run as R
 use Rattle.history.specs.Demand1.{RefusesFirst, RefusedUnaltered}
-use Rattle.history.proofs.Fares.{fareNumber, refused-exactly-if}
+use Rattle.history.proofs.FaresByTable.{fareNumber, refused-exactly-if}
 
 pub fare-is : (r : Record) (hold out : List ℕ) (z : Ruling) → fareOf (outcomeOf r hold out z .said) ≡ ruledFare z
-fare-is r hold out (Refusals.refused n) = refl
-fare-is r hold out Refusals.repeated = refl
-fare-is r hold out Refusals.bare = refl
+fare-is r hold out (Ruled.refused n) = refl
+fare-is r hold out Ruled.repeated = refl
+fare-is r hold out Ruled.bare = refl
 fare-is r hold out (takes q) = refl
 
 -- an answer is a refusal exactly if that is how its packet fares
@@ -32,21 +33,21 @@ said-refused n (taken sections bytes) = (
 
 pub refuses-first : RefusesFirst Promised
 refuses-first r hold out packet o x n =
-    let z : Ruling = ruling (cannotStand r hold) (r .pid) (beforeOf r) (length hold) (length out) packet in
+    let z : Ruling = ruling (tooSmall (length hold) (length out)) (cannotStand r hold) (r .pid) (beforeOf r) packet in
     let fare : fareOf (o .said) ≡ ruledFare z = ap (λ (y : Outcome). fareOf (y .said)) x ∙ fare-is r hold out z in
     let says = said-refused n (o .said) in
-    let row = refused-exactly-if (cannotStand r hold) (r .pid) (beforeOf r) (length hold) (length out) packet n in
+    let row = refused-exactly-if (tooSmall (length hold) (length out)) (cannotStand r hold) (r .pid) (beforeOf r) packet n in
     (λ e. row .0 (sym fare ∙ says .0 e), λ f. says .1 (fare ∙ row .1 f))
 
 unaltered-by : (r : Record) (hold out : List ℕ) (z : Ruling) (n : ℕ)
     → fareOf (outcomeOf r hold out z .said) ≡ R.refused n → outcomeOf r hold out z ≡ unaltered r hold out (refused n)
-unaltered-by r hold out (Refusals.refused m) n e =
+unaltered-by r hold out (Ruled.refused m) n e =
     let same : m ≡ n = cc in ap (λ (k : ℕ). unaltered r hold out (refused k)) same
-unaltered-by r hold out Refusals.repeated n e = let z : _≡_ {A = ℕ} 1 0 = ap fareNumber e in absurd (omega arith)
-unaltered-by r hold out Refusals.bare n e = let z : _≡_ {A = ℕ} 2 0 = ap fareNumber e in absurd (omega arith)
+unaltered-by r hold out Ruled.repeated n e = let z : _≡_ {A = ℕ} 1 0 = ap fareNumber e in absurd (omega arith)
+unaltered-by r hold out Ruled.bare n e = let z : _≡_ {A = ℕ} 2 0 = ap fareNumber e in absurd (omega arith)
 unaltered-by r hold out (takes q) n e = let z : _≡_ {A = ℕ} 2 0 = ap fareNumber e in absurd (omega arith)
 
 pub refused-unaltered : RefusedUnaltered Promised
 refused-unaltered r hold out packet o x n e =
-    let z : Ruling = ruling (cannotStand r hold) (r .pid) (beforeOf r) (length hold) (length out) packet in
+    let z : Ruling = ruling (tooSmall (length hold) (length out)) (cannotStand r hold) (r .pid) (beforeOf r) packet in
     x ∙ unaltered-by r hold out z n (ap (λ (y : Outcome). fareOf (y .said)) (sym x) ∙ ap fareOf e)

@@ -10,38 +10,42 @@ use lib.Dec.{ltb}
 use borrow.Author.Tests.{le-ltb}
 use Rattle.wire.specs.If.{if_then_else_}
 use Rattle.wire.proofs.IfLaws.{true-not-false}
-use Rattle.collector.specs.Each.{Each}
-use Rattle.collector.specs.Rules.{Kind, delivered, Fate, done, kinds, sumIn, sumOf, Mark, Story, sameFate, bytesOf, countOf, Before, noneBefore, Carried}
-use Rattle.collector.specs.Refusals.{_when_, refusals}
+use Rattle.wire.specs.Each.{Each}
+use Rattle.packet.specs.Ruling.{Before, noneBefore, Carried}
+use Rattle.collector.specs.Refusals.{tooSmall}
+use Rattle.collector.specs.Rules.{Kind, delivered, Fate, done, kinds, sumIn, sumOf, Mark, Story, sameFate, bytesOf, countOf, delivers}
+use Rattle.packet.specs.Refusals.{_when_, refusals}
 use Rattle.collector.specs.Answer.{refused}
 use Rattle.collector.specs.Collected.{bytesCounted, freshRecord}
 use Rattle.collector.specs.declared.Record.{Record}
-use Rattle.collector.proofs.Keeps.{each-of, keep-taken}
-use Rattle.collector.proofs.Kept.{Any, Kept, keeps-kept, points-kept, kept-holding, counts-in}
-use Rattle.history.specs.History.{Byte, valueOf, numbered, History, unbegun, numberedIn, after, historyFrom, historyOf, payloadsFrom, Among, none-left, left-out, had}
-use Rattle.history.specs.Run.{Promised, Call, Run, Fare, taken, fareOf, takenOf, lentOf, rulingOn, beforeAfter, faresFrom, NotRefused, NotRepeated, handed}
+use Rattle.wire.proofs.EachLaws.{each-of}
+use Rattle.collector.proofs.Invariants.{keep-taken}
+use Rattle.collector.proofs.StoryLaws.{Any, Kept, keeps-kept, points-kept, kept-holding, counts-in, sections-each, delivered-by-end}
+use Rattle.history.specs.History.{Byte, valueOf, numbered, History, unbegun, numberedIn, historyAfter, historyFrom, historyOf, payloadsFrom, Unbroken, Among, none-left, left-out, had}
+use Rattle.history.specs.Run.{Promised, Call, Run, Fare, taken, fareOf, saidTaken, lentOf, rulingOn, beforeAfter, faresFrom, NotRefused, NotRepeated, handed}
 use Rattle.history.specs.Demand1.{First}
-use Rattle.history.specs.Demand3.{TakenIf, RefusedIf, takenBy, storyBy, Counted, MadeUnbroken, RefusedExactlyIf, TakenExactlyIf, ByPacketsAlone, NeverUnfit, OneFateEach, CountersAreFates, CountersMakeUp, DeliveredInOrder, NoSectionSpans}
+use Rattle.history.specs.Demand3.{TakenCallByCall, RefusedIf, takenByRule, storyBy, Counted, deliveredIn, MadeUnbroken, RefusedExactlyIf, TakenExactlyIf, ByPacketsAlone, NeverUnfit, OneFateEach, CountersAreFates, CountersMakeUp, DeliveredInOrder, NoSectionSpans}
 use Rattle.history.proofs.Agrees.{Ran, ran, agrees-fresh}
-use Rattle.history.proofs.Fares.{Never, never-first, fares-cut, taken-alike}
-use Rattle.history.proofs.Fares as fares
+use Rattle.history.proofs.FaresByTable.{Never, never-first, fares-cut, taken-alike}
+use Rattle.history.proofs.FaresByTable as fares
 use Rattle.history.proofs.Demand1.{said-refused}
 use Rattle.history.proofs.NoSpan.{sections-unbroken}
 
 -- ---- the fates themselves
 
-kept-from : (h : History) (l : List Byte) (qs : List (Carried ℕ)) → Kept valueOf l (h .story)
-    → Kept valueOf (l ++ payloadsFrom (h .packets) qs) (historyFrom h qs .story)
-kept-from h l [] x = subst (λ (z : List Byte). Kept valueOf z (h .story)) (sym (append-nil l)) x
-kept-from h l (q ∷ qs) x =
-    subst (λ (z : List Byte). Kept valueOf z (historyFrom (after h q) qs .story))
-    (append-assoc l (numbered (h .packets) (q .bytes)) (payloadsFrom (h .packets + 1) qs))
-    (kept-from (after h q) (l ++ numbered (h .packets) (q .bytes)) qs
-    (keep-taken valueOf Any (Kept valueOf) (keeps-kept valueOf) (points-kept valueOf) (h .before) l (h .story)
-    (numberedIn (h .packets) q) (each-of Any (λ b. tt) (numbered (h .packets) (q .bytes))) x))
+module _ (comes : List ℕ → Kind) where
+  kept-from : (h : History) (l : List Byte) (qs : List (Carried ℕ)) → Kept comes valueOf l (h .story)
+      → Kept comes valueOf (l ++ payloadsFrom (h .packets) qs) (historyFrom comes h qs .story)
+  kept-from h l [] x = subst (λ (z : List Byte). Kept comes valueOf z (h .story)) (sym (append-nil l)) x
+  kept-from h l (q ∷ qs) x =
+      subst (λ (z : List Byte). Kept comes valueOf z (historyFrom comes (historyAfter comes h q) qs .story))
+      (append-assoc l (numbered (h .packets) (q .bytes)) (payloadsFrom (h .packets + 1) qs))
+      (kept-from (historyAfter comes h q) (l ++ numbered (h .packets) (q .bytes)) qs
+      (keep-taken comes valueOf Any (Kept comes valueOf) (keeps-kept comes valueOf) (points-kept comes valueOf) (h .before) l
+      (h .story) (numberedIn (h .packets) q) (each-of Any (λ b. tt) (numbered (h .packets) (q .bytes))) x))
 
-kept-history : (qs : List (Carried ℕ)) → Kept valueOf (payloadsFrom 0 qs) (historyOf qs .story)
-kept-history qs = kept-from unbegun [] qs (kept-holding valueOf [])
+  pub kept-history : (qs : List (Carried ℕ)) → Kept comes valueOf (payloadsFrom 0 qs) (historyOf comes qs .story)
+  kept-history qs = kept-from unbegun [] qs (kept-holding comes valueOf [])
 
 -- ---- a run
 
@@ -61,7 +65,7 @@ by-packets-alone pid hold calls r hold′ x = whole-run pid hold calls r hold′
 
 -- the packets that the answers call taken are those that are taken by the packets alone
 pub taken-by : (pid : ℕ) (hold : List ℕ) (calls : List Call) (r : Record) (hold′ : List ℕ)
-    → Run Promised (freshRecord pid) hold calls r hold′ → takenOf calls ≡ takenBy pid hold calls
+    → Run Promised (freshRecord pid) hold calls r hold′ → saidTaken calls ≡ takenByRule pid hold calls
 taken-by pid hold calls r hold′ x = taken-alike pid (length hold) noneBefore calls (by-packets-alone pid hold calls r hold′ x)
 
 pub counters-are-fates : CountersAreFates Promised
@@ -74,7 +78,7 @@ delivered-in-order pid hold calls r hold′ x =
       sections-are = sym (w .sections);
       bytes-are = w .bytes;
       told-are = w .told;
-      delivered-are = kept-history (takenBy pid hold calls) .order .out;
+      delivered-are = kept-history delivers (takenByRule pid hold calls) .order delivered delivered-by-end .out;
     }
 
 -- what is equal modulo 2^32 has equal sums modulo 2^32
@@ -97,7 +101,7 @@ counters-make-up pid hold calls r hold′ x =
     (λ k. round (bytesCounted (done k) r) (countOf (done k) (s .marks)) (c .counters-are k)) kinds in
     add-round _ (r .in_hand) _ _ counters (ap (λ (n : ℕ). n % 2 ^ 32) (c .in-hand-is))
     ∙ ap (λ (n : ℕ). n % 2 ^ 32)
-    (counts-in valueOf (payloadsFrom 0 (takenBy pid hold calls)) s (kept-history (takenBy pid hold calls)))
+    (counts-in delivers valueOf (payloadsFrom 0 (takenByRule pid hold calls)) s (kept-history delivers (takenByRule pid hold calls)))
     ∙ ap (λ (qs : List (Carried ℕ)). length (payloadsFrom 0 qs) % 2 ^ 32) (sym (taken-by pid hold calls r hold′ x))
 
 -- the values of all sections, end to end
@@ -110,12 +114,12 @@ flatten-values (s ∷ secs) =
 pub one-fate-each : OneFateEach Promised
 one-fate-each pid hold calls r hold′ x =
     let s : Story Byte = storyBy pid hold calls in
-    let kept = kept-history (takenBy pid hold calls) in
+    let kept = kept-history delivers (takenByRule pid hold calls) in
     let out = delivered-in-order pid hold calls r hold′ x in
     record {
       one-each = kept .seen ∙ ap (payloadsFrom 0) (sym (taken-by pid hold calls r hold′ x));
       handed-are =
-          ap flatten (out .sections-are) ∙ flatten-values (s .sections) ∙ ap (map valueOf) (sym (out .delivered-are));
+          ap flatten (out .sections-are) ∙ flatten-values (deliveredIn s) ∙ ap (map valueOf) (sym (out .delivered-are));
       held-are = counted pid hold calls r hold′ x .hold-is;
     }
 
@@ -134,30 +138,30 @@ fate-among f (m ∷ ms) =
 
 pub no-section-spans : NoSectionSpans Promised
 no-section-spans pid hold calls r hold′ x =
-    let qs = takenBy pid hold calls in
+    let qs = takenByRule pid hold calls in
     let s : Story Byte = storyBy pid hold calls in
     let out = delivered-in-order pid hold calls r hold′ x in
-    let among : Among (flatten (s .sections)) (payloadsFrom 0 qs) =
+    let among : Among (flatten (deliveredIn s)) (payloadsFrom 0 qs) =
     subst (λ (l : List Byte). Among l (payloadsFrom 0 qs)) (out .delivered-are)
-    (subst (Among (bytesOf (done delivered) (s .marks))) (kept-history qs .seen) (fate-among (done delivered) (s .marks))) in
+    (subst (Among (bytesOf (done delivered) (s .marks))) (kept-history delivers qs .seen) (fate-among (done delivered) (s .marks))) in
     subst (λ (z : List (Carried ℕ)). MadeUnbroken z (handed calls)) (sym (taken-by pid hold calls r hold′ x))
     (record {
-      made-of = s .sections;
+      made-of = deliveredIn s;
       values-are = sym (out .sections-are);
       once-in-order = among;
-      unbroken = sections-unbroken qs;
+      unbroken = sections-each delivers valueOf delivered (Unbroken qs) (s .sections) (sections-unbroken delivers qs);
     })
 
 -- ---- taken exactly if neither refused nor repeated, and refused exactly with the first row that applies
 
 -- each call of a list that fares by the packets alone
 taken-each : (pid size : ℕ) (before : Before) (ks : List Call)
-    → map (λ k. fareOf (k .said)) ks ≡ faresFrom pid size before (map lentOf ks) → TakenIf pid size before ks
+    → map (λ k. fareOf (k .said)) ks ≡ faresFrom pid size before (map lentOf ks) → TakenCallByCall pid size before ks
 taken-each pid size before [] e = tt
 taken-each pid size before (k ∷ ks) e =
     let w = fares-cut pid size before k ks e in (
-      subst (λ (f : Fare). (f ≡ taken) ↔ (NotRefused pid size (lentOf k) × NotRepeated before (lentOf k))) (sym (w .0))
-          (fares.taken-exactly-if (ltb 8191 pid) pid before size (lentOf k .room) (k .packet)),
+      subst (λ (f : Fare). (f ≡ taken) ↔ (NotRefused pid size (lentOf k) × NotRepeated before (k .packet))) (sym (w .0))
+          (fares.taken-exactly-if (tooSmall size (lentOf k .room)) (ltb 8191 pid) pid before (k .packet)),
       taken-each pid size (beforeAfter before (rulingOn pid size before (lentOf k))) ks (w .1),
     )
 
@@ -170,7 +174,7 @@ refused-each : (pid size : ℕ) (before : Before) (ks : List Call)
 refused-each pid size before [] e = tt
 refused-each pid size before (k ∷ ks) e =
     let w = fares-cut pid size before k ks e in
-    let row = fares.refused-exactly-if (ltb 8191 pid) pid before size (lentOf k .room) (k .packet) in (
+    let row = fares.refused-exactly-if (tooSmall size (lentOf k .room)) (ltb 8191 pid) pid before (k .packet) in (
       λ n. (
         λ v. row n .0 (sym (w .0) ∙ said-refused n (k .said) .0 v),
         λ f. said-refused n (k .said) .1 (w .0 ∙ row n .1 f),
@@ -184,10 +188,10 @@ refused-exactly-if pid hold calls r hold′ x =
 
 -- ---- a run never meets 43
 
-no-43 : (pid size out : ℕ) (p : List ℕ) → First 43 (refusals false pid size out p) → ⊥
-no-43 pid size out p =
+no-43 : (small : Bool) (pid : ℕ) (p : List ℕ) → First 43 (refusals small false pid p) → ⊥
+no-43 small pid p =
     let other : (n : ℕ) (t : Bool) → (n ≡ 43 → ⊥) → Never 43 (n when t) = λ n t f e w. f w in
-    let rest : Each (Never 43) (drop 3 (refusals false pid size out p)) = (
+    let rest : Each (Never 43) (drop 3 (refusals small false pid p)) = (
       other 44 _ (λ e. omega arith),
       (
         other 45 _ (λ e. omega arith),
@@ -197,15 +201,15 @@ no-43 pid size out p =
         ),
       ),
     ) in
-    never-first 43 (refusals false pid size out p)
+    never-first 43 (refusals small false pid p)
     (other 41 _ (λ e. omega arith), (other 42 _ (λ e. omega arith), ((λ e w. true-not-false (sym e)), rest)))
 
 never-each : (pid size : ℕ) (ks : List Call) → pid ≤ 8191 → Each (RefusedIf pid size) ks
     → Each (λ k. k .said ≡ refused 43 → ⊥) ks
 never-each pid size [] w x = tt
 never-each pid size (k ∷ ks) w x = (
-  λ e. no-43 pid size (length (k .out)) (k .packet)
-      (subst (λ (t : Bool). First 43 (refusals t pid size (length (k .out)) (k .packet))) (le-ltb 8191 pid w)
+  λ e. no-43 (tooSmall size (length (k .out))) pid (k .packet)
+      (subst (λ (t : Bool). First 43 (refusals (tooSmall size (length (k .out))) t pid (k .packet))) (le-ltb 8191 pid w)
       (x .0 43 .0 e)),
   never-each pid size ks w (x .1),
 )

@@ -8,23 +8,26 @@ use native.Mathlib.Omega.{arith}
 use lib.ListN.{length, take, drop, take-append-drop}
 use lib.Seq.{drop-append-seam}
 use lib.Dec.{ltb}
-use Rattle.collector.specs.Each.{Each}
-use Rattle.collector.specs.Rules.{in-hand, done, Story, countOf, handOf, holding, totalOf, Before, noneBefore, plain, takenIn}
-use Rattle.collector.specs.Refusals.{lastOf, beforeOf, cannotStand, Ruling, takes, ruling}
-use Rattle.collector.specs.Refusals as Refusals
+use Rattle.wire.specs.Each.{Each}
+use Rattle.wire.specs.Sections.{totalOf}
+use Rattle.copy.specs.Laid.{over}
+use Rattle.packet.specs.Ruling.{Before, noneBefore, Ruling, takes, ruling}
+use Rattle.collector.specs.Rules.{in-hand, done, Story, countOf, handOf, holding, plain, storyAfter, delivers}
+use Rattle.collector.specs.Refusals.{lastOf, beforeOf, cannotStand, tooSmall}
+use Rattle.packet.specs.Ruling as Ruled
 use Rattle.collector.specs.Answer.{Told, refused, repeated, taken, Outcome}
-use Rattle.collector.specs.Collected.{recordWith, freshRecord, over, outcomeOf, collected}
+use Rattle.collector.specs.Collected.{recordWith, freshRecord, outcomeOf, collected, deliveredOf}
 use Rattle.collector.specs.declared.Record.{Record}
 use Rattle.collector.specs.declared.Last.{Last}
 use Rattle.collector.specs.declared.Last.the-variants.{None, Counter}
 use Rattle.history.specs.History.{valueOf, History, historyOf}
-use Rattle.history.specs.Run.{Collector, Promised, Call, Input, inputOf, Run, no-call, one-call, Fare, fareOf, ruledFare, Lent, lentOf, rulingOn, beforeAfter, faresFrom, takenFrom, cut, handedBy, handed, bytesBy, toldBy}
+use Rattle.history.specs.Run.{Collector, Promised, Call, Input, inputOf, Run, no-call, one-call, Fare, fareOf, ruledFare, Lent, lentOf, rulingOn, beforeAfter, faresFrom, ruledTaken, cut, handedBy, handed, bytesBy, toldBy}
 use Rattle.history.specs.Run as R
-use Rattle.history.specs.Demand3.{TakenIf, RefusedIf}
+use Rattle.history.specs.Demand3.{TakenCallByCall, RefusedIf, deliveredIn}
 use Rattle.history.specs.Fixed.{RecordTells, BeyondStays, Asked, OnlyAsPromised, Agree}
 use Rattle.history.proofs.Agrees.{ran, agrees-fresh}
-use Rattle.history.proofs.Fares.{fareNumber}
-use Rattle.history.proofs.Fares as fares
+use Rattle.history.proofs.FaresByTable.{fareNumber}
+use Rattle.history.proofs.FaresByTable as fares
 use Rattle.history.proofs.Demand1.{said-refused}
 use Rattle.history.proofs.Demand3.{refused-exactly-if, taken-exactly-if, counters-are-fates, delivered-in-order}
 
@@ -39,12 +42,12 @@ same-fare R.repeated R.repeated a b = refl
 same-fare R.repeated R.taken a b = b .1 refl
 
 -- "refused exactly if" and "taken exactly if" leave one fare for each packet
-fares-by : (pid size : ℕ) (before : Before) (ks : List Call) → Each (RefusedIf pid size) ks → TakenIf pid size before ks
+fares-by : (pid size : ℕ) (before : Before) (ks : List Call) → Each (RefusedIf pid size) ks → TakenCallByCall pid size before ks
     → map (λ k. fareOf (k .said)) ks ≡ faresFrom pid size before (map lentOf ks)
 fares-by pid size before [] a b = refl
 fares-by pid size before (k ∷ ks) a b =
-    let row = fares.refused-exactly-if (ltb 8191 pid) pid before size (lentOf k .room) (k .packet) in
-    let new = fares.taken-exactly-if (ltb 8191 pid) pid before size (lentOf k .room) (k .packet) in
+    let row = fares.refused-exactly-if (tooSmall size (lentOf k .room)) (ltb 8191 pid) pid before (k .packet) in
+    let new = fares.taken-exactly-if (tooSmall size (lentOf k .room)) (ltb 8191 pid) pid before (k .packet) in
     let z : Ruling = rulingOn pid size before (lentOf k) in
     let here : fareOf (k .said) ≡ ruledFare z =
     same-fare (fareOf (k .said)) (ruledFare z)
@@ -72,16 +75,17 @@ recordIn pid h =
 
 record Shown (pid : ℕ) (hold : List ℕ) (xs : List Lent) (ks : List Call) (r : Record) (hold′ : List ℕ) : Type 0 where
   fares-are : map (λ k. fareOf (k .said)) ks ≡ faresFrom pid (length hold) noneBefore xs
-  sections-are : handed ks ≡ map (map valueOf) (historyOf (takenFrom pid (length hold) noneBefore xs) .story .sections)
-  record-is : r ≡ recordIn pid (historyOf (takenFrom pid (length hold) noneBefore xs))
-  hand-is : take (r .in_hand) hold′ ≡ map valueOf (handOf (historyOf (takenFrom pid (length hold) noneBefore xs) .story))
+  sections-are : handed ks
+      ≡ map (map valueOf) (deliveredIn (historyOf delivers (ruledTaken pid (length hold) noneBefore xs) .story))
+  record-is : r ≡ recordIn pid (historyOf delivers (ruledTaken pid (length hold) noneBefore xs))
+  hand-is : take (r .in_hand) hold′ ≡ map valueOf (handOf (historyOf delivers (ruledTaken pid (length hold) noneBefore xs) .story))
 
 shown : (C : Collector) → Asked C → (pid : ℕ) (hold : List ℕ) (ks : List Call) (r : Record) (hold′ : List ℕ)
     → Run C (freshRecord pid) hold ks r hold′ → Shown pid hold (map lentOf ks) ks r hold′
 shown C a pid hold ks r hold′ x =
     let c = a .counters pid hold ks r hold′ x in
     let t = a .record-tells pid hold ks r hold′ x in
-    let last : r .last ≡ lastIn (historyOf (takenFrom pid (length hold) noneBefore (map lentOf ks)) .before .last) =
+    let last : r .last ≡ lastIn (historyOf delivers (ruledTaken pid (length hold) noneBefore (map lentOf ks)) .before .last) =
     sym (last-in (r .last)) ∙ ap (λ (b : Before). lastIn (b .last)) (t .1) in
     record {
       fares-are =
@@ -99,18 +103,18 @@ behind-over bytes room = drop-append-seam bytes (drop (length bytes) room)
 stays-by : (r : Record) (hold out : List ℕ) (z : Ruling) → let o : Outcome = outcomeOf r hold out z in
     (drop (toldBy (o .said)) (o .out) ≡ drop (toldBy (o .said)) out)
     × (drop (o .rec .in_hand) (o .hold) ≡ drop (o .rec .in_hand) hold)
-stays-by r hold out (Refusals.refused n) = (refl, refl)
-stays-by r hold out Refusals.repeated = (refl, refl)
-stays-by r hold out Refusals.bare = (refl, refl)
+stays-by r hold out (Ruled.refused n) = (refl, refl)
+stays-by r hold out Ruled.repeated = (refl, refl)
+stays-by r hold out Ruled.bare = (refl, refl)
 stays-by r hold out (takes q) =
-    let s : Story ℕ = takenIn plain (beforeOf r) (holding (take (r .in_hand) hold)) q in
-    (behind-over (flatten (s .sections)) out, behind-over (handOf s) hold)
+    let s : Story ℕ = storyAfter delivers plain (beforeOf r) (holding (take (r .in_hand) hold)) q in
+    (behind-over (flatten (deliveredOf s)) out, behind-over (handOf s) hold)
 
 pub beyond-stays : BeyondStays Promised
 beyond-stays r hold out packet o x =
     subst (λ (y : Outcome). (drop (toldBy (y .said)) (y .out) ≡ drop (toldBy (y .said)) out)
     × (drop (y .rec .in_hand) (y .hold) ≡ drop (y .rec .in_hand) hold)) (sym x)
-    (stays-by r hold out (ruling (cannotStand r hold) (r .pid) (beforeOf r) (length hold) (length out) packet))
+    (stays-by r hold out (ruling (tooSmall (length hold) (length out)) (cannotStand r hold) (r .pid) (beforeOf r) packet))
 
 pub record-tells : RecordTells Promised
 record-tells pid hold calls r hold′ x = let g = ran x _ (agrees-fresh pid hold) .agrees in (g .pid-is, g .before-is)

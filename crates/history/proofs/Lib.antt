@@ -1,13 +1,14 @@
 -- That the promise of `collector::collect` gives each statement, that the statements fix the collector, and that each
 -- wrong collector breaks one.
-pub mod Stands
+pub mod LeftInHand
 pub mod Agrees
 pub mod NoSpan
-pub mod Fares
+pub mod FaresByTable
 pub mod Demand1
 pub mod Demand3
 pub mod WrongCollectors
 pub mod AtWork
+pub mod OtherEnds
 pub mod Promise
 pub mod Fixed
 pub mod OutRoom

@@ -1,4 +1,4 @@
--- No delivered section spans a break in the counter: what is in hand is joined, packet by packet without a break, to
+-- No section that comes whole spans a break in the counter, whatever it comes to: what is in hand is joined, packet by packet without a break, to
 -- the packet that comes next, and a break takes it.
 use mathlib.Core.Path.{_≡_, refl, sym, ap, _∙_, subst}
 use mathlib.Core.Bool.{Bool, true, false}
@@ -11,14 +11,16 @@ use lib.ListN.{length, getD, length-append}
 use lib.Seq.{getD-at}
 use borrow.Author.Tests.{eqb-true}
 use Rattle.wire.specs.If.{if_then_else_}
-use Rattle.collector.specs.Each.{Each}
-use Rattle.collector.specs.Rules.{Fate, pointer, delivered, broken, done, in-hand, Story, sameFate, handOf, given, settled, Before, nextTo, follows, joined, Carried}
-use Rattle.collector.proofs.Marks.{bytesOf-more, settled-hand}
-use Rattle.collector.proofs.Runs.{lt-or-ge}
-use Rattle.collector.proofs.Keeps.{each-append, each-map, Keeps, keep-payload}
-use Rattle.history.specs.History.{Byte, valueOf, numbered, History, unbegun, after, historyFrom, historyOf, counterAt, BreakAfter, Spans, Unbroken}
+use Rattle.wire.specs.Each.{Each}
+use Rattle.packet.specs.Ruling.{Before, nextTo, follows, Carried}
+use Rattle.collector.specs.Rules.{Kind, Fate, pointer, broken, done, in-hand, Story, sameFate, handOf, given, settled, joined}
+use Rattle.collector.proofs.MarkLaws.{bytesOf-more, settled-hand}
+use Rattle.collector.proofs.ByteRuns.{lt-or-ge}
+use Rattle.wire.proofs.EachLaws.{each-append, each-map}
+use Rattle.collector.proofs.Invariants.{Keeps, keep-payload}
+use Rattle.history.specs.History.{Byte, valueOf, numbered, History, unbegun, historyAfter, historyFrom, historyOf, counterAt, BreakAfter, Spans, Unbroken}
 
-module _ (qs : List (Carried ℕ)) where
+module _ (comes : List ℕ → Kind) (qs : List (Carried ℕ)) where
   -- a byte of one of the first n packets, from which no break leads to the last of them
   record Linked (n : ℕ) (x : Byte) : Type 0 where
     within : x .packet < n
@@ -58,13 +60,13 @@ module _ (qs : List (Carried ℕ)) where
       → Each (Linked n) (handOf (record { marks = settled f (s .marks); sections = s .sections }))
   no-hand n f e s = subst (Each (Linked n)) (sym (settled-hand f e (s .marks))) tt
 
-  keeps-linking : (n : ℕ) → Keeps valueOf (Linked n) (Linking n)
+  keeps-linking : (n : ℕ) → Keeps comes valueOf (Linked n) (Linking n)
   keeps-linking n = record {
     gives = λ f e₁ e₂ b l s r x. linking-given n f b l s r x;
     ends = λ b l s r e x.
         let y = linking-given n in-hand b l s r x in
         record {
-          hand = no-hand n (done delivered) refl (given in-hand b s);
+          hand = no-hand n (done (comes (map valueOf (handOf s ++ (b ∷ []))))) refl (given in-hand b s);
           sections = each-append (Unbroken qs) (s .sections) (handOf (given in-hand b s) ∷ []) (x .sections)
               (linked-section n (handOf (given in-hand b s)) (y .hand), tt);
         };
@@ -114,15 +116,15 @@ module _ (qs : List (Carried ℕ)) where
 
   linked-after : (h : History) (q : Carried ℕ) (l : List Byte) → LastIs h → q .counter ≡ counterAt qs (h .packets)
       → Linking (h .packets) l (h .story)
-      → Linking (h .packets + 1) (l ++ numbered (h .packets) (q .bytes)) (after h q .story)
+      → Linking (h .packets + 1) (l ++ numbered (h .packets) (q .bytes)) (historyAfter comes h q .story)
   linked-after h q l k e x =
-      keep-payload valueOf (Linked (h .packets + 1)) (Linking (h .packets + 1)) (keeps-linking (h .packets + 1))
+      keep-payload comes valueOf (Linked (h .packets + 1)) (Linking (h .packets + 1)) (keeps-linking (h .packets + 1))
       (λ b m s r y. linking-given (h .packets + 1) (done pointer) b m s r y) (q .start) l
       (joined (follows (h .before) (q .counter)) (h .story)) (numbered (h .packets) (q .bytes))
       (linked-new (h .packets) (q .bytes))
       (linked-joined (follows (h .before) (q .counter)) h (q .counter) l k e refl x)
 
-  last-after : (h : History) (q : Carried ℕ) → q .counter ≡ counterAt qs (h .packets) → LastIs (after h q)
+  last-after : (h : History) (q : Carried ℕ) → q .counter ≡ counterAt qs (h .packets) → LastIs (historyAfter comes h q)
   last-after h q e m w =
       let same : h .packets ≡ m = omega arith in
       ap some (e ∙ ap (counterAt qs) same)
@@ -138,20 +140,20 @@ counter-here before q rest =
     long [] = refl
     long (p ∷ l) = ap suc (long l)
 
-linked-run : (qs before rest : List (Carried ℕ)) (h : History) (l : List Byte) → qs ≡ before ++ rest
-    → h .packets ≡ length before → LastIs qs h → Linking qs (h .packets) l (h .story)
-    → Each (Unbroken qs) (historyFrom h rest .story .sections)
-linked-run qs before [] h l e n k x = x .sections
-linked-run qs before (q ∷ rest) h l e n k x =
+linked-run : (comes : List ℕ → Kind) (qs before rest : List (Carried ℕ)) (h : History) (l : List Byte) → qs ≡ before ++ rest
+    → h .packets ≡ length before → LastIs comes qs h → Linking comes qs (h .packets) l (h .story)
+    → Each (Unbroken qs) (historyFrom comes h rest .story .sections)
+linked-run comes qs before [] h l e n k x = x .sections
+linked-run comes qs before (q ∷ rest) h l e n k x =
     let here : q .counter ≡ counterAt qs (h .packets) =
     sym (counter-here before q rest)
     ∙ ap (λ (z : List (Carried ℕ)). counterAt z (length before)) (sym e)
     ∙ ap (counterAt qs) (sym n) in
-    linked-run qs (before ++ (q ∷ [])) rest (after h q) (l ++ numbered (h .packets) (q .bytes))
+    linked-run comes qs (before ++ (q ∷ [])) rest (historyAfter comes h q) (l ++ numbered (h .packets) (q .bytes))
     (e ∙ sym (append-assoc before (q ∷ []) rest)) (omega (arith, n, length-append before (q ∷ [])))
-    (last-after qs h q here) (linked-after qs h q l k here x)
+    (last-after comes qs h q here) (linked-after comes qs h q l k here x)
 
--- whatever the packets, no section that they deliver spans a break
-pub sections-unbroken : (qs : List (Carried ℕ)) → Each (Unbroken qs) (historyOf qs .story .sections)
-sections-unbroken qs =
-    linked-run qs [] qs unbegun [] refl refl (λ m e. absurd (omega arith)) (record { hand = tt; sections = tt })
+-- whatever the packets, no section that comes whole spans a break
+pub sections-unbroken : (comes : List ℕ → Kind) (qs : List (Carried ℕ)) → Each (Unbroken qs) (historyOf comes qs .story .sections)
+sections-unbroken comes qs =
+    linked-run comes qs [] qs unbegun [] refl refl (λ m e. absurd (omega arith)) (record { hand = tt; sections = tt })

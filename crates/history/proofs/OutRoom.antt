@@ -1,5 +1,5 @@
 -- One call hands out 4,278 bytes at most.
-use mathlib.Core.Path.{_≡_, refl, ap, _∙_, subst}
+use mathlib.Core.Path.{_≡_, refl, sym, ap, _∙_, subst}
 use mathlib.Core.Bool.{Bool, true, false}
 use mathlib.Core.List.{List, [], _∷_, _++_, append-nil, map, map-id, flatten}
 use Prim.Native.Nat.{ℕ, _≤_, _<_}
@@ -7,19 +7,22 @@ use native.Mathlib.Omega.{arith}
 use lib.ListN.{length, take, drop, replicate, length-append, length-take, length-drop}
 use lib.Dec.{eqb}
 use Rattle.wire.specs.If.{if_then_else_}
-use Rattle.collector.specs.Each.{Each}
-use Rattle.collector.specs.Rules.{pointer, broken, done, in-hand, Story, bytesOf, countOf, handOf, marked, given, brokenOff, finished, holding, Mode, begin, inside, filling, skipping, breaking, Next, Size, going, whole, over, sizeOf, Before, follows, plain, Carried, begun, grown, resumed, joined, byteIn, stretch, goesOn, sectionsIn, payload, takenIn}
-use Rattle.collector.specs.Refusals.{beforeOf, cannotStand, Judged, refuse, carries, judged, repeats, repeated, takes, carriedIn, ruledBy}
-use Rattle.collector.specs.Refusals as Refusals
+use Rattle.wire.specs.Each.{Each}
+use Rattle.packet.specs.Ruling.{Before, follows, Carried, repeats, repeated, takes, loadOf, ruledBy}
+use Rattle.wire.specs.Sections.{WholeSection}
+use Rattle.collector.specs.Rules.{pointer, broken, done, in-hand, Story, bytesOf, countOf, handOf, marked, given, brokenOff, finished, holding, Mode, begin, inside, outside, filling, Next, Size, going, whole, too-long, sizeOf, plain, begun, grown, resumed, joined, byteIn, stretch, goesOn, sectionsIn, payload, storyAfter, delivered, Kind, delivers}
+use Rattle.packet.specs.Refusals.{Judged, refuse, has-payload, judged}
+use Rattle.collector.specs.Refusals.{beforeOf, cannotStand, tooSmall}
+use Rattle.packet.specs.Refusals as Refusals
 use Rattle.collector.specs.Answer.{Outcome}
 use Rattle.collector.specs.Collected.{outcomeOf}
 use Rattle.collector.specs.declared.Record.{Record}
-use Rattle.collector.proofs.Marks.{bytesOf-more, bytesOf-marked, settled-hand, settled-other}
-use Rattle.collector.proofs.Beside.{Beside, beside-sections}
-use Rattle.collector.proofs.Keeps.{keep-goes, keep-sections, keep-taken}
-use Rattle.collector.proofs.Kept.{Any, WholeSection, Kept, keeps-kept, points-kept, kept-holding, keeps-points, counts-in, delivered-in}
-use Rattle.collector.proofs.Payloads.{any, more-sections, beside-nothing}
-use Rattle.collector.proofs.Table.{fit-of}
+use Rattle.collector.proofs.MarkLaws.{bytesOf-more, bytesOf-marked, settled-hand, settled-other}
+use Rattle.collector.proofs.Simulation.{Beside, beside-sections}
+use Rattle.collector.proofs.Invariants.{keep-goes, keep-sections, keep-taken}
+use Rattle.collector.proofs.StoryLaws.{Any, Kept, keeps-kept, points-kept, kept-holding, keeps-points, counts-in, all-delivered, delivered-in}
+use Rattle.collector.proofs.PayloadLaws.{any, more-sections, beside-nothing}
+use Rattle.collector.proofs.Fits.{fit-of}
 use Rattle.history.specs.Run.{Promised, toldBy}
 use Rattle.history.specs.OutRoom.{AtMost, Reaches}
 use Rattle.history.proofs.Agrees.{whole-taken}
@@ -32,7 +35,7 @@ no-pointer false h =
     ap length (settled-other (done broken) (done pointer) refl refl (marked in-hand h) ∙ bytesOf-marked (done pointer) in-hand h)
 
 one-pointer : (s : Story ℕ) (p : ℕ) (bs : List ℕ) → countOf (done pointer) (s .marks) ≡ 0
-    → countOf (done pointer) (payload plain true s (p ∷ bs) .marks) ≡ 1
+    → countOf (done pointer) (payload delivers plain true s (p ∷ bs) .marks) ≡ 1
 one-pointer s p bs e =
     let first : countOf (done pointer) (given (done pointer) p s .marks) ≡ 1 =
     omega (
@@ -40,58 +43,53 @@ one-pointer s p bs e =
       ap length (bytesOf-more (done pointer) (done pointer) (s .marks) (p ∷ [])),
       length-append (bytesOf (done pointer) (s .marks)) (p ∷ []),
     ) in
-    let f : Story ℕ = goesOn plain (given (done pointer) p s) (take p bs) in
-    let y = keep-goes plain Any _ (keeps-points plain 1) [] (given (done pointer) p s) (take p bs) (any (take p bs)) first in
-    keep-sections plain Any _ (keeps-points plain 1) [] (brokenOff f) (drop p bs) (any (drop p bs))
-    (keeps-points plain 1 .breaks [] f y)
+    let f : Story ℕ = goesOn delivers plain (given (done pointer) p s) (take p bs) in
+    let y = keep-goes delivers plain Any _ (keeps-points delivers plain (λ bs. refl) 1) [] (given (done pointer) p s) (take p bs) (any (take p bs)) first in
+    keep-sections delivers plain Any _ (keeps-points delivers plain (λ bs. refl) 1) [] (brokenOff f) (drop p bs) (any (drop p bs))
+    (keeps-points delivers plain (λ bs. refl) 1 .breaks [] f y)
 
 -- ---- without it: at most one section ends
 
 abbrev One : Mode → Story ℕ → Type 0
 One begin s = s .sections ≡ []
 One inside s = s .sections ≡ []
-One filling s = length (s .sections) ≤ 1
-One skipping s = length (s .sections) ≤ 1
-One breaking s = length (s .sections) ≤ 1
+One (outside m) s = length (s .sections) ≤ 1
 
-one-grown : (z : Size) (s : Story ℕ) → s .sections ≡ [] → One (grown filling z s .mode) (grown filling z s .story)
-one-grown going s x = x
-one-grown whole s x = omega (arith, ap length x, length-append (s .sections) (handOf s ∷ []))
-one-grown over s x = omega (arith, ap length x)
+one-grown : (k : Kind) (z : Size) (s : Story ℕ) → s .sections ≡ []
+    → One (grown (outside filling) k z s .mode) (grown (outside filling) k z s .story)
+one-grown k going s x = x
+one-grown k whole s x = omega (arith, ap length x, length-append (s .sections) (handOf s ∷ []))
+one-grown k too-long s x = omega (arith, ap length x)
 
 one-begun : (t : Bool) (b : ℕ) (s : Story ℕ) → s .sections ≡ [] → One (begun t b s .mode) (begun t b s .story)
 one-begun true b s x = omega (arith, ap length x)
 one-begun false b s x = x
 
 one-byte : (m : Mode) (b : ℕ) (s : Story ℕ) → One m s
-    → One (byteIn plain filling m b s .mode) (byteIn plain filling m b s .story)
+    → One (byteIn delivers plain (outside filling) m b s .mode) (byteIn delivers plain (outside filling) m b s .story)
 one-byte begin b s x = one-begun (eqb b 255) b s x
-one-byte inside b s x = one-grown (sizeOf (map plain (handOf s ++ (b ∷ [])))) (given in-hand b s) x
-one-byte filling b s x = x
-one-byte skipping b s x = x
-one-byte breaking b s x = x
+one-byte inside b s x = one-grown delivered (sizeOf (map plain (handOf s ++ (b ∷ [])))) (given in-hand b s) x
+one-byte (outside m) b s x = x
 
 one-stretch : (n : Next ℕ) (bs : List ℕ) → One (n .mode) (n .story)
-    → One (stretch plain filling n bs .mode) (stretch plain filling n bs .story)
+    → One (stretch delivers plain (outside filling) n bs .mode) (stretch delivers plain (outside filling) n bs .story)
 one-stretch n [] x = x
 one-stretch n (b ∷ bs) x =
-    one-stretch (byteIn plain filling (n .mode) b (n .story)) bs (one-byte (n .mode) b (n .story) x)
+    one-stretch (byteIn delivers plain (outside filling) (n .mode) b (n .story)) bs (one-byte (n .mode) b (n .story) x)
 
 one-most : (m : Mode) (s : Story ℕ) → One m s → length (s .sections) ≤ 1
 one-most begin s x = omega (arith, ap length x)
 one-most inside s x = omega (arith, ap length x)
-one-most filling s x = x
-one-most skipping s x = x
-one-most breaking s x = x
+one-most (outside m) s x = x
 
 one-resumed : (h : List ℕ) (s : Story ℕ) → s .sections ≡ [] → One (resumed h) s
 one-resumed [] s x = omega (arith, ap length x)
 one-resumed (b ∷ h) s x = x
 
-one-goes : (s : Story ℕ) (bs : List ℕ) → s .sections ≡ [] → length (goesOn plain s bs .sections) ≤ 1
+one-goes : (s : Story ℕ) (bs : List ℕ) → s .sections ≡ [] → length (goesOn delivers plain s bs .sections) ≤ 1
 one-goes s bs x =
     let n : Next ℕ = record { mode = resumed (handOf s); story = s } in
-    let m : Next ℕ = stretch plain filling n bs in
+    let m : Next ℕ = stretch delivers plain (outside filling) n bs in
     one-most (m .mode) (m .story) (one-stretch n bs (one-resumed (handOf s) s x))
 
 none-yet : (t : Bool) (h : List ℕ) → joined t (holding h) .sections ≡ []
@@ -108,25 +106,25 @@ whole-most (s ∷ z ∷ secs) k x = absurd (omega arith)
 
 most-in : (before : Before) (h : List ℕ) (q : Carried ℕ) (start : Bool) (bs : List ℕ) → q .start ≡ start → q .bytes ≡ bs
     → length h ≤ 4095 → 0 < length bs → length bs ≤ 184
-    → length (flatten (takenIn plain before (holding h) q .sections)) ≤ 4278
+    → length (flatten (storyAfter delivers plain before (holding h) q .sections)) ≤ 4278
 most-in before h q false bs e w few some long =
-    let one : length (takenIn plain before (holding h) q .sections) ≤ 1 =
+    let one : length (storyAfter delivers plain before (holding h) q .sections) ≤ 1 =
     rw e
     (one-goes (joined (follows before (q .counter)) (holding h)) (q .bytes)
     (none-yet (follows before (q .counter)) h)) in
-    omega (arith, whole-most (takenIn plain before (holding h) q .sections) one (whole-taken before h q))
+    omega (arith, whole-most (storyAfter delivers plain before (holding h) q .sections) one (whole-taken before h q))
 most-in before h q true [] e w few some long = absurd (omega arith)
 most-in before h q true (p ∷ bs) e w few some long =
-    let s : Story ℕ = takenIn plain before (holding h) q in
-    let kept = keep-taken plain Any (Kept plain) (keeps-kept plain) (points-kept plain) before h (holding h) q
-    (any (q .bytes)) (kept-holding plain h) in
+    let s : Story ℕ = storyAfter delivers plain before (holding h) q in
+    let kept = keep-taken delivers plain Any (Kept delivers plain) (keeps-kept delivers plain) (points-kept delivers plain) before h (holding h) q
+    (any (q .bytes)) (kept-holding delivers plain h) in
     let point : countOf (done pointer) (s .marks) ≡ 1 =
     rw (e, w)
     (one-pointer (joined (follows before (q .counter)) (holding h)) p bs
     (no-pointer (follows before (q .counter)) h)) in
     omega (
       arith,
-      counts-in plain (h ++ q .bytes) s kept,
+      counts-in delivers plain (h ++ q .bytes) s kept,
       delivered-in plain (h ++ q .bytes) s kept,
       length-append h (q .bytes),
       ap length w,
@@ -134,19 +132,19 @@ most-in before h q true (p ∷ bs) e w few some long =
     )
 
 most-ruled : (r : Record) (hold out : List ℕ) (q : Carried ℕ) (t : Bool)
-    → length (flatten (takenIn plain (beforeOf r) (holding (take (r .in_hand) hold)) q .sections)) ≤ 4278
+    → length (flatten (storyAfter delivers plain (beforeOf r) (holding (take (r .in_hand) hold)) q .sections)) ≤ 4278
     → toldBy (outcomeOf r hold out (if t then repeated else takes q) .said) ≤ 4278
 most-ruled r hold out q true x = omega arith
-most-ruled r hold out q false x = x
+most-ruled r hold out q false x = subst (λ (l : List (List ℕ)). length (flatten l) ≤ 4278) (sym (all-delivered plain _)) x
 
 most-judged : (r : Record) (hold out packet : List ℕ) (j : Judged)
-    → judged (cannotStand r hold) (r .pid) (length hold) (length out) packet ≡ j
+    → judged (tooSmall (length hold) (length out)) (cannotStand r hold) (r .pid) packet ≡ j
     → toldBy (outcomeOf r hold out (ruledBy (beforeOf r) packet j) .said) ≤ 4278
 most-judged r hold out packet (refuse n) e = omega arith
 most-judged r hold out packet Refusals.bare e = omega arith
-most-judged r hold out packet (carries from start counter) e =
+most-judged r hold out packet (has-payload from start counter) e =
     let fit = fit-of r hold out packet from start counter e in
-    let q : Carried ℕ = carriedIn packet from start counter in
+    let q : Carried ℕ = loadOf packet from start counter in
     let long : length (drop from packet) ≡ _ = length-drop from packet in
     most-ruled r hold out q (repeats (beforeOf r) counter)
     (most-in (beforeOf r) (take (r .in_hand) hold) q start (drop from packet) refl refl
@@ -155,7 +153,7 @@ most-judged r hold out packet (carries from start counter) e =
 
 pub at-most-4278 : AtMost 4278 Promised
 at-most-4278 r hold out packet o x =
-    let most = most-judged r hold out packet (judged (cannotStand r hold) (r .pid) (length hold) (length out) packet)
+    let most = most-judged r hold out packet (judged (tooSmall (length hold) (length out)) (cannotStand r hold) (r .pid) packet)
     refl in
     let same : toldBy (o .said) ≡ _ = ap (λ (y : Outcome). toldBy (y .said)) x in
     omega (arith, most, same)
@@ -176,35 +174,35 @@ module _ (h : List ℕ) (b c : ℕ) (tail : List ℕ) (e : sizeOf (c ∷ h ++ (b
       ∙ append-nil (handOf (holding hand))
       ∙ bytesOf-marked in-hand in-hand hand
 
-  ended : goesOn plain pointed (b ∷ []) ≡ finished (given in-hand b pointed)
+  ended : goesOn delivers plain pointed (b ∷ []) ≡ finished delivered (given in-hand b pointed)
   ended =
-      ap (λ (m : Mode). byteIn plain filling m b pointed .story) (ap resumed hand-is)
-      ∙ ap (λ (z : Size). grown filling z (given in-hand b pointed) .story)
+      ap (λ (m : Mode). byteIn delivers plain (outside filling) m b pointed .story) (ap resumed hand-is)
+      ∙ ap (λ (z : Size). grown (outside filling) delivered z (given in-hand b pointed) .story)
       (ap sizeOf (map-id (handOf pointed ++ (b ∷ [])) ∙ ap (λ (l : List ℕ). l ++ (b ∷ [])) hand-is) ∙ e)
 
   abbrev settled-story : Story ℕ
-  settled-story = brokenOff (finished (given in-hand b pointed))
+  settled-story = brokenOff (finished delivered (given in-hand b pointed))
 
   first-out : handOf (given in-hand b pointed) ≡ hand ++ (b ∷ [])
   first-out = bytesOf-more in-hand in-hand (pointed .marks) (b ∷ []) ∙ ap (λ (l : List ℕ). l ++ (b ∷ [])) hand-is
 
   -- what follows is told beside it
   beside-tail : Beside plain (λ f. countOf f (settled-story .marks)) (settled-story .sections)
-      (sectionsIn plain (holding []) tail) (sectionsIn plain settled-story tail)
+      (sectionsIn delivers plain (holding []) tail) (sectionsIn delivers plain settled-story tail)
   beside-tail =
       subst
       (λ (l : List ℕ). Beside plain (λ f. countOf f (settled-story .marks)) (settled-story .sections)
-      (sectionsIn plain (holding []) l) (sectionsIn plain settled-story tail))
+      (sectionsIn delivers plain (holding []) l) (sectionsIn delivers plain settled-story tail))
       (map-id tail)
-      (beside-sections plain _ _ (holding []) settled-story tail
-      (beside-nothing settled-story (settled-hand (done broken) refl (finished (given in-hand b pointed) .marks))))
+      (beside-sections delivers plain _ _ (holding []) settled-story tail
+      (beside-nothing settled-story (settled-hand (done broken) refl (finished delivered (given in-hand b pointed) .marks))))
 
-  all-out : payload plain true (holding hand) (1 ∷ b ∷ tail) .sections
-      ≡ (hand ++ (b ∷ [])) ∷ sectionsIn plain (holding []) tail .sections
+  all-out : payload delivers plain true (holding hand) (1 ∷ b ∷ tail) .sections
+      ≡ (hand ++ (b ∷ [])) ∷ sectionsIn delivers plain (holding []) tail .sections
   all-out =
-      ap (λ (s : Story ℕ). sectionsIn plain (brokenOff s) tail .sections) ended
+      ap (λ (s : Story ℕ). sectionsIn delivers plain (brokenOff s) tail .sections) ended
       ∙ more-sections beside-tail
-      ∙ ap (λ (l : List ℕ). l ∷ sectionsIn plain (holding []) tail .sections) first-out
+      ∙ ap (λ (l : List ℕ). l ∷ sectionsIn delivers plain (holding []) tail .sections) first-out
 
 -- the section in hand, and the one behind the pointer's target
 held : List ℕ
@@ -217,7 +215,7 @@ ends-there : sizeOf (0x70 ∷ held ++ (0 ∷ [])) ≡ whole
 unfolding sizeOf held
 ends-there = refl
 
-follows-it : length (flatten (sectionsIn plain (holding []) behind .sections)) ≡ 182
+follows-it : length (flatten (sectionsIn delivers plain (holding []) behind .sections)) ≡ 182
 unfolding sizeOf behind flatten
 follows-it = refl
 
@@ -230,11 +228,11 @@ both-long : (a : List ℕ) (secs : List (List ℕ)) → length a ≡ 4096 → le
 unfolding flatten
 both-long a secs e w = omega (arith, length-append a (flatten secs))
 
-all-told : length (flatten (payload plain true (holding (0x70 ∷ held)) (1 ∷ 0 ∷ behind) .sections)) ≡ 4278
+all-told : length (flatten (payload delivers plain true (holding (0x70 ∷ held)) (1 ∷ 0 ∷ behind) .sections)) ≡ 4278
 all-told =
     ap (λ (l : List (List ℕ)). length (flatten l)) (all-out held 0 0x70 behind ends-there)
     ∙ both-long _ _ held-long follows-it
 
 pub reached : Reaches 4278
 unfolding judged cannotStand follows repeats held behind
-reached = all-told
+reached = ap (λ (l : List (List ℕ)). length (flatten l)) (all-delivered plain _) ∙ all-told

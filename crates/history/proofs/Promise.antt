@@ -3,47 +3,20 @@
 use mathlib.Core.Path.{_≡_, refl, sym, ap, _∙_}
 use mathlib.Core.List.{List, [], _∷_}
 use Prim.Native.Nat.{ℕ}
-use lib.Dec.{eqb}
-use Rattle.wire.specs.If.{if_then_else_}
-use Rattle.collector.specs.Answer.{numberOf, Told, refused, repeated, taken, told, Outcome, came}
+use Rattle.packet.proofs.Once.{refusalAt, refusal-at}
+use Rattle.collector.specs.Answer.{Told, refused, repeated, taken, told, Outcome, came}
 use Rattle.collector.specs.Collected.{collected}
 use Rattle.collector.specs.declared.Record.{Record}
-use Rattle.collector.specs.declared.Refusal.{Refusal}
-use Rattle.collector.specs.declared.Refusal.the-variants.{NotAPacket, Room, Unfit, Sync, Error, OtherPid, Scrambled, Adaptation, Pointer}
 use Rattle.collector.specs.declared.Answer.{Answer}
 use Rattle.collector.specs.declared.Answer.the-variants.{Refused, Repeated, Taken}
 use Rattle.history.specs.Run.{Call, Input, RunOn, no-call, one-call}
 
 -- ---- two answers that tell the same are equal
 
-refusalAt : ℕ → Refusal
-refusalAt n =
-    if eqb n 41 then NotAPacket
-    else (if eqb n 42 then Room
-    else (if eqb n 43 then Unfit
-    else (if eqb n 44 then Sync
-    else (if eqb n 45 then Error
-    else (if eqb n 46 then OtherPid
-    else (if eqb n 47 then Scrambled
-    else (if eqb n 48 then Adaptation
-    else Pointer)))))))
-
 answerAt : Told → Answer
 answerAt (refused n) = Refused (refusalAt n)
 answerAt repeated = Repeated
 answerAt (taken sections bytes) = Taken sections bytes
-
-refusal-at : (x : Refusal) → refusalAt (numberOf x) ≡ x
-unfolding refusalAt
-refusal-at NotAPacket = refl
-refusal-at Room = refl
-refusal-at Unfit = refl
-refusal-at Sync = refl
-refusal-at Error = refl
-refusal-at OtherPid = refl
-refusal-at Scrambled = refl
-refusal-at Adaptation = refl
-refusal-at Pointer = refl
 
 answer-at : (a : Answer) → answerAt (told a) ≡ a
 unfolding answerAt

@@ -6,13 +6,15 @@ use mathlib.Core.List.{List, [], _∷_, map, flatten}
 use Prim.Native.Nat.{ℕ}
 use native.Mathlib.Omega.{arith}
 use lib.ListN.{length}
-use Rattle.collector.specs.Each.{Each}
-use Rattle.collector.specs.Rules.{filler, sizeOf, noneBefore, follows, Carried}
-use Rattle.collector.specs.Refusals.{cannotStand, judged, repeats}
+use Rattle.wire.specs.Each.{Each}
+use Rattle.packet.specs.Ruling.{noneBefore, follows, Carried, repeats}
+use Rattle.collector.specs.Rules.{filler, sizeOf}
+use Rattle.packet.specs.Refusals.{judged}
+use Rattle.collector.specs.Refusals.{cannotStand}
 use Rattle.collector.specs.Answer.{Outcome, refused, repeated, taken}
 use Rattle.collector.specs.Collected.{freshRecord, collected}
 use Rattle.history.specs.History.{Byte, valueOf, payloadsFrom, BreakAfter, Unbroken, Among, none-left, left-out, had}
-use Rattle.history.specs.Run.{Call, no-call, one-call, Fare, takenOf, NotRefused, NotRepeated, handed}
+use Rattle.history.specs.Run.{Call, no-call, one-call, Fare, saidTaken, NotRefused, NotRepeated, handed}
 use Rattle.history.specs.Run as R
 use Rattle.history.specs.Demand3.{MadeUnbroken, TakenExactlyIf, OneFateEach, CountersAreFates, DeliveredInOrder, NoSectionSpans}
 use Rattle.history.specs.WrongCollectors.{RefusesEvery, CallsRepeated, DoesNothing, Pretends, InventsCounters, invented, HandsOutOther, followed, JoinsOverBreaks, worked, short, left-off, gone-on, hold₀, out₀}
@@ -25,7 +27,7 @@ callOf packet o = record { packet = packet; out = out₀; out′ = o .out; said 
 not-refused : NotRefused 20 4096 (record { packet = worked 0; room = 4280 })
 not-refused = (refl, (refl, (refl, (refl, (refl, (refl, (refl, (refl, (refl, tt)))))))))
 
-not-repeated : NotRepeated noneBefore (record { packet = worked 0; room = 4280 })
+not-repeated : NotRepeated noneBefore (worked 0)
 unfolding repeats
 not-repeated = inr refl
 
@@ -117,14 +119,14 @@ joins-over-breaks-shut-out h =
     let o : Outcome = collected (followed (freshRecord 20) left-off) hold₀ out₀ left-off in
     let o₂ : Outcome = collected (followed (o .rec) gone-on) (o .hold) out₀ gone-on in
     let calls : List Call = callOf left-off o ∷ callOf gone-on o₂ ∷ [] in
-    let x : MadeUnbroken (takenOf calls) (handed calls) =
+    let x : MadeUnbroken (saidTaken calls) (handed calls) =
     h 20 hold₀ calls (o₂ .rec) (o₂ .hold) (one-call refl (one-call refl no-call)) in
-    let places : Each InPlace (payloadsFrom 0 (takenOf calls)) = (
+    let places : Each InPlace (payloadsFrom 0 (saidTaken calls)) = (
       (λ e. refl, λ e. absurd (omega arith)),
       (
         (λ e. refl, λ e. absurd (omega arith)),
         ((λ e. absurd (omega arith), λ e. refl), ((λ e. absurd (omega arith), λ e. refl), tt)),
       ),
     ) in
-    spans-it (takenOf calls) (x .made-of) (x .values-are) (among-each InPlace (x .once-in-order) places) (x .unbroken)
+    spans-it (saidTaken calls) (x .made-of) (x .values-are) (among-each InPlace (x .once-in-order) places) (x .unbroken)
     (record { two = omega arith; break = λ e. omega arith })

@@ -7,7 +7,8 @@ use mathlib.Core.Logic.{_⊎_, _↔_}
 use mathlib.Core.List.{List, [], _∷_}
 use Prim.Native.Nat.{ℕ}
 use lib.ListN.{length}
-use Rattle.collector.specs.Refusals.{Row, cannotStand, refusals}
+use Rattle.packet.specs.Refusals.{Row, refusals}
+use Rattle.collector.specs.Refusals.{cannotStand, tooSmall}
 use Rattle.collector.specs.Answer.{Outcome, refused}
 use Rattle.collector.specs.Collected.{unaltered}
 use Rattle.collector.specs.declared.Record.{Record}
@@ -23,7 +24,7 @@ module _ (C : Collector) where
   abbrev pub RefusesFirst : Type 0
   RefusesFirst = (r : Record) (hold out packet : List ℕ) (o : Outcome) → C r hold out packet o
       → (n : ℕ)
-      → (o .said ≡ refused n) ↔ First n (refusals (cannotStand r hold) (r .pid) (length hold) (length out) packet)
+      → (o .said ≡ refused n) ↔ First n (refusals (tooSmall (length hold) (length out)) (cannotStand r hold) (r .pid) packet)
 
   -- "the record and all lent room unaltered"
   abbrev pub RefusedUnaltered : Type 0

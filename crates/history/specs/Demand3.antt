@@ -5,35 +5,37 @@ use mathlib.Core.List.{List, [], _∷_, map, flatten}
 use Prim.Native.Nat.{ℕ, _%_, _^_, _≤_}
 use lib.ListN.{length, take}
 use lib.Dec.{ltb}
-use Rattle.collector.specs.Each.{Each}
-use Rattle.collector.specs.Rules.{Kind, delivered, in-hand, done, sumOf, Mark, Story, bytesOf, countOf, handOf, Before, noneBefore, Carried}
-use Rattle.collector.specs.Refusals.{refusals}
+use Rattle.wire.specs.Each.{Each}
+use Rattle.packet.specs.Ruling.{Before, noneBefore, Carried}
+use Rattle.collector.specs.Refusals.{tooSmall}
+use Rattle.collector.specs.Rules.{Kind, delivered, in-hand, done, sumOf, Mark, Story, bytesOf, countOf, handOf, sectionsOf, delivers}
+use Rattle.packet.specs.Refusals.{refusals}
 use Rattle.collector.specs.Answer.{refused}
 use Rattle.collector.specs.Collected.{bytesCounted, freshRecord}
 use Rattle.collector.specs.declared.Record.{Record}
 use Rattle.history.specs.History.{Byte, valueOf, historyOf, payloadsFrom, Unbroken, Among}
-use Rattle.history.specs.Run.{Collector, Call, Run, taken, fareOf, takenOf, lentOf, rulingOn, beforeAfter, faresFrom, takenFrom, NotRefused, NotRepeated, handedBy, handed, bytesBy, toldBy}
+use Rattle.history.specs.Run.{Collector, Call, Run, taken, fareOf, saidTaken, lentOf, rulingOn, beforeAfter, faresFrom, ruledTaken, NotRefused, NotRepeated, handedBy, handed, bytesBy, toldBy}
 use Rattle.history.specs.Demand1.{First}
 
 -- "A packet is taken exactly if it is neither refused nor, by document 01's rule, repeated." Each call is held against
 -- the packets before it.
-abbrev pub TakenIf : ℕ → ℕ → Before → List Call → Type 0
-TakenIf pid size before [] = Unit {0}
-TakenIf pid size before (k ∷ ks) =
-    ((fareOf (k .said) ≡ taken) ↔ (NotRefused pid size (lentOf k) × NotRepeated before (lentOf k)))
-    × TakenIf pid size (beforeAfter before (rulingOn pid size before (lentOf k))) ks
+abbrev pub TakenCallByCall : ℕ → ℕ → Before → List Call → Type 0
+TakenCallByCall pid size before [] = Unit {0}
+TakenCallByCall pid size before (k ∷ ks) =
+    ((fareOf (k .said) ≡ taken) ↔ (NotRefused pid size (lentOf k) × NotRepeated before (k .packet)))
+    × TakenCallByCall pid size (beforeAfter before (rulingOn pid size before (lentOf k))) ks
 
 -- demand 1 of the packets of a run, whose record can stand exactly if its PID is one
 abbrev pub RefusedIf : ℕ → ℕ → Call → Type 0
 RefusedIf pid size k = (n : ℕ)
-    → (k .said ≡ refused n) ↔ First n (refusals (ltb 8191 pid) pid size (length (k .out)) (k .packet))
+    → (k .said ≡ refused n) ↔ First n (refusals (tooSmall size (length (k .out))) (ltb 8191 pid) pid (k .packet))
 
 -- the packets taken that have payload, by the packets alone, and their bytes' fates
-abbrev pub takenBy : ℕ → List ℕ → List Call → List (Carried ℕ)
-takenBy pid hold calls = takenFrom pid (length hold) noneBefore (map lentOf calls)
+abbrev pub takenByRule : ℕ → List ℕ → List Call → List (Carried ℕ)
+takenByRule pid hold calls = ruledTaken pid (length hold) noneBefore (map lentOf calls)
 
 abbrev pub storyBy : ℕ → List ℕ → List Call → Story Byte
-storyBy pid hold calls = historyOf (takenBy pid hold calls) .story
+storyBy pid hold calls = historyOf delivers (takenByRule pid hold calls) .story
 
 -- "Modulo 2^32 the five counters equal the bytes of each fate"; the bytes in hand are those whose fate this is, at the
 -- start of the hold
@@ -45,17 +47,21 @@ pub record Counted (r : Record) (hold : List ℕ) (s : Story Byte) : Type 0 wher
 -- "every payload byte of the packets taken so far has one fate": there is one mark for each, the delivered ones are the
 -- bytes handed out, and those in hand stand in the hold
 pub record Fated (calls : List Call) (r : Record) (hold : List ℕ) (marks : List (Mark Byte)) : Type 0 where
-  pub one-each : map (λ m. m .byte) marks ≡ payloadsFrom 0 (takenOf calls)
+  pub one-each : map (λ m. m .byte) marks ≡ payloadsFrom 0 (saidTaken calls)
   pub handed-are : flatten (handed calls) ≡ map valueOf (bytesOf (done delivered) marks)
   pub held-are : take (r .in_hand) hold ≡ map valueOf (bytesOf in-hand marks)
+
+-- the sections delivered
+abbrev pub deliveredIn : Story Byte → List (List Byte)
+deliveredIn s = sectionsOf delivers valueOf delivered (s .sections)
 
 -- "Delivered bytes come out once, in order": what the calls hand out, cut at the sections' own headers, are the
 -- delivered sections, and the bytes that each answer speaks of are those of its sections, as many as it says
 pub record HandedOut (calls : List Call) (s : Story Byte) : Type 0 where
-  pub sections-are : handed calls ≡ map (map valueOf) (s .sections)
+  pub sections-are : handed calls ≡ map (map valueOf) (deliveredIn s)
   pub bytes-are : Each (λ k. flatten (handedBy (k .said) (k .out′)) ≡ bytesBy (k .said) (k .out′)) calls
   pub told-are : Each (λ k. length (flatten (handedBy (k .said) (k .out′))) ≡ toldBy (k .said)) calls
-  pub delivered-are : bytesOf (done delivered) (s .marks) ≡ flatten (s .sections)
+  pub delivered-are : bytesOf (done delivered) (s .marks) ≡ flatten (deliveredIn s)
 
 -- "no delivered section spans a break": sections that are made of payload bytes of these packets, each byte once and in
 -- order, and no two bytes of one section have a break between them
@@ -78,7 +84,7 @@ module _ (C : Collector) where
   RefusedExactlyIf = OverRuns (λ pid hold calls r hold′. Each (RefusedIf pid (length hold)) calls)
 
   abbrev pub TakenExactlyIf : Type 0
-  TakenExactlyIf = OverRuns (λ pid hold calls r hold′. TakenIf pid (length hold) noneBefore calls)
+  TakenExactlyIf = OverRuns (λ pid hold calls r hold′. TakenCallByCall pid (length hold) noneBefore calls)
 
   -- which packets are taken, which are repeated, and which are refused with which number, depends on the packets and
   -- the rooms' sizes alone
@@ -100,11 +106,11 @@ module _ (C : Collector) where
   -- "and with those in hand they make up the payload taken"
   abbrev pub CountersMakeUp : Type 0
   CountersMakeUp = OverRuns (λ pid hold calls r hold′.
-      sumOf (λ f. bytesCounted f r) % 2 ^ 32 ≡ length (payloadsFrom 0 (takenOf calls)) % 2 ^ 32)
+      sumOf (λ f. bytesCounted f r) % 2 ^ 32 ≡ length (payloadsFrom 0 (saidTaken calls)) % 2 ^ 32)
 
   abbrev pub DeliveredInOrder : Type 0
   DeliveredInOrder = OverRuns (λ pid hold calls r hold′. HandedOut calls (storyBy pid hold calls))
 
   -- "no delivered section spans a break in the continuity counter from one taken packet with payload to the next"
   abbrev pub NoSectionSpans : Type 0
-  NoSectionSpans = OverRuns (λ pid hold calls r hold′. MadeUnbroken (takenOf calls) (handed calls))
+  NoSectionSpans = OverRuns (λ pid hold calls r hold′. MadeUnbroken (saidTaken calls) (handed calls))

@@ -4,19 +4,20 @@ use mathlib.Core.Path.{_≡_}
 use mathlib.Core.List.{List, map}
 use Prim.Native.Nat.{ℕ}
 use lib.ListN.{drop}
+use Rattle.collector.specs.Rules.{delivers}
 use Rattle.collector.specs.Refusals.{beforeOf}
 use Rattle.collector.specs.Answer.{Outcome}
 use Rattle.collector.specs.Collected.{freshRecord}
 use Rattle.collector.specs.declared.Record.{Record}
 use Rattle.history.specs.History.{historyOf}
 use Rattle.history.specs.Run.{Collector, Promised, Call, inputOf, Run, toldBy}
-use Rattle.history.specs.Demand3.{takenBy, OverRuns, RefusedExactlyIf, TakenExactlyIf, CountersAreFates, DeliveredInOrder}
+use Rattle.history.specs.Demand3.{takenByRule, OverRuns, RefusedExactlyIf, TakenExactlyIf, CountersAreFates, DeliveredInOrder}
 
 module _ (C : Collector) where
   -- "It has the PID, the last counter or none, the bytes in hand, five 32-bit counters": the first two
   abbrev pub RecordTells : Type 0
   RecordTells = OverRuns C (λ pid hold calls r hold′.
-      (r .pid ≡ pid) × (beforeOf r ≡ historyOf (takenBy pid hold calls) .before))
+      (r .pid ≡ pid) × (beforeOf r ≡ historyOf delivers (takenByRule pid hold calls) .before))
 
   -- "Out gets the finished sections .. Hold begins with the bytes in hand. Bytes of either beyond that stay."
   abbrev pub BeyondStays : Type 0

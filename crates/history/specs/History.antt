@@ -4,8 +4,9 @@ use mathlib.Core.Path.{_≡_}
 use mathlib.Core.List.{List, [], _∷_, _++_, map}
 use Prim.Native.Nat.{ℕ, _+_, _%_, _≤_, _<_}
 use lib.ListN.{length, getD}
-use Rattle.collector.specs.Each.{Each}
-use Rattle.collector.specs.Rules.{Story, holding, Before, noneBefore, Carried, handsOn, takenIn}
+use Rattle.wire.specs.Each.{Each}
+use Rattle.packet.specs.Ruling.{Before, noneBefore, Carried, handsOn}
+use Rattle.collector.specs.Rules.{Kind, Story, holding, storyAfter}
 
 pub record Byte : Type 0 where
   pub packet : ℕ
@@ -30,20 +31,22 @@ unbegun = record { before = noneBefore; packets = 0; story = holding [] }
 abbrev pub numberedIn : ℕ → Carried ℕ → Carried Byte
 numberedIn k q = record { counter = q .counter; start = q .start; bytes = numbered k (q .bytes) }
 
--- "Fates then, as they stand after the packets so far"
-abbrev pub after : History → Carried ℕ → History
-after h q = record {
-  before = handsOn q;
-  packets = h .packets + 1;
-  story = takenIn valueOf (h .before) (h .story) (numberedIn (h .packets) q);
-}
+-- whatever a whole section comes to
+module _ (comes : List ℕ → Kind) where
+  -- "Fates then, as they stand after the packets so far"
+  abbrev pub historyAfter : History → Carried ℕ → History
+  historyAfter h q = record {
+    before = handsOn q;
+    packets = h .packets + 1;
+    story = storyAfter comes valueOf (h .before) (h .story) (numberedIn (h .packets) q);
+  }
 
-abbrev pub historyFrom : History → List (Carried ℕ) → History
-historyFrom h [] = h
-historyFrom h (q ∷ qs) = historyFrom (after h q) qs
+  abbrev pub historyFrom : History → List (Carried ℕ) → History
+  historyFrom h [] = h
+  historyFrom h (q ∷ qs) = historyFrom (historyAfter h q) qs
 
-abbrev pub historyOf : List (Carried ℕ) → History
-historyOf qs = historyFrom unbegun qs
+  abbrev pub historyOf : List (Carried ℕ) → History
+  historyOf qs = historyFrom unbegun qs
 
 -- "every payload byte of the packets taken so far", packet after packet, from packet number k on
 abbrev pub payloadsFrom : ℕ → List (Carried ℕ) → List Byte

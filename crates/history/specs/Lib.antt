@@ -8,3 +8,4 @@ pub mod Fixed
 pub mod OutRoom
 pub mod WrongCollectors
 pub mod AtWork
+pub mod OtherEnds

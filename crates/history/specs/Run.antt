@@ -8,11 +8,13 @@ use Prim.Native.Nat.{ℕ, zero, suc}
 use lib.ListN.{length, take, drop}
 use lib.Dec.{ltb, eqb}
 use Rattle.wire.specs.If.{if_then_else_}
-use Rattle.collector.specs.Each.{Each}
-use Rattle.collector.specs.Packet.{startFlag, control, counterOf, payloadFrom}
-use Rattle.collector.specs.Rules.{totalOf, Before, Carried, handsOn}
-use Rattle.collector.specs.Refusals.{refusals, repeats, Ruling, carriedIn, ruling}
-use Rattle.collector.specs.Refusals as Refusals
+use Rattle.wire.specs.Each.{Each}
+use Rattle.packet.specs.Header.{startFlag, control, counterOf, payloadFrom}
+use Rattle.wire.specs.Sections.{totalOf}
+use Rattle.packet.specs.Ruling.{Before, Carried, handsOn, repeats, Ruling, loadOf, ruling}
+use Rattle.packet.specs.Refusals.{refusals}
+use Rattle.packet.specs.Ruling as Ruled
+use Rattle.collector.specs.Refusals.{tooSmall}
 use Rattle.collector.specs.Answer.{Told, Outcome}
 use Rattle.collector.specs.Answer as Answer
 use Rattle.collector.specs.Collected.{collected}
@@ -71,22 +73,22 @@ fareOf Answer.repeated = repeated
 fareOf (Answer.taken sections bytes) = taken
 
 abbrev pub ruledFare : Ruling → Fare
-ruledFare (Refusals.refused n) = refused n
-ruledFare Refusals.repeated = repeated
-ruledFare Refusals.bare = taken
-ruledFare (Refusals.takes q) = taken
+ruledFare (Ruled.refused n) = refused n
+ruledFare Ruled.repeated = repeated
+ruledFare Ruled.bare = taken
+ruledFare (Ruled.takes q) = taken
 
 -- "the packets taken", by what the answers say: of each that has payload its counter, its start flag and its payload
-abbrev pub carriedIf : Fare → List ℕ → List (Carried ℕ)
-carriedIf (refused n) packet = []
-carriedIf repeated packet = []
-carriedIf taken packet =
+abbrev pub ifSaidTaken : Fare → List ℕ → List (Carried ℕ)
+ifSaidTaken (refused n) packet = []
+ifSaidTaken repeated packet = []
+ifSaidTaken taken packet =
     if eqb (control packet) 2 then []
-    else carriedIn packet (payloadFrom packet) (startFlag packet) (counterOf packet) ∷ []
+    else loadOf packet (payloadFrom packet) (startFlag packet) (counterOf packet) ∷ []
 
-abbrev pub takenOf : List Call → List (Carried ℕ)
-takenOf [] = []
-takenOf (k ∷ ks) = carriedIf (fareOf (k .said)) (k .packet) ++ takenOf ks
+abbrev pub saidTaken : List Call → List (Carried ℕ)
+saidTaken [] = []
+saidTaken (k ∷ ks) = ifSaidTaken (fareOf (k .said)) (k .packet) ++ saidTaken ks
 
 -- of a call, the packet and the size of the out room
 pub record Lent : Type 0 where
@@ -98,38 +100,38 @@ lentOf k = record { packet = k .packet; room = length (k .out) }
 
 -- what counts for the next packet
 abbrev pub beforeAfter : Before → Ruling → Before
-beforeAfter before (Refusals.refused n) = before
-beforeAfter before Refusals.repeated = before
-beforeAfter before Refusals.bare = before
-beforeAfter before (Refusals.takes q) = handsOn q
+beforeAfter before (Ruled.refused n) = before
+beforeAfter before Ruled.repeated = before
+beforeAfter before Ruled.bare = before
+beforeAfter before (Ruled.takes q) = handsOn q
 
-abbrev pub carriedBy : Ruling → List (Carried ℕ)
-carriedBy (Refusals.refused n) = []
-carriedBy Refusals.repeated = []
-carriedBy Refusals.bare = []
-carriedBy (Refusals.takes q) = q ∷ []
+abbrev pub ruledIn : Ruling → List (Carried ℕ)
+ruledIn (Ruled.refused n) = []
+ruledIn Ruled.repeated = []
+ruledIn Ruled.bare = []
+ruledIn (Ruled.takes q) = q ∷ []
 
 module _ (pid size : ℕ) where
   -- a run's record can stand exactly if its PID is one
   abbrev pub rulingOn : Before → Lent → Ruling
-  rulingOn before x = ruling (ltb 8191 pid) pid before size (x .room) (x .packet)
+  rulingOn before x = ruling (tooSmall size (x .room)) (ltb 8191 pid) pid before (x .packet)
 
   -- how each packet of a run fares, and the packets taken that have payload
   abbrev pub faresFrom : Before → List Lent → List Fare
   faresFrom before [] = []
   faresFrom before (x ∷ xs) = ruledFare (rulingOn before x) ∷ faresFrom (beforeAfter before (rulingOn before x)) xs
 
-  abbrev pub takenFrom : Before → List Lent → List (Carried ℕ)
-  takenFrom before [] = []
-  takenFrom before (x ∷ xs) = carriedBy (rulingOn before x) ++ takenFrom (beforeAfter before (rulingOn before x)) xs
+  abbrev pub ruledTaken : Before → List Lent → List (Carried ℕ)
+  ruledTaken before [] = []
+  ruledTaken before (x ∷ xs) = ruledIn (rulingOn before x) ++ ruledTaken (beforeAfter before (rulingOn before x)) xs
 
   -- "neither refused": no row of the table applies
   abbrev pub NotRefused : Lent → Type 0
-  NotRefused x = Each (λ row. row .applies ≡ false) (refusals (ltb 8191 pid) pid size (x .room) (x .packet))
+  NotRefused x = Each (λ row. row .applies ≡ false) (refusals (tooSmall size (x .room)) (ltb 8191 pid) pid (x .packet))
 
 -- "nor, by document 01's rule, repeated": control 10, or another counter than the last
-abbrev pub NotRepeated : Before → Lent → Type 0
-NotRepeated before x = (control (x .packet) ≡ 2) ⊎ (repeats before (counterOf (x .packet)) ≡ false)
+abbrev pub NotRepeated : Before → List ℕ → Type 0
+NotRepeated before packet = (control packet ≡ 2) ⊎ (repeats before (counterOf packet) ≡ false)
 
 -- ---- the sections that a call hands out: so many, cut off the front of the out room's bytes by their own headers
 

@@ -4,7 +4,7 @@ use mathlib.Core.List.{List, [], _∷_, _++_}
 use Prim.Native.Nat.{ℕ, _+_, _%_, _^_}
 use lib.ListN.{replicate}
 use Rattle.wire.specs.If.{if_then_else_}
-use Rattle.collector.specs.Packet.{counterOf}
+use Rattle.packet.specs.Header.{counterOf}
 use Rattle.collector.specs.Rules.{filler, done, sameKind}
 use Rattle.collector.specs.Answer.{Outcome, refused, repeated, taken}
 use Rattle.collector.specs.Collected.{bytesCounted, recordWith, unaltered, collected}

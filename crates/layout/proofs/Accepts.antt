@@ -230,7 +230,7 @@ module _ (h : ℕ) (b : List ℕ) where
         }
 
   -- two texts are read exactly if the body is h bytes and the two, each after its length
-  pub texts-exactly : (t : TwoTexts) → twoTexts h b ≡ value t ↔ Texted h b t
+  pub texts-exactly : (t : TwoTexts) → twoTexts b h ≡ value t ↔ Texted h b t
   unfolding twoTexts
   texts-exactly t = (
     let a : ℕ = getD b h 0 in
@@ -239,7 +239,7 @@ module _ (h : ℕ) (b : List ℕ) where
         (λ l e. subst (Texted h b) (value-is e) (texted a n refl refl (eqb-true (length b) (h + 2 + a + n) l)))
         (λ l e. absurd (never (sym e))),
     λ x.
-        ap₂ twoTexts (sym (x .size)) (x .filled)
+        ap₂ twoTexts (x .filled) (sym (x .size))
         ∙ texts-if (x .head) (x .first) (x .second)
         ∙ ap value
         (ap (λ j.

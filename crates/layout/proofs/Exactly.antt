@@ -73,7 +73,7 @@ module _ (h : ℕ) (s : List ℕ) where
         (part-front (drop 2 s) (h + 1) a
         ∙ ap₂ _++_ (sym (part-at s (h + 1) a)) (cons-at (drop 2 s) (h + 1 + a) (omega arith) ∙ ap₂ _∷_ second last)))
 
-  pub texts-are : (t : TwoTexts) → twoTexts h (drop 2 s) ≡ value t → Filled h s t
+  pub texts-are : (t : TwoTexts) → twoTexts (drop 2 s) h ≡ value t → Filled h s t
   unfolding twoTexts
   texts-are t =
       let b : List ℕ = drop 2 s in
@@ -85,7 +85,7 @@ module _ (h : ℕ) (s : List ℕ) where
 
 -- such a body is read, and the texts are those
 pub texts-if : (head x y : List ℕ)
-    → twoTexts (length head) (head ++ (length x ∷ (x ++ (length y ∷ y))))
+    → twoTexts (head ++ (length x ∷ (x ++ (length y ∷ y)))) (length head)
     ≡ value (record {
       first = partAt (length head + 1) (length x);
       second = partAt (length head + 2 + length x) (length y);

@@ -20,8 +20,8 @@ use Rattle.layout.specs.declared.body.Body.{Body}
 use Rattle.layout.specs.declared.body.Body.the-variants.{Fits, Refused as body-refused}
 use Rattle.layout.specs.declared.items.Count.{Count}
 use Rattle.layout.specs.declared.items.Count.the-variants.{Items, Refused as count-refused}
-use Rattle.layout.specs.declared.items.Place.{Place}
-use Rattle.layout.specs.declared.items.Place.the-variants.{At, Refused as place-refused}
+use Rattle.layout.specs.declared.items.ItemPlace.{ItemPlace}
+use Rattle.layout.specs.declared.items.ItemPlace.the-variants.{At, Refused as place-refused}
 use Rattle.layout.specs.declared.digits.Number.{Number}
 use Rattle.layout.specs.declared.digits.Number.the-variants.{Is, Refused as number-refused}
 use Rattle.layout.specs.declared.texts.Texts.{Texts}
@@ -66,7 +66,7 @@ count-once =
     answer-once toldCount Items count-refused numbered (λ a. refl) (λ w. refl)
     (λ P f g r. elim r [ Items a ↦ f a | count-refused w ↦ g w ]) refusal-once
 
-pub place-once : (p q : Place) → toldPlace p ≡ toldPlace q → p ≡ q
+pub place-once : (p q : ItemPlace) → toldPlace p ≡ toldPlace q → p ≡ q
 place-once =
     answer-once toldPlace At place-refused numbered (λ a. refl) (λ w. refl)
     (λ P f g r. elim r [ At a ↦ f a | place-refused w ↦ g w ]) refusal-once

@@ -3,11 +3,11 @@ use mathlib.Core.Path.{_≡_, refl, sym, ap, ap₂, _∙_, subst}
 use mathlib.Core.Bool.{Bool, true, false}
 use mathlib.Core.List.{List, [], _∷_}
 use Prim.Native.Nat.{ℕ, zero, suc, _+_, _-_, _*_, _/_, _%_, _^_, _<_, _≤_}
-use native.Mathlib.Nat.{mod-eq-of-lt, mod-lt}
+use native.Mathlib.Nat.{mod-eq-of-lt}
 use native.Mathlib.Omega.{arith}
 use borrow.Author.Tests.{eqb-true, eqb-false}
 use lib.Dec.{eqb}
-use lib.Pow.{pow-add, pow-pos, shr-lt, shr-mod, field, mod-mod-pow}
+use lib.Pow.{shr-lt}
 use lib.ListN.{length, getD}
 use Rattle.wire.specs.Bytes.{Bytes}
 use Rattle.wire.specs.Number.{number, numberAt}
@@ -16,7 +16,8 @@ use Rattle.wire.specs.Digits.{bcdOf, bcdShow}
 use Rattle.wire.proofs.Decimal.{bcd-below}
 use Rattle.wire.proofs.Shown.{bcd-shown, bcd-of-shown}
 use Rattle.forms.proofs.Lawful.{bytes-front, bytes-behind}
-use Rattle.forms.specs.Fields.{Field, width, room, unpack}
+use Rattle.forms.proofs.BitLaws.{slices, unpack-slices}
+use Rattle.forms.specs.Fields.{Field, width, unpack}
 use Rattle.wire.specs.Reading.{value}
 use Rattle.layout.specs.Widths.{bits, keptOf, keptIn, bit, size, Holds, HoldsItem}
 use Rattle.layout.specs.Body.{fixed}
@@ -34,39 +35,6 @@ abbrev pub spans : ℕ → List Field → List ℕ → List ℕ
 spans o [] b = []
 spans o (f ∷ fs) b = span o (width f) b ∷ spans (o + width f) fs b
 
-pub room-is : (fs : List Field) → room fs ≡ 2 ^ bits fs
-unfolding room
-room-is [] = refl
-room-is (f ∷ fs) = ap (λ r. 2 ^ width f * r) (room-is fs) ∙ sym (pow-add 2 (width f) (bits fs))
-
--- the w bits of x above the r lowest do not rest on what stands above them
-slice-below : (x t r w : ℕ) → r + w ≤ t → (x % 2 ^ t) / 2 ^ r % 2 ^ w ≡ x / 2 ^ r % 2 ^ w
-slice-below x t r w h =
-    let e : t ≡ t - r - w + w + r = omega arith in
-    ap (λ y. x % 2 ^ y / 2 ^ r % 2 ^ w) e
-    ∙ ap (λ y. y % 2 ^ w) (field x (t - r - w + w) r)
-    ∙ mod-mod-pow (x / 2 ^ r) (t - r - w) w
-
--- the fields of a number, each by the bits behind it
-slices : ℕ → List Field → List ℕ
-slices x [] = []
-slices x (f ∷ fs) = (x / 2 ^ bits fs % 2 ^ width f) ∷ slices x fs
-
-slices-below : (fs : List Field) (x t : ℕ) → bits fs ≤ t → slices (x % 2 ^ t) fs ≡ slices x fs
-unfolding slices
-slices-below [] x t h = refl
-slices-below (f ∷ fs) x t h =
-    ap₂ _∷_ (slice-below x t (bits fs) (width f) (omega arith)) (slices-below fs x t (omega arith))
-
-unpack-slices : (fs : List Field) (x : ℕ) → x < 2 ^ bits fs → unpack fs x ≡ slices x fs
-unfolding unpack slices
-unpack-slices [] x h = refl
-unpack-slices (f ∷ fs) x h =
-    ap₂ _∷_ (ap (λ r. x / r) (room-is fs) ∙ sym (shr-mod (width f) (bits fs) h))
-    (ap (λ r. unpack fs (x % r)) (room-is fs)
-    ∙ unpack-slices fs (x % 2 ^ bits fs) (mod-lt x (pow-pos (bits fs)))
-    ∙ slices-below fs x (bits fs) (omega arith))
-
 module _ (b : List ℕ) (bytes : Bytes b) where
   -- a field with o bits in front of it and r behind
   slice-span : (o w r : ℕ) → o + w + r ≡ 8 * length b → number b / 2 ^ r % 2 ^ w ≡ span o w b
@@ -80,7 +48,6 @@ module _ (b : List ℕ) (bytes : Bytes b) where
       ap (λ y. number b / 2 ^ y % 2 ^ w) q ∙ bits-in-number b bytes n i k l m w (omega arith)
 
   slices-spans : (fs : List Field) (o : ℕ) → o + bits fs ≡ 8 * length b → slices (number b) fs ≡ spans o fs b
-  unfolding slices
   slices-spans [] o e = refl
   slices-spans (f ∷ fs) o e =
       ap₂ _∷_ (slice-span o (width f) (bits fs) (omega arith)) (slices-spans fs (o + width f) (omega arith))
@@ -113,16 +80,16 @@ module _ (b : List ℕ) (bytes : Bytes b) where
 
   module _ (n i x : ℕ) (most : n ≤ 8) (inside : i + 4 ≤ length b) where
     -- digits that are read are what their number shows, and what a number shows is read
-    pub digits-shown : digitsAt n b i ≡ value x → (span (8 * i) (4 * n) b ≡ bcdShow n x) × (x < 10 ^ n)
+    pub digits-shown : digitsAt b i n ≡ value x → (span (8 * i) (4 * n) b ≡ bcdShow n x) × (x < 10 ^ n)
     unfolding digitsAt
     digits-shown e = (
       digits-span n i most inside ∙ sym (bcd-shown n (numberAt 4 b i / 2 ^ (4 * (8 - n))) x (digits-below n i most) e),
       bcd-below n (numberAt 4 b i / 2 ^ (4 * (8 - n))) x e,
     )
 
-    pub digits-read : span (8 * i) (4 * n) b ≡ bcdShow n x → x < 10 ^ n → digitsAt n b i ≡ value x
+    pub digits-read : span (8 * i) (4 * n) b ≡ bcdShow n x → x < 10 ^ n → digitsAt b i n ≡ value x
     unfolding digitsAt
-    digits-read e h = ap (bcdOf n) (sym (digits-span n i most inside) ∙ e) ∙ bcd-of-shown n x h
+    digits-read e h = ap (λ v. bcdOf v n) (sym (digits-span n i most inside) ∙ e) ∙ bcd-of-shown n x h
 
 -- a flag that is read is its bit
 pub flag : (x : ℕ) → x % 2 ≡ bit (eqb (x % 2) 1)

@@ -9,8 +9,8 @@ use Rattle.layout.specs.declared.digits.Number.{Number}
 use Rattle.layout.specs.declared.digits.Number.the-variants.{Is, Refused}
 
 -- n digits: the first of the eight that stand in the four bytes at a place
-unfoldable pub digitsAt : ℕ → List ℕ → ℕ → Answered ℕ
-digitsAt n body at = bcdOf n (numberAt 4 body at / 2 ^ (4 * (8 - n)))
+unfoldable pub digitsAt : List ℕ → ℕ → ℕ → Answered ℕ
+digitsAt body at n = bcdOf (numberAt 4 body at / 2 ^ (4 * (8 - n))) n
 
 -- document 01's number for every answer
 abbrev pub told : Number → Answered ℕ

@@ -10,8 +10,8 @@ use Rattle.layout.specs.Refusal.{numbered}
 use Rattle.layout.specs.Body.{framed, fit}
 use Rattle.layout.specs.declared.items.Count.{Count}
 use Rattle.layout.specs.declared.items.Count.the-variants.{Items, Refused}
-use Rattle.layout.specs.declared.items.Place.{Place}
-use Rattle.layout.specs.declared.items.Place.the-variants as answer
+use Rattle.layout.specs.declared.items.ItemPlace.{ItemPlace}
+use Rattle.layout.specs.declared.items.ItemPlace.the-variants as answer
 
 -- 62, "body doesn't fit the layout exactly": its size is no multiple of k
 unfoldable pub items : ℕ → ℕ → List ℕ → Answered (List ℕ)
@@ -36,6 +36,6 @@ toldCount (Items n) = value n
 toldCount (Refused why) = refused (numbered why)
 
 -- and of a place
-abbrev pub toldPlace : Place → Answered ℕ
+abbrev pub toldPlace : ItemPlace → Answered ℕ
 toldPlace (answer.At at) = value at
 toldPlace (answer.Refused why) = refused (numbered why)

@@ -13,8 +13,8 @@ use Rattle.layout.specs.declared.texts.Texts.{Texts}
 use Rattle.layout.specs.declared.texts.Texts.the-variants.{Are, DoNotFit}
 
 -- a body of h bytes, then a length a and a bytes of text, then a length n and n bytes of text, and nothing after
-unfoldable pub twoTexts : ℕ → List ℕ → Answered TwoTexts
-twoTexts h body =
+unfoldable pub twoTexts : List ℕ → ℕ → Answered TwoTexts
+twoTexts body h =
     let a = getD body h 0 in
     let n = getD body (h + 1 + a) 0 in
     if eqb (length body) (h + 2 + a + n) then value (record { first = partAt (h + 1) a; second = partAt (h + 2 + a) n })

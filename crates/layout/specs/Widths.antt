@@ -7,15 +7,11 @@ use mathlib.Core.List.{List, [], _∷_}
 use lib.ListN.{length, getD, take}
 use Rattle.wire.specs.Number.{number, numberAt, bitsAt}
 use Rattle.forms.specs.Fields.{Field, kept, reserved, width, unpack}
+pub use Rattle.forms.specs.Fields.{bits}
 use Rattle.clock.specs.Fault.{Answered}
 use Rattle.layout.specs.Field.{digitsAt}
 use Rattle.layout.specs.Shapes.{Framed, Itemed, Texted}
 use Rattle.layout.specs.declared.texts.TwoTexts.{TwoTexts}
-
--- the bits of all fields
-abbrev pub bits : List Field → ℕ
-bits [] = 0
-bits (f ∷ fs) = width f + bits fs
 
 -- the bytes that they fill
 abbrev pub size : List Field → ℕ
@@ -37,7 +33,7 @@ place fs i = before fs i / 8
 
 -- a field of some bits of one byte
 abbrev pub bitsOf : List Field → ℕ → List ℕ → ℕ
-bitsOf fs i b = bitsAt (7 - before fs i % 8) (8 - before fs i % 8 - widthOf fs i) b (place fs i)
+bitsOf fs i b = bitsAt b (place fs i) (7 - before fs i % 8) (8 - before fs i % 8 - widthOf fs i)
 
 -- a field that is one byte
 abbrev pub byteOf : List Field → ℕ → List ℕ → ℕ
@@ -49,7 +45,7 @@ numberOf fs i b = numberAt (widthOf fs i / 8) b (place fs i)
 
 -- a field of BCD digits, the first of them the high half of a byte
 abbrev pub digitsOf : List Field → ℕ → List ℕ → Answered ℕ
-digitsOf fs i b = digitsAt (widthOf fs i / 4) b (place fs i)
+digitsOf fs i b = digitsAt b (place fs i) (widthOf fs i / 4)
 
 -- the values of the fields that are kept
 abbrev pub keptOf : List Field → List ℕ → List ℕ

@@ -21,7 +21,7 @@ fn left_over(n: u32) -> u32
 
 // The number whose first of n digits is the high half of the byte at a place. At most eight digits are there.
 pub fn digits_at(b: &[u8], at: usize, n: u32) -> Number
-    ensures { λ r. ⌜ told r ≡ digitsAt n (now (b .entry)) at ⌝ }
+    ensures { λ r. ⌜ told r ≡ digitsAt (now (b .entry)) at n ⌝ }
 {
     let v = number32_at(b, at) as u64 >> (4 * left_over(n));
     match bcd(v as u32, n) {

@@ -15,7 +15,7 @@ pub enum Count {
 }
 
 // Where an item starts, counted from the tag as 0.
-pub enum Place {
+pub enum ItemPlace {
     At(usize),
     Refused(Refusal),
 }
@@ -56,15 +56,15 @@ pub fn number_of(s: &[u8], tag: u8, k: usize) -> Count
 }
 
 // The item of an index counted from 0.
-pub fn item_at(s: &[u8], tag: u8, k: usize, index: usize) -> Place
+pub fn item_at(s: &[u8], tag: u8, k: usize, index: usize) -> ItemPlace
     ensures { λ r. ⌜ toldPlace r ≡ place k tag (now (s .entry)) index ⌝ }
 {
     match whole(s, tag, k) {
-        Body::Refused(why) => Place::Refused(why),
+        Body::Refused(why) => ItemPlace::Refused(why),
         Body::Fits => if index < quotient(size(s), k) {
-            Place::At(2 + k * index)
+            ItemPlace::At(2 + k * index)
         } else {
-            Place::Refused(Refusal::PastEnd)
+            ItemPlace::Refused(Refusal::PastEnd)
         },
     }
 }

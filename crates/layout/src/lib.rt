@@ -1,4 +1,5 @@
-// What the layouts of descriptors share: the tag and the length in front, bodies of a fixed size, lists of items of one size, texts, BCD fields.
+// What the layouts of descriptors share: the tag and the length in front, bodies of a fixed size, lists of items of one
+// size, texts, BCD fields.
 ghost use mathlib.Core.Path.{_≡_};
 ghost use Rattle.layout.specs.Refusal.{bytesOf};
 use clock::Fault;

@@ -18,7 +18,7 @@ pub enum Texts {
 
 // A body of h bytes and two texts.
 pub fn two_texts(b: &[u8], h: u8) -> Texts
-    ensures { λ r. ⌜ told r ≡ twoTexts h (now (b .entry)) ⌝ }
+    ensures { λ r. ⌜ told r ≡ twoTexts (now (b .entry)) h ⌝ }
 {
     let h = wide(h);
     let a = wide(byte_at(b, h));

@@ -1,4 +1,5 @@
--- An item is read exactly if the bytes are the tag, the length and items, and the fields of that item, in the order of the table, have its values.
+-- An item is read exactly if the bytes are the tag, the length and items, and the fields of that item, in the order of
+-- the table, have its values.
 use Prim.Native.Nat.{ℕ, _*_, _<_}
 use mathlib.Core.Path.{_≡_, refl, sym, ap, _∙_, subst}
 use mathlib.Core.Logic.{_↔_}
@@ -116,7 +117,7 @@ module _ (s : List ℕ) (bytes : Bytes s) (i : ℕ) where
 
 module _ (b : List ℕ) (bytes : Bytes b) (x : Offset) where
   abbrev Polarity : Bool
-  Polarity = eqb (bitsAt 0 0 b 3) 1
+  Polarity = eqb (bitsAt b 3 0 0) 1
 
   abbrev Placed : Bool → Offset → Type 0
   Placed behind y = offsets.Right behind y × (keptOf offsets.layout (spans 0 offsets.layout b) ≡ offsets.shown behind y)
@@ -144,9 +145,9 @@ module _ (b : List ℕ) (bytes : Bytes b) (x : Offset) where
   offsets-read behind (right, e) =
       let of : ℕ → List ℕ → ℕ = λ i vs. getD vs i 0 in
       let country : numberAt 3 b 0 ≡ x .«country_code» = sym (whole-span b bytes 3 0) ∙ ap (of 0) e in
-      let region : bitsAt 7 2 b 3 ≡ x .«country_region_id» = ap (of 1) e in
-      let bit-is : bitsAt 0 0 b 3 ≡ bit behind = ap (of 2) e in
-      let polarity : eqb (bitsAt 0 0 b 3) 1 ≡ behind = ap (λ n. eqb n 1) bit-is ∙ bit-read behind in
+      let region : bitsAt b 3 7 2 ≡ x .«country_region_id» = ap (of 1) e in
+      let bit-is : bitsAt b 3 0 0 ≡ bit behind = ap (of 2) e in
+      let polarity : eqb (bitsAt b 3 0 0) 1 ≡ behind = ap (λ n. eqb n 1) bit-is ∙ bit-read behind in
       let local = sym (whole-span b bytes 2 4) ∙ ap (of 3) e in
       let change = sym (whole-span b bytes 5 6) ∙ ap (of 4) e in
       let next = sym (whole-span b bytes 2 11) ∙ ap (of 5) e in

@@ -8,7 +8,7 @@ ghost use Rattle.lists.specs.LocalTimeOffset.{offsetAt, timeAt, fields, 
 use clock::time::Moment;
 use layout::Refusal;
 use layout::items::Count;
-use layout::items::Place;
+use layout::items::ItemPlace;
 use layout::items::item_at;
 use layout::items::number_of;
 use wire::numbers::bits_at;
@@ -91,7 +91,7 @@ pub fn read(s: &[u8], index: usize) -> Answer
     ensures { λ r. ⌜ told r ≡ localTimeOffset (now (s .entry)) index ⌝ }
 {
     match item_at(s, 0x58, 13, index) {
-        Place::Refused(why) => Answer::Refused(why),
-        Place::At(at) => fields_of(part(s, at, 13)),
+        ItemPlace::Refused(why) => Answer::Refused(why),
+        ItemPlace::At(at) => fields_of(part(s, at, 13)),
     }
 }

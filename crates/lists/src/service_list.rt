@@ -4,7 +4,7 @@ ghost use Rattle.layout.specs.Items.{toldCount};
 ghost use Rattle.lists.specs.ServiceList.{fields, serviceList, serviceCount, told};
 use layout::Refusal;
 use layout::items::Count;
-use layout::items::Place;
+use layout::items::ItemPlace;
 use layout::items::item_at;
 use layout::items::number_of;
 use wire::numbers::byte_at;
@@ -42,7 +42,7 @@ pub fn read(s: &[u8], index: usize) -> Answer
     ensures { λ r. ⌜ told r ≡ serviceList (now (s .entry)) index ⌝ }
 {
     match item_at(s, 0x41, 3, index) {
-        Place::Refused(why) => Answer::Refused(why),
-        Place::At(at) => Answer::Is(fields_of(part(s, at, 3))),
+        ItemPlace::Refused(why) => Answer::Refused(why),
+        ItemPlace::At(at) => Answer::Is(fields_of(part(s, at, 3))),
     }
 }

@@ -1,5 +1,5 @@
--- Demand 2, "A descriptor handed out is that part of the caller's bytes": of what `next`, `step_from` and `descriptor` promise, from any place of any
--- loop, also before a fault.
+-- Demand 2, "A descriptor handed out is that part of the caller's bytes": of what `next`, `step_from` and `descriptor`
+-- promise, from any place of any loop, also before a fault.
 use Prim.Native.Nat.{ℕ, _+_, _-_, _≤_}
 use mathlib.Core.Path.{_≡_, refl, ap, subst, _∙_}
 use mathlib.Core.List.{List, _∷_, _++_}
@@ -45,7 +45,8 @@ step-hands l a = go (stepAt l a) (view l a)
         })
 
 -- A STEP of `next` or `step_from`, and what `descriptor` hands out for it
-pub walk-hands : {l : List ℕ} {a b : ℕ} (s : Step) (out : List ℕ) → Steps l a s b → out ≡ descriptorOf l (toldStep s) → HandsOut l a (toldStep s) out b
+pub walk-hands : {l : List ℕ} {a b : ℕ} (s : Step) (out : List ℕ) → Steps l a s b → out ≡ descriptorOf l (toldStep s)
+    → HandsOut l a (toldStep s) out b
 walk-hands {l} {a} s out x o = rw (o, x .gives, x .moves) (step-hands l a)
 
 -- a part ends in the list
@@ -58,7 +59,8 @@ module _ (l : List ℕ) where
   UpTo a x c = Part l a x × (c ≡ a + length x)
 
   -- one step more in front
-  onward : {a b c : ℕ} (g : Gives) (out x : List ℕ) → a ≤ length l → HandsOut l a g out b → (b ≤ length l → UpTo b x c) → UpTo a (out ++ x) c
+  onward : {a b c : ℕ} (g : Gives) (out x : List ℕ) → a ≤ length l → HandsOut l a g out b → (b ≤ length l → UpTo b x c)
+      → UpTo a (out ++ x) c
   onward {c = c} theEnd out x h (e, f) ih = rw e (rw f at (ih (rw f h)))
   onward {c = c} (refusing k p) out x h (e, f) ih = rw e (rw f at (ih (rw f h)))
   onward {a} {b} (descriptor t p n) out x h e ih =
@@ -70,4 +72,5 @@ module _ (l : List ℕ) where
   pub hands-all : {a c : ℕ} {gs : List Gives} {outs : List (List ℕ)} → a ≤ length l → Walks l a gs outs c
       → Part l a (joined outs) × (c ≡ a + length (joined outs))
   hands-all h (none a) = (part-at l a 0 h, omega arith)
-  hands-all h (one {s = s} {out = out} {outs = outs} x o w) = onward (toldStep s) out (joined outs) h (walk-hands s out x o) (λ i. hands-all i w)
+  hands-all h (one {s = s} {out = out} {outs = outs} x o w) =
+      onward (toldStep s) out (joined outs) h (walk-hands s out x o) (λ i. hands-all i w)

@@ -4,5 +4,5 @@ pub mod InLoop
 pub mod Standing
 pub mod WholeWalk
 pub mod HandedOut
-pub mod Once
+pub mod Unique
 pub mod Tied

@@ -71,7 +71,8 @@ unfolding stepAt
 view l a =
     if-case (View l a) (eqb a (length l))
     (λ h. ending (eqb-true _ _ h))
-    (λ h. if-case (View l a) (leb (a + 2 + getD l (a + 1) 0) (length l)) (λ g. whole (leb-true _ _ g)) (λ g. cut (eqb-false _ _ h) (leb-false _ _ g)))
+    (λ h. if-case (View l a) (leb (a + 2 + getD l (a + 1) 0) (length l)) (λ g. whole (leb-true _ _ g))
+    (λ g. cut (eqb-false _ _ h) (leb-false _ _ g)))
 
 -- a descriptor's successor stands behind it, and not behind the loop's end
 pub step-on : (l : List ℕ) (a t b n : ℕ) → stepAt l a ≡ descriptor t b n → (a < b + n) × (b + n ≤ length l) × (b ≡ a + 2)
@@ -104,7 +105,9 @@ by-step l a f = go (stepAt l a) (view l a)
         ∙ ap (λ x. before (placed a (getD l a 0) (take n (drop (a + 2) l))) (descriptors (a + 2 + n) x)) (drop-drop n (a + 2) l)
 
     short : Dec (a + 2 ≤ length l) → (a ≡ length l → ⊥) → length l < a + 2 + n → descriptors a (drop a l) ≡ ended (refused 9 a)
-    short (yes i) h g = ap (descriptors a) (two-front l a i) ∙ descriptors-past a (getD l a 0) n (drop (a + 2) l) (simp length-drop (omega arith))
+    short (yes i) h g =
+        ap (descriptors a) (two-front l a i)
+        ∙ descriptors-past a (getD l a 0) n (drop (a + 2) l) (simp length-drop (omega arith))
     short (no i) h g =
         ap (descriptors a) (drop-cons l a 0 (omega arith) ∙ ap (λ x. getD l a 0 ∷ x) (drop-of-length-le l {i = suc a} (omega arith)))
         ∙ descriptors-by a (getD l a 0 ∷ [])

@@ -1,4 +1,5 @@
--- Demand 2, "A descriptor handed out is that part of the caller's bytes": where a loop is a part of bytes, each of its descriptors is one at its place.
+-- Demand 2, "A descriptor handed out is that part of the caller's bytes": where a loop is a part of bytes, each of its
+-- descriptors is one at its place.
 use Prim.Native.Nat.{ℕ}
 use mathlib.Core.Path.{_≡_, subst}
 use mathlib.Core.List.{List, _∷_}

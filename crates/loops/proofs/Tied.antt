@@ -29,7 +29,8 @@ module _ {M : Type 1} (𝓤 : URA M) (H : Heap 𝓤) (A : Atoms 𝓤) (mem : Mem
   pub step-from-ensures : Ensures 𝓤 going.ended (going.clauses 𝓤 H A mem run) (λ κs a r ws. Steps (a .0 .now) (a .1 .0) (r .step) (r .at))
   step-from-ensures κs a g r ws = refl
 
-  pub descriptor-ensures : Ensures 𝓤 handing.ended (handing.clauses 𝓤 H A mem run) (λ κs a r ws. r .now ≡ descriptorOf (a .0 .now) (toldStep (a .1 .0)))
+  pub descriptor-ensures : Ensures 𝓤 handing.ended (handing.clauses 𝓤 H A mem run)
+      (λ κs a r ws. r .now ≡ descriptorOf (a .0 .now) (toldStep (a .1 .0)))
   descriptor-ensures κs a g r ws = refl
 
   pub over-ensures : Ensures 𝓤 starting.ended (starting.clauses 𝓤 H A mem run) (λ κs a r ws. (r .bytes ≡ a .0) × (r .at ≡ 0))

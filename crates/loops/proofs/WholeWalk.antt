@@ -56,7 +56,8 @@ stays-in l a h = go (stepAt l a) (view l a)
     go g (whole i) = i
 
 -- their answers are the descriptors of the reading, one a call, and then for ever its end
-answers-from : (l : List ℕ) {a c : ℕ} {gs : List Gives} {outs : List (List ℕ)} → a ≤ length l → Walks l a gs outs c → (k : ℕ) → k < length gs
+answers-from : (l : List ℕ) {a c : ℕ} {gs : List Gives} {outs : List (List ℕ)} → a ≤ length l → Walks l a gs outs c
+    → (k : ℕ) → k < length gs
     → getD gs k theEnd ≡ nth (descriptors a (drop a l)) k
 unfolding walkedTo
 answers-from l h (none a) k i = absurd (omega arith)
@@ -68,5 +69,6 @@ answers-from l {a} h (one {b = b} {gs = gs} s o w) (suc k) i =
     ∙ ap (λ n. stepAt l (walkedTo l n k)) (s .moves)
     ∙ walk-gives l (suc k) a h
 
-pub walk-answers : (l : List ℕ) {c : ℕ} {gs : List Gives} {outs : List (List ℕ)} → Walks l 0 gs outs c → (k : ℕ) → k < length gs → getD gs k theEnd ≡ nth (descriptors 0 l) k
+pub walk-answers : (l : List ℕ) {c : ℕ} {gs : List Gives} {outs : List (List ℕ)} → Walks l 0 gs outs c → (k : ℕ)
+    → k < length gs → getD gs k theEnd ≡ nth (descriptors 0 l) k
 walk-answers l w k i = answers-from l (omega arith) w k i

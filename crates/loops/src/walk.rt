@@ -96,7 +96,8 @@ pub fn over<'a>(bytes: &'a [u8]) -> Walk<'a>
 
 // Gives what stands at the walk's place and moves on past a descriptor; at the end, and where none can be read, it stays.
 pub fn next<'s, 'a>(walk: &'s mut Walk<'a>) -> Step
-    ensures { λ r. ⌜ Steps (now (now (walk .entry) .bytes)) (now (walk .entry) .at) r (now (walk .exit) .at) × (now (walk .exit) .bytes ≡ now (walk .entry) .bytes) ⌝ }
+    ensures { λ r. ⌜ Steps (now (now (walk .entry) .bytes)) (now (walk .entry) .at) r (now (walk .exit) .at)
+        × (now (walk .exit) .bytes ≡ now (walk .entry) .bytes) ⌝ }
 {
     let stepped = step_from(walk.bytes, walk.at);
     walk.at = stepped.at;

@@ -1,4 +1,4 @@
 -- Laws that several proofs cite, and that each promise allows one outcome.
 pub mod Smallest
 pub mod Outcomes
-pub mod Once
+pub mod Unique

@@ -11,7 +11,7 @@ use Rattle.wire.specs.Parts.{Part}
 use Rattle.wire.proofs.PartLaws.{part-second, part-taken}
 use Rattle.verdict.specs.Verdict.{Said, accepted, refused, isAccepted}
 use Rattle.loops.specs.Descriptors.{Placed}
-use Rattle.section.specs.Reading.{Reading, judged}
+use Rattle.section.specs.Reading.{LoopsRead, judged}
 use Rattle.section.specs.Grammar.{Section}
 use Rattle.section.specs.Faults.{First}
 use Rattle.search.specs.Search as search
@@ -42,7 +42,8 @@ in-cases : (tag : ℕ) (ds : List Placed) → ((d : Placed) × FirstIn tag ds d)
 in-cases tag [] = inr search.Without.none
 in-cases tag (d ∷ ds) = go (ℕ-discrete (d .tag) tag) (in-cases tag ds)
   where
-    go : Dec (d .tag ≡ tag) → ((x : Placed) × FirstIn tag ds x) ⊎ Without tag ds → ((x : Placed) × FirstIn tag (d ∷ ds) x) ⊎ Without tag (d ∷ ds)
+    go : Dec (d .tag ≡ tag) → ((x : Placed) × FirstIn tag ds x) ⊎ Without tag ds
+        → ((x : Placed) × FirstIn tag (d ∷ ds) x) ⊎ Without tag (d ∷ ds)
     go (yes e) r = inl (d, search.FirstIn.here d e)
     go (no n) (inl (x, f)) = inl (x, search.FirstIn.later d n f)
     go (no n) (inr w) = inr (more d n w)
@@ -74,7 +75,7 @@ module _ (s : List ℕ) (tag : ℕ) where
   pub section-sought : (loops : List (List Placed)) → Section s loops → sought s tag ≡ hitFrom tag 0 loops
   unfolding sought
   section-sought loops x =
-      rw (ap isAccepted (section-judged s loops x)) (ap (λ (r : Reading). hitFrom tag 0 (r .items)) (section-read s loops x))
+      rw (ap isAccepted (section-judged s loops x)) (ap (λ (r : LoopsRead). hitFrom tag 0 (r .items)) (section-read s loops x))
 
   first-sought : (k q : ℕ) → First s k q → sought s tag ≡ refusing k q
   unfolding sought
@@ -83,7 +84,8 @@ module _ (s : List ℕ) (tag : ℕ) where
   outcome-true : Claims s tag (sought s tag)
   outcome-true = go (judged s) refl (verdict-true s)
     where
-      searched : (loops : List (List Placed)) → Section s loops → ((j : ℕ) × (d : Placed) × FirstHit tag 0 loops j d) ⊎ Nowhere tag loops → Claims s tag (sought s tag)
+      searched : (loops : List (List Placed)) → Section s loops
+          → ((j : ℕ) × (d : Placed) × FirstHit tag 0 loops j d) ⊎ Nowhere tag loops → Claims s tag (sought s tag)
       searched loops x (inl (j, d, f)) = subst (Claims s tag) (sym (section-sought loops x ∙ first-from f)) (loops, d, x, f, refl, refl)
       searched loops x (inr n) = subst (Claims s tag) (sym (section-sought loops x ∙ nowhere-from 0 n)) (loops, x, n)
 
@@ -106,8 +108,10 @@ module _ (s : List ℕ) (tag : ℕ) where
   pub refused-exactly-if : (k q : ℕ) → sought s tag ≡ refusing k q ↔ First s k q
   refused-exactly-if k q = (λ e. subst (Claims s tag) e outcome-true, first-sought k q)
 
--- "0 for the top loop or the entry's number from 1": the number of a hit is the place of its loop in the list of the loops, whose first is the top loop
-pub hit-in-loop : (tag k j : ℕ) (loops : List (List Placed)) (d : Placed) → FirstHit tag k loops j d → (n : ℕ) × (j ≡ k + n) × FirstIn tag (getD loops n []) d
+-- "0 for the top loop or the entry's number from 1": the number of a hit is the place of its loop in the list of the
+-- loops, whose first is the top loop
+pub hit-in-loop : (tag k j : ℕ) (loops : List (List Placed)) (d : Placed) → FirstHit tag k loops j d
+    → (n : ℕ) × (j ≡ k + n) × FirstIn tag (getD loops n []) d
 hit-in-loop tag k j (ds ∷ loops) d (search.FirstHit.here f) = (0, omega arith, f)
 hit-in-loop tag k j (ds ∷ loops) d (search.FirstHit.later w f) = go (hit-in-loop tag (k + 1) j loops d f)
   where
@@ -120,16 +124,19 @@ in-loop : {s : List ℕ} {tag : ℕ} {ds : List Placed} {d : Placed} → Standin
 in-loop (standing.Standing.more d p h) (search.FirstIn.here x e) = p
 in-loop (standing.Standing.more d p h) (search.FirstIn.later x n f) = in-loop h f
 
-in-loops : {s : List ℕ} {tag k j : ℕ} {loops : List (List Placed)} {d : Placed} → AllStanding s loops → FirstHit tag k loops j d → Part s (d .place) (bytesOf d)
+in-loops : {s : List ℕ} {tag k j : ℕ} {loops : List (List Placed)} {d : Placed} → AllStanding s loops
+    → FirstHit tag k loops j d → Part s (d .place) (bytesOf d)
 in-loops (handed.AllStanding.more h r) (search.FirstHit.here f) = in-loop h f
 in-loops (handed.AllStanding.more h r) (search.FirstHit.later w f) = in-loops r f
 
 -- "gives the body as a part of the caller's bytes": the place and size of a hit name a part of the section, and that part is the body
-pub hit-part : (s : List ℕ) (tag k b n : ℕ) → sought s tag ≡ hit k b n → (d : Placed) × Part s b (d .body) × (n ≡ length (d .body)) × (bodyOf s (sought s tag) ≡ d .body)
+pub hit-part : (s : List ℕ) (tag k b n : ℕ) → sought s tag ≡ hit k b n
+    → (d : Placed) × Part s b (d .body) × (n ≡ length (d .body)) × (bodyOf s (sought s tag) ≡ d .body)
 hit-part s tag k b n e = go (hit-exactly-if s tag k b n .0 e)
   where
     go : Claims s tag (hit k b n) → (d : Placed) × Part s b (d .body) × (n ≡ length (d .body)) × (bodyOf s (sought s tag) ≡ d .body)
     go (loops, d, x, f, p, q) =
         let w : Part s b (d .body) =
-        subst (λ i. Part s i (d .body)) (sym p) (part-second (d .tag ∷ length (d .body) ∷ []) (d .body) (in-loops (section-stands s loops x) f)) in
+        subst (λ i. Part s i (d .body)) (sym p)
+        (part-second (d .tag ∷ length (d .body) ∷ []) (d .body) (in-loops (section-stands s loops x) f)) in
         (d, w, q, ap (bodyOf s) e ∙ ap (λ m. take m (drop b s)) q ∙ part-taken w)

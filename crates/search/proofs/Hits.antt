@@ -45,7 +45,8 @@ pub fits-within : (l : List ℕ) (next a : ℕ) → next ≤ length l → a ≤ 
 fits-within l next a h g = omega (arith, length-take-le next l h)
 
 -- a step in the loop that ends at the place `next`
-pub told-within : (l : List ℕ) (next a : ℕ) (r : Step) (t b n : ℕ) → next ≤ length l → toldStep r ≡ stepAt (take next l) a → r ≡ Descriptor t b n
+pub told-within : (l : List ℕ) (next a : ℕ) (r : Step) (t b n : ℕ) → next ≤ length l
+    → toldStep r ≡ stepAt (take next l) a → r ≡ Descriptor t b n
     → (a < b + n) × (b + n ≤ next)
 told-within l next a r t b n h e q = omega (arith, told-on (take next l) a r (Descriptor t b n) e q t b n refl, length-take-le next l h)
 
@@ -54,7 +55,8 @@ pub record Entry (l : List ℕ) (fixed p n : ℕ) : Type 0 where
   pub inside : p + fixed + n ≤ length l
   pub onward : entries fixed (p + fixed + n) (drop (p + fixed + n) l) .ends ≡ accepted
   pub first : entries fixed p (drop p l) .items
-      ≡ descriptors (p + fixed) (drop (p + fixed) (take (p + fixed + n) l)) .items ∷ entries fixed (p + fixed + n) (drop (p + fixed + n) l) .items
+      ≡ descriptors (p + fixed) (drop (p + fixed) (take (p + fixed + n) l)) .items
+      ∷ entries fixed (p + fixed + n) (drop (p + fixed + n) l) .items
 
 no-fault : (k p : ℕ) → refused k p ≡ accepted → ⊥
 no-fault k p e = let z : _≡_ {A = ℕ} 0 1 = cc in omega arith

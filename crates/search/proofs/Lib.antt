@@ -2,5 +2,5 @@
 pub mod Hits
 pub mod WithoutFault
 pub mod FirstFound
-pub mod Once
+pub mod Unique
 pub mod Tied

@@ -16,5 +16,6 @@ module _ {M : Type 1} (𝓤 : URA M) (H : Heap 𝓤) (A : Atoms 𝓤) (mem : Mem
   pub search-ensures : Ensures 𝓤 searching.ended (searching.clauses 𝓤 H A mem run) (λ κs a r ws. toldFound r ≡ sought (a .0 .now) (a .1 .0))
   search-ensures κs a g r ws = refl
 
-  pub body-ensures : Ensures 𝓤 handing.ended (handing.clauses 𝓤 H A mem run) (λ κs a r ws. r .now ≡ bodyOf (a .0 .now) (toldFound (a .1 .0)))
+  pub body-ensures : Ensures 𝓤 handing.ended (handing.clauses 𝓤 H A mem run)
+      (λ κs a r ws. r .now ≡ bodyOf (a .0 .now) (toldFound (a .1 .0)))
   body-ensures κs a g r ws = refl

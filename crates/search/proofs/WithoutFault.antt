@@ -15,12 +15,12 @@ use Rattle.wire.specs.Trail.{ended, answer}
 use Rattle.verdict.specs.Verdict.{Said, accepted, refused, isAccepted}
 use Rattle.loops.specs.Descriptors.{Placed, descriptors}
 use Rattle.section.specs.Entries.{entries}
-use Rattle.section.specs.Reading.{Reading, _andThen_, fills, loopThen, secondLoop, twoLoops, topped, inside, opening, header, rowFor, body, read, judged}
+use Rattle.section.specs.Reading.{LoopsRead, _andThen_, fills, loopThen, secondLoop, twoLoops, topped, inside, opening, header, rowFor, body, read, judged}
 use Rattle.tables.specs.declared.Row.{Row}
 use Rattle.section.proofs.Readings.{then-on, then-stop, fills-tells, room-tells, one-loop, second-loop, two-loops, topped-one, topped-two}
 
 -- no fault in two parts that are read one after the other: none in the first, and the second is what is read
-pub then-ok : (v : Said) (x : Reading) → (v andThen x) .ends ≡ accepted → (isAccepted v ≡ true) × ((v andThen x) ≡ x)
+pub then-ok : (v : Said) (x : LoopsRead) → (v andThen x) .ends ≡ accepted → (isAccepted v ≡ true) × ((v andThen x) ≡ x)
 then-ok v x e = go v refl
   where
     go : (w : Said) → v ≡ w → (isAccepted v ≡ true) × ((v andThen x) ≡ x)
@@ -30,7 +30,7 @@ then-ok v x e = go v refl
         let z : _≡_ {A = ℕ} 0 1 = cc in
         absurd (omega arith)
 
-abbrev items : Reading → List (List Placed)
+abbrev items : LoopsRead → List (List Placed)
 items t = t .items
 
 -- n is the 12-bit length at the place p of l
@@ -56,7 +56,8 @@ module _ (l : List ℕ) (p n : ℕ) (same : n ≡ len12At l p) where
         ends-there = omega arith;
         holds =
             ap items (t ∙ a .1 ∙ b .1)
-            ∙ ap₂ (λ x y. descriptors (p + 2) (drop (p + 2) x) .items ∷ y) (sym (take-all (p + (2 + n)) l (omega arith))) (rw (eq-eqb fixed 0 f));
+            ∙ ap₂ (λ x y. descriptors (p + 2) (drop (p + 2) x) .items ∷ y)
+            (sym (take-all (p + (2 + n)) l (omega arith))) (rw (eq-eqb fixed 0 f));
         room = λ g. absurd (g f);
         onward = λ g. absurd (g f);
       }

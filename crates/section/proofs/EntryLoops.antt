@@ -39,7 +39,8 @@ module _ (fixed : ℕ) (some : 1 ≤ fixed) where
       go =
           if-case P (ltb (suc (length l)) fixed) (λ _ q. never (cc))
           (λ _. if-case P (ltb (suc (length l)) (fixed + n)) (λ _ q. never (cc))
-          (λ _. if-case P (isAccepted (descriptors (p + fixed) (take n (drop fixed (b ∷ l))) .ends)) (λ _ q. on-it (cc)) (λ _ q. never (cc))))
+          (λ _. if-case P (isAccepted (descriptors (p + fixed) (take n (drop fixed (b ∷ l))) .ends)) (λ _ q. on-it (cc))
+          (λ _ q. never (cc))))
 
   falls : (s t : Rest) (a : List Placed) → firstOf fixed (s .place) (s .bytes) ≡ on a t → length (t .bytes) < length (s .bytes)
   falls s t a e = falls-from (s .place) (s .bytes) a t e
@@ -67,7 +68,8 @@ module _ {l : List ℕ} {fixed p n : ℕ} (a : At l fixed p n) where
   first-turn : entries fixed p (drop p l) ≡ onward (λ r. entries fixed (r .place) (r .bytes)) (whole fixed n p (drop p l))
   first-turn =
       entries-whole fixed (omega arith) p (drop p l) (simp length-drop (omega arith))
-      ∙ ap (λ k. onward (λ r. entries fixed (r .place) (r .bytes)) (whole fixed k p (drop p l))) (len12-drop l p (fixed - 2) ∙ sym (a .same))
+      ∙ ap (λ k. onward (λ r. entries fixed (r .place) (r .bytes)) (whole fixed k p (drop p l)))
+      (len12-drop l p (fixed - 2) ∙ sym (a .same))
 
   pub at-short : length l < p + fixed → entries fixed p (drop p l) ≡ ended (refused 10 p)
   at-short h = first-turn ∙ rw (lt-ltb (length (drop p l)) fixed (simp length-drop (omega arith)))
@@ -96,5 +98,6 @@ module _ {l : List ℕ} {fixed p n : ℕ} (a : At l fixed p n) where
       pub at-fault : isAccepted (loopAt .ends) ≡ false → entries fixed p (drop p l) ≡ ended (loopAt .ends)
       at-fault q = at-loop ∙ rw q
 
-      pub at-on : isAccepted (loopAt .ends) ≡ true → entries fixed p (drop p l) ≡ before (loopAt .items) (entries fixed (p + fixed + n) (drop (p + fixed + n) l))
+      pub at-on : isAccepted (loopAt .ends) ≡ true
+          → entries fixed p (drop p l) ≡ before (loopAt .items) (entries fixed (p + fixed + n) (drop (p + fixed + n) l))
       at-on q = at-loop ∙ rw q

@@ -1,5 +1,6 @@
--- Demand 2, "A section is accepted exactly if ..", and demand 1, "the first of them in document 01's order .. no other input is refused": what the
--- judge says of any bytes is that they are in the grammar, or which refusal applies first. No bytes are both, and no bytes have two first refusals.
+-- Demand 2, "A section is accepted exactly if ..", and demand 1, "the first of them in document 01's order .. no other
+-- input is refused": what the judge says of any bytes is that they are in the grammar, or which refusal applies first.
+-- No bytes are both, and no bytes have two first refusals.
 use Prim.Native.Nat.{ℕ, suc, _+_, _-_, _*_, _/_, _<_, _≤_}
 use mathlib.Core.Path.{_≡_, refl, ap, _∙_, sym, subst}
 use mathlib.Core.Logic.{_⊎_, inl, inr, _↔_}
@@ -56,10 +57,12 @@ module _ (i : ℕ) (s middle : List ℕ) (c : Cut i s middle) where
   -- the reading goes over the middle
   inside-cut : inside (rowAt i) (rowAt i .before) (drop (rowAt i .before) (body (rowAt i) s)) ≡ inside (rowAt i) (rowAt i .before) middle
   inside-cut =
-      ap (inside (rowAt i) (rowAt i .before)) (ap (drop (rowAt i .before)) body-cut ∙ drop-at (c .head) middle (rowAt i .before) (c .before))
+      ap (inside (rowAt i) (rowAt i .before))
+      (ap (drop (rowAt i .before)) body-cut ∙ drop-at (c .head) middle (rowAt i .before) (c .before))
 
 -- and there is one, where the sizes are right
-module _ (i : ℕ) (s : List ℕ) (known : i < 6) (table : InRow i (getD s 0 0)) (least : rowAt i .least ≤ len12At s 1) (most : len12At s 1 ≤ rowAt i .most)
+module _ (i : ℕ) (s : List ℕ) (known : i < 6) (table : InRow i (getD s 0 0)) (least : rowAt i .least ≤ len12At s 1)
+    (most : len12At s 1 ≤ rowAt i .most)
     (size : length s ≡ 3 + len12At s 1) where
   abbrev Cuts : Type 0
   Cuts = (middle : List ℕ) × Cut i s middle × ((rowAt i .top ≡ 1 → ⊥) → rowAt i .fixed ≡ 0 → middle ≡ [])
@@ -186,12 +189,17 @@ module _ (s : List ℕ) where
         row : ℕ
         row = rowOf (getD s 0 0)
 
-        judge : (middle : List ℕ) (t : Cut row s middle) → in-section.Either (rowAt row) (rowAt row .before) (fixed-two row) middle → Claims s (judged s)
+        judge : (middle : List ℕ) (t : Cut row s middle)
+            → in-section.Either (rowAt row) (rowAt row .before) (fixed-two row) middle → Claims s (judged s)
         judge middle t (inl (loops, w)) =
-            claims (ap answer (read-through s opened ok ∙ inside-cut row s middle t ∙ in-section.read-whole (rowAt row) (rowAt row .before) (fixed-two row) w))
+            claims (ap answer
+            (read-through s opened ok
+            ∙ inside-cut row s middle t
+            ∙ in-section.read-whole (rowAt row) (rowAt row .before) (fixed-two row) w))
             (loops, record { row = row; middle = middle; cut = t; header = h; holds = r; inside = w })
         judge middle t (inr (k, q, f)) =
-            claims (ap answer (read-through s opened ok ∙ inside-cut row s middle t) ∙ in-section.read-fault (rowAt row) (rowAt row .before) (fixed-two row) f)
+            claims (ap answer (read-through s opened ok ∙ inside-cut row s middle t)
+            ∙ in-section.read-fault (rowAt row) (rowAt row .before) (fixed-two row) f)
             (faults.First.inside (clear-all s c) row middle t f)
 
         go : Cuts row s known table (h .least) (h .most) (h .size) → Claims s (judged s)
@@ -204,7 +212,8 @@ module _ (s : List ℕ) where
         row : ℕ
         row = rowOf (getD s 0 0)
 
-        seven : (a : wrongSyntax (rowFor s) s ≡ false) (b : lengthOutside (rowFor s) s ≡ false) (c : sizeDiffers s ≡ false) (d : crcFails (rowFor s) s ≡ false)
+        seven : (a : wrongSyntax (rowFor s) s ≡ false) (b : lengthOutside (rowFor s) s ≡ false)
+            (c : sizeDiffers s ≡ false) (d : crcFails (rowFor s) s ≡ false)
             → ((rowFor s .syntax ≡ 1 → getD s 6 0 ≤ getD s 7 0) → Header (rowFor s) s) → (rowFor s .crc ≡ 1 → crc s ≡ 0) → Clear s 7
             → ((aboveLast (rowFor s) s ≡ true) × ((rowFor s .syntax ≡ 1) × (getD s 7 0 < getD s 6 0)))
             ⊎ ((aboveLast (rowFor s) s ≡ false) × (rowFor s .syntax ≡ 1 → getD s 6 0 ≤ getD s 7 0)) → Claims s (judged s)
@@ -214,26 +223,33 @@ module _ (s : List ℕ) where
 
         six : (a : wrongSyntax (rowFor s) s ≡ false) (b : lengthOutside (rowFor s) s ≡ false) (c : sizeDiffers s ≡ false)
             → ((rowFor s .syntax ≡ 1 → getD s 6 0 ≤ getD s 7 0) → Header (rowFor s) s) → Clear s 6
-            → ((crcFails (rowFor s) s ≡ true) × ((rowFor s .crc ≡ 1) × (crc s ≡ 0 → ⊥))) ⊎ ((crcFails (rowFor s) s ≡ false) × (rowFor s .crc ≡ 1 → crc s ≡ 0))
+            → ((crcFails (rowFor s) s ≡ true) × ((rowFor s .crc ≡ 1) × (crc s ≡ 0 → ⊥)))
+            ⊎ ((crcFails (rowFor s) s ≡ false) × (rowFor s .crc ≡ 1 → crc s ≡ 0))
             → Claims s (judged s)
         six a b c h clear (inl (t, (e, f))) = refusal 6 (header-6 (rowFor s) s a b c t) (register row known table e f) clear
         six a b c h clear (inr (t, f)) = seven a b c t h f (clear-more s 6 clear (not-6 s row known table f)) (last-test (rowFor s) s)
 
         five : (a : wrongSyntax (rowFor s) s ≡ false) (b : lengthOutside (rowFor s) s ≡ false) → getD s 1 0 / 128 ≡ rowFor s .syntax
             → rowFor s .least ≤ len12At s 1 → len12At s 1 ≤ rowFor s .most → Clear s 5
-            → ((sizeDiffers s ≡ true) × (length s ≡ 3 + len12At s 1 → ⊥)) ⊎ ((sizeDiffers s ≡ false) × (length s ≡ 3 + len12At s 1)) → Claims s (judged s)
+            → ((sizeDiffers s ≡ true) × (length s ≡ 3 + len12At s 1 → ⊥))
+            ⊎ ((sizeDiffers s ≡ false) × (length s ≡ 3 + len12At s 1))
+            → Claims s (judged s)
         five a b x y z clear (inl (t, f)) = refusal 5 (header-5 (rowFor s) s a b t) (size f) clear
         five a b x y z clear (inr (t, f)) =
-            six a b t (λ n. record { syntax = x; least = y; most = z; size = f; numbers = n }) (clear-more s 5 clear (not-5 s row known table f)) (crc-test (rowFor s) s)
+            six a b t (λ n. record { syntax = x; least = y; most = z; size = f; numbers = n })
+            (clear-more s 5 clear (not-5 s row known table f)) (crc-test (rowFor s) s)
 
         four : (a : wrongSyntax (rowFor s) s ≡ false) → getD s 1 0 / 128 ≡ rowFor s .syntax → Clear s 4
             → ((lengthOutside (rowFor s) s ≡ true) × ((len12At s 1 < rowFor s .least) ⊎ (rowFor s .most < len12At s 1)))
-            ⊎ ((lengthOutside (rowFor s) s ≡ false) × ((rowFor s .least ≤ len12At s 1) × (len12At s 1 ≤ rowFor s .most))) → Claims s (judged s)
+            ⊎ ((lengthOutside (rowFor s) s ≡ false)
+            × ((rowFor s .least ≤ len12At s 1) × (len12At s 1 ≤ rowFor s .most)))
+            → Claims s (judged s)
         four a x clear (inl (t, inl f)) = refusal 4 (header-4 (rowFor s) s a t) (below row known table f) clear
         four a x clear (inl (t, inr f)) = refusal 4 (header-4 (rowFor s) s a t) (above row known table f) clear
         four a x clear (inr (t, (y, z))) = five a t x y z (clear-more s 4 clear (not-4 s row known table y z)) (size-test (rowFor s) s)
 
-        three : ((wrongSyntax (rowFor s) s ≡ true) × (getD s 1 0 / 128 ≡ rowFor s .syntax → ⊥)) ⊎ ((wrongSyntax (rowFor s) s ≡ false) × (getD s 1 0 / 128 ≡ rowFor s .syntax))
+        three : ((wrongSyntax (rowFor s) s ≡ true) × (getD s 1 0 / 128 ≡ rowFor s .syntax → ⊥))
+            ⊎ ((wrongSyntax (rowFor s) s ≡ false) × (getD s 1 0 / 128 ≡ rowFor s .syntax))
             → Claims s (judged s)
         three (inl (t, f)) = refusal 3 (header-3 (rowFor s) s t) (syntax row known table f) clear-3
         three (inr (t, f)) = four t f (clear-more s 3 clear-3 (not-3 s row known table f)) (length-test (rowFor s) s)
@@ -265,7 +281,8 @@ section-clear s loops x =
     (clear-more s 6
     (clear-more s 5
     (clear-more s 4
-    (clear-more s 3 (clear-more s 2 (clear-more s 1 (clear-1 s) (not-1 s (omega (arith, h .size)))) (not-2 s r k t)) (not-3 s r k t (h .syntax)))
+    (clear-more s 3 (clear-more s 2 (clear-more s 1 (clear-1 s) (not-1 s (omega (arith, h .size)))) (not-2 s r k t))
+    (not-3 s r k t (h .syntax)))
     (not-4 s r k t (h .least) (h .most)))
     (not-5 s r k t (h .size)))
     (not-6 s r k t (x .holds)))

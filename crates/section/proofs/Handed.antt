@@ -35,7 +35,9 @@ module _ (s : List ℕ) where
   pub section-stands : (ls : List (List Placed)) → Section s ls → AllStanding s ls
   section-stands ls x =
       let c = x .cut in
-      inside (x .inside) (part-first (x .middle) (c .tail) (moved s (omega (arith, c .before)) (part-second (c .head) (x .middle ++ c .tail) all)))
+      inside (x .inside)
+      (part-first (x .middle) (c .tail)
+      (moved s (omega (arith, c .before)) (part-second (c .head) (x .middle ++ c .tail) all)))
     where
       all : Part s 0 (x .cut .head ++ (x .middle ++ x .cut .tail))
       all = record { front = []; back = []; whole = x .cut .whole ∙ sym (append-nil _); place = refl }

@@ -20,7 +20,8 @@ not-equal a b = go (eqb a b) refl
     go false e = inl (ap not e, eqb-false a b e)
 
 module _ (row : Row) (s : List ℕ) where
-  pub syntax-test : ((wrongSyntax row s ≡ true) × (getD s 1 0 / 128 ≡ row .syntax → ⊥)) ⊎ ((wrongSyntax row s ≡ false) × (getD s 1 0 / 128 ≡ row .syntax))
+  pub syntax-test : ((wrongSyntax row s ≡ true) × (getD s 1 0 / 128 ≡ row .syntax → ⊥))
+      ⊎ ((wrongSyntax row s ≡ false) × (getD s 1 0 / 128 ≡ row .syntax))
   unfolding wrongSyntax
   syntax-test = not-equal (getD s 1 0 / 128) (row .syntax)
 
@@ -44,7 +45,8 @@ module _ (row : Row) (s : List ℕ) where
   unfolding crcFails
   crc-test = go (eqb (row .crc) 1) refl (not-equal (crc s) 0)
     where
-      go : (a : Bool) → eqb (row .crc) 1 ≡ a → ((not (eqb (crc s) 0) ≡ true) × (crc s ≡ 0 → ⊥)) ⊎ ((not (eqb (crc s) 0) ≡ false) × (crc s ≡ 0))
+      go : (a : Bool) → eqb (row .crc) 1 ≡ a
+          → ((not (eqb (crc s) 0) ≡ true) × (crc s ≡ 0 → ⊥)) ⊎ ((not (eqb (crc s) 0) ≡ false) × (crc s ≡ 0))
           → ((crcFails row s ≡ true) × ((row .crc ≡ 1) × (crc s ≡ 0 → ⊥))) ⊎ ((crcFails row s ≡ false) × (row .crc ≡ 1 → crc s ≡ 0))
       go true p (inl q) = inl (rw (p, q .0), (eqb-true _ _ p, q .1))
       go true p (inr q) = inr (rw (p, q .0), λ _. q .1)

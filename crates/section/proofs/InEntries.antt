@@ -29,7 +29,8 @@ module _ (fixed : ℕ) (two : 2 ≤ fixed) where
       → entries fixed p (head ++ l) ≡ onward (λ r. entries fixed (r .place) (r .bytes)) (whole fixed n p (head ++ l))
   headed p n head l e f =
       entries-whole fixed (omega arith) p (head ++ l) (omega (arith, length-append head l))
-      ∙ ap (λ k. onward (λ r. entries fixed (r .place) (r .bytes)) (whole fixed k p (head ++ l))) (len12-front head l (fixed - 2) (omega arith) ∙ f)
+      ∙ ap (λ k. onward (λ r. entries fixed (r .place) (r .bytes)) (whole fixed k p (head ++ l)))
+      (len12-front head l (fixed - 2) (omega arith) ∙ f)
 
   fits : (head l : List ℕ) → length head ≡ fixed → ltb (length (head ++ l)) fixed ≡ false
   fits head l e = le-ltb (length (head ++ l)) fixed (omega (arith, length-append head l))
@@ -65,15 +66,19 @@ module _ (fixed : ℕ) (two : 2 ≤ fixed) where
       → entries fixed p (head ++ (body ++ l)) ≡ ended (refused k q)
   entry-fault p k q head body l h f = entry p head body l h ∙ rw f
 
-  pub entry-on : (p : ℕ) (head body l : List ℕ) (ds : List Placed) → Head fixed head body → descriptors (p + fixed) body ≡ record { items = ds; ends = accepted }
+  pub entry-on : (p : ℕ) (head body l : List ℕ) (ds : List Placed) → Head fixed head body
+      → descriptors (p + fixed) body ≡ record { items = ds; ends = accepted }
       → entries fixed p (head ++ (body ++ l)) ≡ before ds (entries fixed (p + fixed + length body) l)
-  entry-on p head body l ds h f = entry p head body l h ∙ ap (λ d. onward (λ r. entries fixed (r .place) (r .bytes)) (past (p + fixed + length body) l d)) f
+  entry-on p head body l ds h f =
+      entry p head body l h
+      ∙ ap (λ d. onward (λ r. entries fixed (r .place) (r .bytes)) (past (p + fixed + length body) l d)) f
 
   -- what the grammar has is read without a fault
   pub read-whole : {p : ℕ} {l : List ℕ} {loops : List (List Placed)} → Entries fixed p l loops
       → entries fixed p l ≡ record { items = loops; ends = accepted }
   read-whole {p} none = entries-by fixed (omega arith) p []
-  read-whole {p} (one head body {l = l} {ds = ds} h d e) = entry-on p head body l ds h (in-loop.read-whole d) ∙ ap (before ds) (read-whole e)
+  read-whole {p} (one head body {l = l} {ds = ds} h d e) =
+      entry-on p head body l ds h (in-loop.read-whole d) ∙ ap (before ds) (read-whole e)
 
   -- the first fault is what the reading says
   pub read-fault : {p k q : ℕ} {l : List ℕ} → EntryFault fixed p l k q → entries fixed p l .ends ≡ refused k q
@@ -86,7 +91,8 @@ module _ (fixed : ℕ) (two : 2 ≤ fixed) where
   abbrev pub Either : ℕ → List ℕ → Type 0
   Either p l = ((loops : List (List Placed)) × Entries fixed p l loops) ⊎ ((k : ℕ) × (q : ℕ) × EntryFault fixed p l k q)
 
-  behind : (p : ℕ) (head body l : List ℕ) (ds : List Placed) → Head fixed head body → Descriptors (p + fixed) body ds → Either (p + fixed + length body) l
+  behind : (p : ℕ) (head body l : List ℕ) (ds : List Placed) → Head fixed head body → Descriptors (p + fixed) body ds
+      → Either (p + fixed + length body) l
       → Either p (head ++ (body ++ l))
   behind p head body l ds h d (inl (loops, e)) = inl (ds ∷ loops, one head body h d e)
   behind p head body l ds h d (inr (k, q, f)) = inr (k, q, later head body h d f)

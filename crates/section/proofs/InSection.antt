@@ -16,7 +16,7 @@ use Rattle.tables.specs.Tables.{FixedTwo}
 use Rattle.verdict.specs.Verdict.{Said, accepted, refused, isAccepted}
 use Rattle.loops.specs.Descriptors.{Placed, descriptors}
 use Rattle.section.specs.Entries.{entries}
-use Rattle.section.specs.Reading.{Reading, _andThen_, sizeOf, fills, leavesRoom, loopThen, oneLoop, secondLoop, twoLoops, inside}
+use Rattle.section.specs.Reading.{LoopsRead, _andThen_, sizeOf, fills, leavesRoom, loopThen, oneLoop, secondLoop, twoLoops, inside}
 use Rattle.loops.specs.Grammar.{Descriptors, DescriptorFault}
 use Rattle.section.specs.Grammar as grammar
 use Rattle.section.specs.Grammar.{Inside, nothing, loop, loops}
@@ -46,14 +46,14 @@ fill-cases p m = go (decLe (sizeOf m) (length m)) (decLe (length m) (sizeOf m))
     go (yes a) (no b) = inr (10, p + sizeOf m, short (omega arith))
     go (no a) b = inr (8, p, beyond (omega arith))
 
-then-refused : (v : Said) (x : Reading) (k q : ℕ) → v ≡ refused k q → (v andThen x) ≡ ended (refused k q)
+then-refused : (v : Said) (x : LoopsRead) (k q : ℕ) → v ≡ refused k q → (v andThen x) ≡ ended (refused k q)
 then-refused v x k q e = then-stop v x (ap isAccepted e) ∙ ap ended e
 
-then-accepted : (v : Said) (x : Reading) → v ≡ accepted → (v andThen x) ≡ x
+then-accepted : (v : Said) (x : LoopsRead) → v ≡ accepted → (v andThen x) ≡ x
 then-accepted v x e = then-on v x (ap isAccepted e)
 
 -- a loop's descriptors, and what is behind it
-loop-on : (d : Trail Placed Said) (x : Reading) (ds : List Placed) → d ≡ record { items = ds; ends = accepted } → loopThen d x ≡ before ds x
+loop-on : (d : Trail Placed Said) (x : LoopsRead) (ds : List Placed) → d ≡ record { items = ds; ends = accepted } → loopThen d x ≡ before ds x
 loop-on d x ds e = then-accepted (d .ends) _ (ap answer e) ∙ ap (λ (t : Trail Placed Said). before (t .items) x) e
 
 -- ---- TOT
@@ -168,7 +168,8 @@ module _ (row : Row) (p : ℕ) (two : FixedTwo (row .fixed)) where
       → Descriptors (p + 2) body ds → length l ≡ sizeOf l → Either (high ∷ low ∷ (body ++ l))
   entry-cases t g high low body [] ds e d s = absurd (omega arith)
   entry-cases t g high low body (x ∷ []) ds e d s = absurd (omega arith)
-  entry-cases t g high low body (high' ∷ low' ∷ l) ds e d s = go (in-entries.whole-or-fault (row .fixed) (two g) (p + (2 + length body) + 2) l)
+  entry-cases t g high low body (high' ∷ low' ∷ l) ds e d s =
+      go (in-entries.whole-or-fault (row .fixed) (two g) (p + (2 + length body) + 2) l)
     where
       size : len12 high' low' ≡ length l
       size = omega arith

@@ -16,19 +16,19 @@ use Rattle.verdict.specs.Verdict.{Said, accepted, refused, isAccepted}
 use Rattle.loops.specs.Descriptors.{Placed, descriptors}
 use Rattle.section.specs.Entries.{entries}
 use Rattle.tables.specs.Tables.{rowOf}
-use Rattle.section.specs.Reading.{Reading, _andThen_, sizeOf, fills, leavesRoom, loopThen, oneLoop, secondLoop, twoLoops, topped, plain, inside, opening, header, wrongSyntax, lengthOutside, sizeDiffers, crcFails, aboveLast, body, rowFor, read, judged}
+use Rattle.section.specs.Reading.{LoopsRead, _andThen_, sizeOf, fills, leavesRoom, loopThen, oneLoop, secondLoop, twoLoops, topped, plain, inside, opening, header, wrongSyntax, lengthOutside, sizeDiffers, crcFails, aboveLast, body, rowFor, read, judged}
 use Rattle.tables.specs.declared.Row.{Row}
 
-pub then-on : (v : Said) (x : Reading) → isAccepted v ≡ true → (v andThen x) ≡ x
+pub then-on : (v : Said) (x : LoopsRead) → isAccepted v ≡ true → (v andThen x) ≡ x
 unfolding _andThen_
 then-on v x q = rw q
 
-pub then-stop : (v : Said) (x : Reading) → isAccepted v ≡ false → (v andThen x) ≡ ended v
+pub then-stop : (v : Said) (x : LoopsRead) → isAccepted v ≡ false → (v andThen x) ≡ ended v
 unfolding _andThen_
 then-stop v x q = rw q
 
 -- the code's answer v, where it stands for what is read first and a test b says whether it is an acceptance
-module _ (v x : Said) (b : Bool) (y : Reading) (same : v ≡ x) (test : b ≡ isAccepted v) where
+module _ (v x : Said) (b : Bool) (y : LoopsRead) (same : v ≡ x) (test : b ≡ isAccepted v) where
   pub stopped : b ≡ false → v ≡ (x andThen y) .ends
   stopped q = same ∙ sym (ap answer (then-stop x y (ap isAccepted (sym same) ∙ sym test ∙ q)))
 
@@ -42,7 +42,7 @@ module _ (v x : Said) (b : Bool) (y : Reading) (same : v ≡ x) (test : b ≡ is
 pub loop-alone : (d : Trail Placed Said) → loopThen d (ended accepted) .ends ≡ d .ends
 loop-alone d = closed (d .ends) (before (d .items) (ended accepted)) refl
   where
-    closed : (v : Said) (x : Reading) → x .ends ≡ accepted → (v andThen x) .ends ≡ v
+    closed : (v : Said) (x : LoopsRead) → x .ends ≡ accepted → (v andThen x) .ends ≡ v
     closed accepted x e = ap answer (then-on accepted x refl) ∙ e
     closed (refused k p) x e = ap answer (then-stop (refused k p) x refl)
 
@@ -216,5 +216,6 @@ module _ (s : List ℕ) where
     unfolding judged
     judged-header k p e = ap answer (read-on ∙ then-stop (header (rowFor s) s) _ (ap isAccepted e)) ∙ e
 
-    pub read-through : header (rowFor s) s ≡ accepted → read s ≡ inside (rowFor s) (rowFor s .before) (drop (rowFor s .before) (body (rowFor s) s))
+    pub read-through : header (rowFor s) s ≡ accepted
+        → read s ≡ inside (rowFor s) (rowFor s .before) (drop (rowFor s .before) (body (rowFor s) s))
     read-through e = read-on ∙ then-on (header (rowFor s) s) _ (ap isAccepted e)

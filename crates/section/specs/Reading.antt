@@ -16,8 +16,8 @@ use Rattle.tables.specs.declared.Row.{Row}
 
 -- what reading a section gives: the descriptors of each loop, the top loop's first (none where the table has no top loop), then each entry's;
 -- and the verdict
-abbrev pub Reading : Type 0
-Reading = Trail (List Placed) Said
+abbrev pub LoopsRead : Type 0
+LoopsRead = Trail (List Placed) Said
 
 -- "no. | given when"; "refusals 8 to 10 carry a place ..; the others place 0"
 infix 1 given_when_otherwise_
@@ -26,7 +26,7 @@ given k when b otherwise v = if b then refused k 0 else v
 
 -- reading goes on where nothing is refused
 infixr 2 _andThen_
-unfoldable pub _andThen_ : Said → Reading → Reading
+unfoldable pub _andThen_ : Said → LoopsRead → LoopsRead
 v andThen x = if isAccepted v then x else ended v
 
 -- bytes that a loop takes whose 12-bit length stands at the front of m
@@ -45,33 +45,33 @@ unfoldable pub leavesRoom : ℕ → List ℕ → Said
 leavesRoom p m = if ltb (length m) (sizeOf m + 2) then refused 8 p else accepted
 
 -- a loop's descriptors, and what is read behind the loop
-abbrev pub loopThen : Trail Placed Said → Reading → Reading
+abbrev pub loopThen : Trail Placed Said → LoopsRead → LoopsRead
 loopThen d x = d .ends andThen before (d .items) x
 
 -- TOT: a top loop up to the CRC
-unfoldable pub oneLoop : ℕ → List ℕ → Reading
+unfoldable pub oneLoop : ℕ → List ℕ → LoopsRead
 oneLoop p m = fills p m andThen loopThen (descriptors (p + 2) (drop 2 m)) (ended accepted)
 
 -- the second loop of NIT and BAT: entries up to the CRC
-unfoldable pub secondLoop : ℕ → ℕ → List ℕ → Reading
+unfoldable pub secondLoop : ℕ → ℕ → List ℕ → LoopsRead
 secondLoop fixed p m = fills p m andThen entries fixed (p + 2) (drop 2 m)
 
 -- "NIT and BAT have a second length after the top loop, over the entries."
-unfoldable pub twoLoops : ℕ → ℕ → List ℕ → Reading
+unfoldable pub twoLoops : ℕ → ℕ → List ℕ → LoopsRead
 twoLoops fixed p m =
     leavesRoom p m andThen
     loopThen (descriptors (p + 2) (take (len12At m 0) (drop 2 m))) (secondLoop fixed (p + sizeOf m) (drop (sizeOf m) m))
 
 -- tables with a top loop: TOT has no entries, NIT and BAT have
-unfoldable pub topped : ℕ → ℕ → List ℕ → Reading
+unfoldable pub topped : ℕ → ℕ → List ℕ → LoopsRead
 topped fixed p m = if eqb fixed 0 then oneLoop p m else twoLoops fixed p m
 
 -- tables without one: TDT has no entries, SDT and EIT have
-unfoldable pub plain : ℕ → ℕ → List ℕ → Reading
+unfoldable pub plain : ℕ → ℕ → List ℕ → LoopsRead
 plain fixed p m = if eqb fixed 0 then ended accepted else before [] (entries fixed p m)
 
 -- what stands between a section's head and its CRC_32
-unfoldable pub inside : Row → ℕ → List ℕ → Reading
+unfoldable pub inside : Row → ℕ → List ℕ → LoopsRead
 inside row p m = if eqb (row .top) 1 then topped (row .fixed) p m else plain (row .fixed) p m
 
 -- "All but TDT end in CRC_32": the bytes of s before it, all of them where the table has none
@@ -120,7 +120,7 @@ abbrev pub rowFor : List ℕ → Row
 rowFor s = rowAt (rowOf (getD s 0 0))
 
 -- "Checked in this order": 1 and 2, 3 to 7 by the row, and what stands inside
-unfoldable pub read : List ℕ → Reading
+unfoldable pub read : List ℕ → LoopsRead
 read s =
     opening s andThen
     header (rowFor s) s andThen

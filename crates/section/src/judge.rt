@@ -15,7 +15,8 @@ use tables::row_of;
 use verdict::Verdict;
 use verdict::is_accepted;
 
-// The section before its CRC_32, all of it where the table has none. In what follows this is `bytes`: places in it are places in the section.
+// The section before its CRC_32, all of it where the table has none. In what follows this is `bytes`: places in it are
+// places in the section.
 pub fn before_crc(row: Row, section: &[u8]) -> &[u8]
     ensures { λ r. ⌜ now r ≡ body row (now (section .entry)) ⌝ }
 {

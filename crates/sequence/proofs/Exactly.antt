@@ -13,10 +13,8 @@ use Rattle.wire.specs.Bytes.{Bytes}
 use Rattle.wire.proofs.IfLaws.{if-case}
 use Rattle.verdict.specs.Verdict.{accepted, isAccepted}
 use Rattle.verdict.proofs.SaidLaws.{is-accepted, is-refused}
-use Rattle.loops.specs.Descriptors.{Placed}
 use Rattle.section.specs.Reading.{judged}
-use Rattle.section.specs.Grammar.{Section}
-use Rattle.section.proofs.Exactly.{accepted-exactly-if, refused-exactly-if}
+use Rattle.section.proofs.Exactly.{accepted-exactly-if, refused-exactly-if, section-judged}
 use Rattle.roll.specs.Answer.{missing, refusing}
 use Rattle.roll.specs.Marks.{has, unmarked, marked, Whole, smallest, smallestMissing}
 use Rattle.head.specs.SubTable.{subTableOf, compared, sameIds}
@@ -62,9 +60,6 @@ module _ (r : Roll) (s : List ℕ) where
 
   -- ---- whatever is first refuses, and leaves the roll
 
-  is-section : (loops : List (List Placed)) → Section s loops → judged s ≡ accepted
-  is-section loops x = accepted-exactly-if s .1 (loops, x)
-
   has-sub-table : judged s ≡ accepted → (Applies r s 83 → ⊥) → hasNoSubTable s ≡ false
   has-sub-table a n = go (hasNoSubTable s) refl
     where
@@ -76,13 +71,13 @@ module _ (r : Roll) (s : List ℕ) where
   unfolding taking takingAccepted
   first-refuses {k} {p} (of-the-judge f) = rw (refused-exactly-if s k p .1 f)
   first-refuses (of-the-roll loops x (no-sub-table e) none) =
-      let a = is-section loops x in
+      let a = section-judged s loops x in
       rw (a, no-sub-table-ids s a .1 e)
   first-refuses (of-the-roll loops x (another-one e n) none) =
-      let a = is-section loops x in
+      let a = section-judged s loops x in
       rw (a, has-sub-table a (none 83 (omega arith)), applies-another e n)
   first-refuses (of-the-roll loops x (not-current v h) none) =
-      let a = is-section loops x in
+      let a = section-judged s loops x in
       rw (a, has-sub-table a (none 83 (omega arith)), none-another (none 82 (omega arith)), is-not-current s v h)
 
   -- ---- a step, by the four tests

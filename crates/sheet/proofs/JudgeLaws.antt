@@ -14,14 +14,16 @@ use Rattle.wire.specs.Bytes.{Bytes}
 use Rattle.wire.specs.Number.{numberAt}
 use Rattle.wire.specs.Reading.{Reading, value, refused, _>>=_}
 use Rattle.tables.specs.Tables.{cell, rowOf, rowAt}
-use Rattle.forms.specs.Form.{rawRead, raw, suchRead}
+use Rattle.forms.specs.Form.{Form, rawRead, raw, suchRead}
 use Rattle.forms.specs.Room.{sum}
+use Rattle.forms.specs.Fields.{Field, sheetField}
 use Rattle.forms.proofs.Lawful.{read-on, stays}
+use Rattle.forms.proofs.FieldLaws.{field-lawful}
 use Rattle.forms.proofs.Puts.{sum-fits, sum-past}
 use Rattle.sheet.specs.Content.{Content}
-use Rattle.sheet.specs.Sheet.{behindId, sheetRead, sheetOf}
-use Rattle.sheet.specs.Section.{sectionLength, readSheet}
-use Rattle.sheet.specs.Reads.{judgedSheet}
+use Rattle.sheet.specs.Sheet.{behindFor, behindId, sheetRead, readFor, sheetOf}
+use Rattle.sheet.specs.Section.{sectionLength, readSheet, readSheetFor}
+use Rattle.sheet.specs.Reads.{judgedFor, judgedSheet}
 use Rattle.sheet.specs.Inner.Places.{Ends, Known}
 use Rattle.sheet.specs.Inner.Lengths.{cut, gain, countAt, spare, lengthBy, judgedLength}
 use Rattle.sheet.proofs.SheetLaws.{sheet-lawful}
@@ -30,30 +32,32 @@ use Rattle.sheet.proofs.Sizes.{section-spare}
 -- ---- the table_id
 
 pub judged-empty : (s : List ℕ) → length s ≡ 0 → judgedSheet s ≡ refused 22
-unfolding judgedSheet readSheet sheetRead suchRead rawRead
+unfolding judgedFor readSheetFor readFor suchRead rawRead
 judged-empty [] e = refl
 judged-empty (a ∷ s) e = absurd (omega arith)
 
-module _ (a : ℕ) (t : List ℕ) where
+module _ (field : Field → Form ℕ) (a : ℕ) (t : List ℕ) where
   one-byte : rawRead 1 (a ∷ t) ≡ value (a ∷ [], t)
   unfolding rawRead
   one-byte = rw (le-leb 1 (length (a ∷ t)) (omega arith))
 
-  unknown-id : 6 ≤ rowOf a → judgedSheet (a ∷ t) ≡ refused 23
-  unfolding judgedSheet readSheet sheetRead suchRead
+  pub unknown-id : 6 ≤ rowOf a → judgedFor field (a ∷ t) ≡ refused 23
+  unfolding judgedFor readSheetFor readFor suchRead
   unknown-id h = stays _ (stays _ (stays _ (read-on _ one-byte ∙ rw (le-ltb (rowOf a) 6 h))))
 
   id-read : rowOf a < 6 → suchRead (raw 1) 23 (λ id. ltb (rowOf (getD id 0 0)) 6) (a ∷ t) ≡ value (a ∷ [], t)
   unfolding suchRead
   id-read h = read-on _ one-byte ∙ rw (lt-ltb (rowOf a) 6 h)
 
-  pub known-id : rowOf a < 6 → sheetRead (a ∷ t) ≡ (behindId (rowOf a) .read t >>= λ c. value ((a, c .0), c .1))
-  unfolding sheetRead
+  pub known-id : rowOf a < 6
+      → readFor field (a ∷ t) ≡ (behindFor field (rowOf a) .read t >>= λ c. value ((a, c .0), c .1))
+  unfolding readFor
   known-id h = read-on _ (id-read h)
 
-pub judged-unknown : (s : List ℕ) → 0 < length s → 6 ≤ rowOf (getD s 0 0) → judgedSheet s ≡ refused 23
-judged-unknown [] h g = absurd (omega arith)
-judged-unknown (a ∷ t) h g = unknown-id a t g
+pub judged-unknown : (field : Field → Form ℕ) (s : List ℕ) → 0 < length s → 6 ≤ rowOf (getD s 0 0)
+    → judgedFor field s ≡ refused 23
+judged-unknown field [] h g = absurd (omega arith)
+judged-unknown field (a ∷ t) h g = unknown-id field a t g
 
 -- ---- behind it
 
@@ -62,8 +66,8 @@ module _ (a : ℕ) (t : List ℕ) (known : rowOf a < 6) where
   s = a ∷ t
 
   refused-behind : (k : ℕ) → behindId (rowOf a) .read t ≡ refused k → judgedSheet s ≡ refused k
-  unfolding judgedSheet readSheet
-  refused-behind k e = stays _ (stays _ (known-id a t known ∙ stays _ e))
+  unfolding judgedFor readSheetFor
+  refused-behind k e = stays _ (stays _ (known-id sheetField a t known ∙ stays _ e))
 
   module _ (e : ℕ) (p : Ends (behindId (rowOf a)) s 1 e) where
     content : Content
@@ -71,21 +75,21 @@ module _ (a : ℕ) (t : List ℕ) (known : rowOf a < 6) where
 
     whole-read : sheetRead s ≡ value (content, drop e s)
     unfolding content
-    whole-read = known-id a t known ∙ read-on _ (p .reads)
+    whole-read = known-id sheetField a t known ∙ read-on _ (p .reads)
 
     read-after : e < length s → judgedSheet s ≡ refused 25
-    unfolding judgedSheet readSheet
+    unfolding judgedFor readSheetFor
     read-after h = stays _ (read-on _ whole-read ∙ rw (lt-ltb 0 (length (drop e s)) (omega (arith, length-drop e s))))
 
     abbrev limit : ℕ
     limit = rowAt (rowOf a) .most
 
     read-whole : e ≡ length s → readSheet s ≡ (if ltb limit (sectionLength content) then refused 26 else value content)
-    unfolding readSheet content
+    unfolding readSheetFor content
     read-whole h = read-on _ whole-read ∙ rw (le-ltb 0 (length (drop e s)) (omega (arith, length-drop e s)))
 
     read-to-the-end : e ≡ length s → judgedSheet s ≡ judgedLength limit (sectionLength content)
-    unfolding judgedSheet judgedLength
+    unfolding judgedFor judgedLength
     read-to-the-end h =
         ap (λ x. x >>= λ c. value (sectionLength c)) (read-whole h) ∙ go (ltb limit (sectionLength content))
       where
@@ -155,7 +159,7 @@ module _ (a : ℕ) (t : List ℕ) (known : rowOf a < 6) (bytes : Bytes (a ∷ t)
       whole-read a t known e p
       ∙ ap (λ n. value (c, drop n (a ∷ t))) end
       ∙ ap (λ l. value (c, l)) (drop-length (a ∷ t)) in
-      let w = sheet-lawful .sound (a ∷ t) c [] bytes r in
+      let w = sheet-lawful sheetField field-lawful .sound (a ∷ t) c [] bytes r in
       let q : sheetOf c ≡ a ∷ t = sym (w .0 ∙ append-nil (sheetOf c)) in
       read-to-the-end a t known e p end
       ∙ length-judged (rowOf a) (sectionLength c) (a ∷ t) known bytes

@@ -5,4 +5,4 @@ pub mod JudgeLaws
 pub mod SectionSize
 pub mod Exactly
 pub mod Limits
-pub mod Once
+pub mod Unique

@@ -5,14 +5,14 @@ use Rattle.forms.specs.Form.{rawRead, bothRead, suchRead, eachRead, eachShow}
 use Rattle.forms.specs.Fields.{belowRead, room, pack}
 use Rattle.forms.specs.Lists.{timesRead, all, countedRead, loopShow}
 use Rattle.sheet.specs.Content.{headOf, entryOf, sideOf}
-use Rattle.sheet.specs.Sheet.{descriptorRead, sheetTop, sheetEntries, sheetRead}
-use Rattle.sheet.specs.Section.{sectionTop, sectionEntries, sectionLength, readSheet}
-use Rattle.sheet.specs.Reads.{judgedSheet}
+use Rattle.sheet.specs.Sheet.{descriptorRead, topFor, entriesFor, readFor}
+use Rattle.sheet.specs.Section.{sectionTop, sectionEntries, sectionLength, readSheetFor}
+use Rattle.sheet.specs.Reads.{judgedFor}
 use Rattle.sheet.specs.Limits.{Limits}
 
 pub limits : Limits
-unfolding judgedSheet readSheet sheetRead rawRead bothRead suchRead eachRead eachShow belowRead timesRead countedRead
-    descriptorRead all loopShow room pack headOf entryOf sideOf sheetTop sheetEntries sectionTop sectionEntries
+unfolding judgedFor readSheetFor readFor rawRead bothRead suchRead eachRead eachShow belowRead timesRead countedRead
+    descriptorRead all loopShow room pack headOf entryOf sideOf topFor entriesFor sectionTop sectionEntries
     sectionLength cell holds first rowOf
 limits = record {
   service = record {

@@ -18,7 +18,7 @@ use Rattle.forms.specs.Fields.{kept, reserved, belowRead, below, sheetField, sh
 use Rattle.forms.specs.Lists.{timesRead, times, countedRead, counted}
 use Rattle.forms.proofs.Lawful.{read-on, stays}
 use Rattle.sheet.specs.Content.{Item, plain, numbers, version, flags, filler, bare, frame, common, headOf, entryOf, sideOf, Entries}
-use Rattle.sheet.specs.Sheet.{inOrder, sheetItem, descriptorRead, descriptor, sheetLoop, sheetTop, sheetEntries}
+use Rattle.sheet.specs.Sheet.{inOrder, sheetItem, descriptorRead, descriptor, sheetLoop, sheetTop, topFor, sheetEntries, entriesFor}
 use Rattle.sheet.specs.Inner.Places.{Reads, Onward, Follows, Common, entryBy, sideBy, entryWith, topBy}
 use Rattle.sheet.specs.declared.End.{End}
 use Rattle.sheet.specs.declared.End.the-variants.{At, EndsEarly, TooWide}
@@ -420,7 +420,7 @@ module _ (row : ℕ) {s : List ℕ} where
   entries-are {x} {y} c e p = subst (λ d. Follows d s x y) (sym e) p
 
   pub entries-none : {x : End} → 4 ≤ row → Follows (sheetEntries row) s x x
-  unfolding sheetEntries cell
+  unfolding entriesFor cell
   entries-none h = entries-are (mute ([], [])) (go row h) (follows-mute ([], []))
     where
       go : (row : ℕ) → 4 ≤ row → _≡_ {A = Form Entries} (sheetEntries row) (mute ([], []))
@@ -434,21 +434,21 @@ module _ (row : ℕ) {s : List ℕ} where
 
   pub entries-service : {x y : End} → row ≡ 1 → Follows (counted (entryWith 2 true true)) s x y
       → Follows (sheetEntries row) s x y
-  unfolding sheetEntries cell entryOf sideOf
+  unfolding entriesFor cell entryOf sideOf
   entries-service e p =
       entries-are (sheetFields [] then counted (entryWith 2 true true)) (ap sheetEntries e)
       (follows-then (follows-nil sheetField) p)
 
   pub entries-event : {x y : End} → row ≡ 3 → Follows (counted (entryWith 10 false true)) s x y
       → Follows (sheetEntries row) s x y
-  unfolding sheetEntries cell entryOf sideOf
+  unfolding entriesFor cell entryOf sideOf
   entries-event e p =
       entries-are (sheetFields [] then counted (entryWith 10 false true)) (ap sheetEntries e)
       (follows-then (follows-nil sheetField) p)
 
   pub entries-stream : {x y : End} → row < 4 → (row ≡ 1 → ⊥) → (row ≡ 3 → ⊥)
       → Follows (counted (entryWith 4 false false)) s x y → Follows (sheetEntries row) s x y
-  unfolding sheetEntries cell entryOf sideOf
+  unfolding entriesFor cell entryOf sideOf
   entries-stream h f g p =
       entries-are (sheetFields bare then counted (entryWith 4 false false)) (go row h f g)
       (follows-then side-reserved p)
@@ -462,7 +462,7 @@ module _ (row : ℕ) {s : List ℕ} where
       go (suc (suc (suc (suc n)))) h f g = absurd (omega arith)
 
   pub top-of : {n : ℕ} {x y : End} → n ≡ rowAt row .top → Follows (topBy n) s x y → Follows (sheetTop row) s x y
-  unfolding sheetTop
+  unfolding topFor
   top-of {x = x} {y} e p = subst (λ n. Follows (topBy n) s x y) e p
 
 -- the bits before section_length stand in no sheet

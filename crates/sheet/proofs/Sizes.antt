@@ -14,41 +14,11 @@ use Rattle.forms.specs.Form.{Form, mute, _then_, eachShow, EachOk, each}
 use Rattle.forms.specs.Fields.{Field, kept, reserved, sheetField, sheetFields}
 use Rattle.forms.specs.Lists.{all, All, none, one, countedShow, counted, loopShow, loop, filling}
 use Rattle.sheet.specs.Content.{Item, plain, numbers, packed, bare, frame, headOf, entryOf, sideOf, Fields, Loop, Entry, Entries, Body, Content, tableOf, rowIn}
-use Rattle.sheet.specs.Sheet.{sheetItem, descriptor, sheetLoop, sheetEntry, sheetTop, sheetEntries, behindId, sheetOf, SheetOk}
+use Rattle.sheet.specs.Sheet.{itemFor, loopFor, entryFor, behindFor, sheetItem, descriptor, sheetEntry, sheetTop, topFor, entriesFor, behindId, sheetOf, shownFor, SheetOk, OkFor}
 use Rattle.sheet.specs.Inner.Lengths.{cut, gain, countAt, spare}
 use Rattle.sheet.specs.Section.{sectionItem, sectionLoop, sectionEntry, sectionTop, sectionEntries, sectionBody, sectionLength}
 
--- ---- fields and items
-
--- the bytes that fields take in a sheet
-abbrev fieldSize : Field → ℕ
-fieldSize (kept w) = 1
-fieldSize (reserved w) = 0
-
-fieldsSize : List Field → ℕ
-fieldsSize [] = 0
-fieldsSize (f ∷ fs) = fieldSize f + fieldsSize fs
-
-field-size : (f : Field) (v : ℕ) → length (sheetField f .show v) ≡ fieldSize f
-field-size (kept w) v = refl
-field-size (reserved w) v = refl
-
-fields-size : (fs : List Field) (vs : List ℕ) → sheetFields fs .Ok vs → length (sheetFields fs .show vs) ≡ fieldsSize fs
-unfolding eachShow EachOk fieldsSize
-fields-size [] [] o = refl
-fields-size [] (v ∷ vs) o = absurd o
-fields-size (f ∷ fs) [] o = absurd o
-fields-size (f ∷ fs) (v ∷ vs) o =
-    let l = length-append (sheetField f .show v) (eachShow sheetField fs vs) in
-    let h = field-size f v in
-    let g = fields-size fs vs (o .1) in
-    omega arith
-
--- the bytes that items take in a sheet, and in a section
-abbrev inSheet : Item → ℕ
-inSheet (plain n) = n
-inSheet numbers = 2
-inSheet (packed fs) = fieldsSize fs
+-- ---- items and loops
 
 abbrev inSection : Item → ℕ
 inSection (plain n) = n
@@ -59,36 +29,6 @@ total : (Item → ℕ) → List Item → ℕ
 total f [] = 0
 total f (x ∷ xs) = f x + total f xs
 
-sheet-item : (x : Item) (v : List ℕ) → sheetItem x .Ok v → length (sheetItem x .show v) ≡ inSheet x
-sheet-item (plain n) v o = o
-sheet-item numbers v o = o .0
-sheet-item (packed fs) v o = fields-size fs v o
-
-section-item : (x : Item) (v : List ℕ) → sheetItem x .Ok v → length (sectionItem x .show v) ≡ inSection x
-section-item (plain n) v o = o
-section-item numbers v o = o .0
-section-item (packed fs) v o = refl
-
-items-size : (f : Item → Form (List ℕ)) (size : Item → ℕ) → ((x : Item) (v : List ℕ) → sheetItem x .Ok v → length (f x .show v) ≡ size x)
-    → (xs : List Item) (vs : Fields) → EachOk sheetItem xs vs → length (eachShow f xs vs) ≡ total size xs
-unfolding eachShow EachOk total
-items-size f size h [] [] o = refl
-items-size f size h [] (v ∷ vs) o = absurd o
-items-size f size h (x ∷ xs) [] o = absurd o
-items-size f size h (x ∷ xs) (v ∷ vs) o =
-    let l = length-append (f x .show v) (eachShow f xs vs) in
-    let i = h x v (o .0) in
-    let j = items-size f size h xs vs (o .1) in
-    omega arith
-
-sheet-items : (xs : List Item) (vs : Fields) → EachOk sheetItem xs vs → length (each sheetItem xs .show vs) ≡ total inSheet xs
-sheet-items = items-size sheetItem inSheet sheet-item
-
-section-items : (xs : List Item) (vs : Fields) → EachOk sheetItem xs vs → length (each sectionItem xs .show vs) ≡ total inSection xs
-section-items = items-size sectionItem inSection section-item
-
--- ---- loops and entries
-
 counted-size : {A : Type 0} (c : Form A) (l : List A) → length (counted c .show l) ≡ 2 + length (all c l)
 unfolding countedShow
 counted-size c l = omega arith
@@ -97,125 +37,241 @@ loop-size : {A : Type 0} (c : Form A) (fs : List Field) (p : List ℕ × List A)
 unfolding loopShow
 loop-size c fs p = omega arith
 
--- a loop is as long in the section, but for what stands beside it in the sheet
-side-size : (fs : List Field) (p : Loop) → sheetLoop fs .Ok p → length (sheetLoop fs .show p) ≡ fieldsSize fs + length (sectionLoop fs .show p)
-side-size fs p o =
-    let l = length-append (sheetFields fs .show (p .0)) (counted descriptor .show (p .1)) in
-    let f = fields-size fs (p .0) (o .0) in
-    let g = counted-size descriptor (p .1) in
-    let h = loop-size descriptor fs p in
-    omega arith
+-- ---- by how a field is shown, and by how many bytes
 
-module _ (row cut : ℕ) (by : total inSheet (entryOf row) + fieldsSize (sideOf row) ≡ cut + total inSection (entryOf row)) where
-  entry-size : (e : Entry) → sheetEntry row .Ok e → length (sheetEntry row .show e) ≡ cut + length (sectionEntry row .show e)
-  entry-size e o =
-      let l = length-append (each sheetItem (entryOf row) .show (e .0)) (sheetLoop (sideOf row) .show (e .1)) in
-      let m = length-append (each sectionItem (entryOf row) .show (e .0)) (sectionLoop (sideOf row) .show (e .1)) in
-      let a = sheet-items (entryOf row) (e .0) (o .0) in
-      let b = section-items (entryOf row) (e .0) (o .0) in
-      let d = side-size (sideOf row) (e .1) (o .1) in
+module _ (field : Field → Form ℕ) (fieldSize : Field → ℕ)
+    (sized : (f : Field) (v : ℕ) → length (field f .show v) ≡ fieldSize f) where
+  -- the bytes that fields take in a sheet
+  fieldsSize : List Field → ℕ
+  fieldsSize [] = 0
+  fieldsSize (f ∷ fs) = fieldSize f + fieldsSize fs
+
+  fields-size : (fs : List Field) (vs : List ℕ) → each field fs .Ok vs → length (each field fs .show vs) ≡ fieldsSize fs
+  unfolding eachShow EachOk fieldsSize
+  fields-size [] [] o = refl
+  fields-size [] (v ∷ vs) o = absurd o
+  fields-size (f ∷ fs) [] o = absurd o
+  fields-size (f ∷ fs) (v ∷ vs) o =
+      let l = length-append (field f .show v) (eachShow field fs vs) in
+      let h = sized f v in
+      let g = fields-size fs vs (o .1) in
       omega arith
 
-  all-size : (es : List Entry) → All (sheetEntry row) es → length (all (sheetEntry row) es) ≡ cut * length es + length (all (sectionEntry row) es)
-  unfolding all
-  all-size [] none = omega arith
-  all-size (e ∷ es) (one o os) =
-      let l = length-append (sheetEntry row .show e) (all (sheetEntry row) es) in
-      let m = length-append (sectionEntry row .show e) (all (sectionEntry row) es) in
-      let a = entry-size e o in
-      let b = all-size es os in
+  -- the bytes that items take in a sheet, and in a section
+  abbrev inSheet : Item → ℕ
+  inSheet (plain n) = n
+  inSheet numbers = 2
+  inSheet (packed fs) = fieldsSize fs
+
+  sheet-item : (x : Item) (v : List ℕ) → itemFor field x .Ok v → length (itemFor field x .show v) ≡ inSheet x
+  sheet-item (plain n) v o = o
+  sheet-item numbers v o = o .0
+  sheet-item (packed fs) v o = fields-size fs v o
+
+  section-item : (x : Item) (v : List ℕ) → itemFor field x .Ok v → length (sectionItem x .show v) ≡ inSection x
+  section-item (plain n) v o = o
+  section-item numbers v o = o .0
+  section-item (packed fs) v o = refl
+
+  items-size : (f : Item → Form (List ℕ)) (size : Item → ℕ)
+      → ((x : Item) (v : List ℕ) → itemFor field x .Ok v → length (f x .show v) ≡ size x)
+      → (xs : List Item) (vs : Fields) → EachOk (itemFor field) xs vs → length (eachShow f xs vs) ≡ total size xs
+  unfolding eachShow EachOk total
+  items-size f size h [] [] o = refl
+  items-size f size h [] (v ∷ vs) o = absurd o
+  items-size f size h (x ∷ xs) [] o = absurd o
+  items-size f size h (x ∷ xs) (v ∷ vs) o =
+      let l = length-append (f x .show v) (eachShow f xs vs) in
+      let i = h x v (o .0) in
+      let j = items-size f size h xs vs (o .1) in
       omega arith
 
-  -- entries after a length of their own
-  sized-entries : (es : Entries) → (sheetFields bare then counted (sheetEntry row)) .Ok es
-      → length ((sheetFields bare then counted (sheetEntry row)) .show es) ≡ cut * length (es .1) + length (loop (sectionEntry row) bare .show es)
-  unfolding fieldsSize
-  sized-entries es o =
-      let l = length-append (sheetFields bare .show (es .0)) (counted (sheetEntry row) .show (es .1)) in
-      let f = fields-size bare (es .0) (o .0) in
-      let g = counted-size (sheetEntry row) (es .1) in
-      let h = loop-size (sectionEntry row) bare es in
-      let a = all-size (es .1) (o .1 .1) in
+  sheet-items : (xs : List Item) (vs : Fields) → EachOk (itemFor field) xs vs → length (each (itemFor field) xs .show vs) ≡ total inSheet xs
+  sheet-items = items-size (itemFor field) inSheet sheet-item
+
+  section-items : (xs : List Item) (vs : Fields) → EachOk (itemFor field) xs vs → length (each sectionItem xs .show vs) ≡ total inSection xs
+  section-items = items-size sectionItem inSection section-item
+
+  -- ---- loops and entries
+
+  -- a loop is as long in the section, but for what stands beside it in the sheet
+  side-size : (fs : List Field) (p : Loop) → loopFor field fs .Ok p
+      → length (loopFor field fs .show p) ≡ fieldsSize fs + length (sectionLoop fs .show p)
+  side-size fs p o =
+      let l = length-append (each field fs .show (p .0)) (counted descriptor .show (p .1)) in
+      let f = fields-size fs (p .0) (o .0) in
+      let g = counted-size descriptor (p .1) in
+      let h = loop-size descriptor fs p in
       omega arith
 
-  -- entries up to the CRC_32
-  bare-entries : (es : Entries) → (sheetFields [] then counted (sheetEntry row)) .Ok es
-      → length ((sheetFields [] then counted (sheetEntry row)) .show es) ≡ 2 + cut * length (es .1) + length ((mute [] then filling (sectionEntry row) 0) .show es)
-  unfolding fieldsSize
-  bare-entries es o =
-      let l = length-append (sheetFields [] .show (es .0)) (counted (sheetEntry row) .show (es .1)) in
-      let f = fields-size [] (es .0) (o .0) in
-      let g = counted-size (sheetEntry row) (es .1) in
-      let a = all-size (es .1) (o .1 .1) in
-      omega arith
+  module _ (row cut : ℕ) (by : total inSheet (entryOf row) + fieldsSize (sideOf row) ≡ cut + total inSection (entryOf row)) where
+    entry-size : (e : Entry) → entryFor field row .Ok e → length (entryFor field row .show e) ≡ cut + length (sectionEntry row .show e)
+    entry-size e o =
+        let l = length-append (each (itemFor field) (entryOf row) .show (e .0)) (loopFor field (sideOf row) .show (e .1)) in
+        let m = length-append (each sectionItem (entryOf row) .show (e .0)) (sectionLoop (sideOf row) .show (e .1)) in
+        let a = sheet-items (entryOf row) (e .0) (o .0) in
+        let b = section-items (entryOf row) (e .0) (o .0) in
+        let d = side-size (sideOf row) (e .1) (o .1) in
+        omega arith
 
--- ---- the top loop
+    all-size : (es : List Entry) → All (entryFor field row) es
+        → length (all (entryFor field row) es) ≡ cut * length es + length (all (sectionEntry row) es)
+    unfolding all
+    all-size [] none = omega arith
+    all-size (e ∷ es) (one o os) =
+        let l = length-append (entryFor field row .show e) (all (entryFor field row) es) in
+        let m = length-append (sectionEntry row .show e) (all (sectionEntry row) es) in
+        let a = entry-size e o in
+        let b = all-size es os in
+        omega arith
 
-top-size : (row : ℕ) (p : Loop) → sheetTop row .Ok p → length (sheetTop row .show p) ≡ length (sectionTop row .show p)
-unfolding sheetTop sectionTop fieldsSize
-top-size row p = go (eqb (rowAt row .top) 1)
+    -- entries after a length of their own
+    sized-entries : (es : Entries) → (each field bare then counted (entryFor field row)) .Ok es
+        → length ((each field bare then counted (entryFor field row)) .show es)
+        ≡ fieldsSize bare + cut * length (es .1) + length (loop (sectionEntry row) bare .show es)
+    unfolding fieldsSize
+    sized-entries es o =
+        let l = length-append (each field bare .show (es .0)) (counted (entryFor field row) .show (es .1)) in
+        let f = fields-size bare (es .0) (o .0) in
+        let g = counted-size (entryFor field row) (es .1) in
+        let h = loop-size (sectionEntry row) bare es in
+        let a = all-size (es .1) (o .1 .1) in
+        omega arith
+
+    -- entries up to the CRC_32
+    bare-entries : (es : Entries) → (each field [] then counted (entryFor field row)) .Ok es
+        → length ((each field [] then counted (entryFor field row)) .show es)
+        ≡ 2 + cut * length (es .1) + length ((mute [] then filling (sectionEntry row) 0) .show es)
+    unfolding fieldsSize
+    bare-entries es o =
+        let l = length-append (each field [] .show (es .0)) (counted (entryFor field row) .show (es .1)) in
+        let f = fields-size [] (es .0) (o .0) in
+        let g = counted-size (entryFor field row) (es .1) in
+        let a = all-size (es .1) (o .1 .1) in
+        omega arith
+
+  -- ---- the top loop
+
+  top-size : (row : ℕ) (p : Loop) → topFor field row .Ok p
+      → length (topFor field row .show p)
+      ≡ (if eqb (rowAt row .top) 1 then fieldsSize bare else 0) + length (sectionTop row .show p)
+  unfolding topFor sectionTop
+  top-size row p = go (eqb (rowAt row .top) 1)
+    where
+      go : (b : Bool) → (if b then loopFor field bare else mute ([], [])) .Ok p
+          → length ((if b then loopFor field bare else mute ([], [])) .show p)
+          ≡ (if b then fieldsSize bare else 0) + length ((if b then sectionLoop bare else mute ([], [])) .show p)
+      go true o = side-size bare p o
+      go false o = refl
+
+  -- ---- by the row
+
+  module _ (row : ℕ) (b : List ℕ × Body) (o : behindFor field row .Ok b) where
+    behind-size : length (behindFor field row .show b)
+        ≡ fieldsSize frame + total inSheet (headOf row) + length (topFor field row .show (b .1 .1 .0))
+        + length (entriesFor field row .show (b .1 .1 .1))
+    unfolding fieldsSize
+    behind-size =
+        let f = fields-size frame (b .0) (o .0) in
+        let h = sheet-items (headOf row) (b .1 .0) (o .1 .0) in
+        let x = each field frame .show (b .0) in
+        let y = each (itemFor field) (headOf row) .show (b .1 .0) in
+        let z = topFor field row .show (b .1 .1 .0) in
+        let v = entriesFor field row .show (b .1 .1 .1) in
+        let l = length-append x (y ++ (z ++ v)) in
+        let m = length-append y (z ++ v) in
+        let n = length-append z v in
+        omega arith
+
+    body-size : length (sectionBody row 0 .show (b .1))
+        ≡ total inSection (headOf row) + length (sectionTop row .show (b .1 .1 .0))
+        + length (sectionEntries row 0 .show (b .1 .1 .1))
+    body-size =
+        let h = section-items (headOf row) (b .1 .0) (o .1 .0) in
+        let y = each sectionItem (headOf row) .show (b .1 .0) in
+        let z = sectionTop row .show (b .1 .1 .0) in
+        let v = sectionEntries row 0 .show (b .1 .1 .1) in
+        let m = length-append y (z ++ v) in
+        let n = length-append z v in
+        omega arith
+
+-- ---- document 01's sheets
+
+-- the bytes that fields take in a sheet
+abbrev fieldSize : Field → ℕ
+fieldSize (kept w) = 1
+fieldSize (reserved w) = 0
+
+field-size : (f : Field) (v : ℕ) → length (sheetField f .show v) ≡ fieldSize f
+field-size (kept w) v = refl
+field-size (reserved w) v = refl
+
+same-top : (row : ℕ) (p : Loop) → sheetTop row .Ok p → length (sheetTop row .show p) ≡ length (sectionTop row .show p)
+unfolding fieldsSize
+same-top row p o = top-size sheetField fieldSize field-size row p o ∙ go (eqb (rowAt row .top) 1)
   where
-    go : (b : Bool) → (if b then sheetLoop bare else mute ([], [])) .Ok p
-        → length ((if b then sheetLoop bare else mute ([], [])) .show p) ≡ length ((if b then sectionLoop bare else mute ([], [])) .show p)
-    go true o = let h = side-size bare p o in omega arith
-    go false o = refl
-
--- ---- by the row
-
-module _ (row : ℕ) (b : List ℕ × Body) (o : behindId row .Ok b) where
-  behind-size : length (behindId row .show b) ≡ total inSheet (headOf row) + length (sheetTop row .show (b .1 .1 .0)) + length (sheetEntries row .show (b .1 .1 .1))
-  unfolding fieldsSize
-  behind-size =
-      let f = fields-size frame (b .0) (o .0) in
-      let h = sheet-items (headOf row) (b .1 .0) (o .1 .0) in
-      let x = sheetFields frame .show (b .0) in
-      let y = each sheetItem (headOf row) .show (b .1 .0) in
-      let z = sheetTop row .show (b .1 .1 .0) in
-      let v = sheetEntries row .show (b .1 .1 .1) in
-      let l = length-append x (y ++ (z ++ v)) in
-      let m = length-append y (z ++ v) in
-      let n = length-append z v in
-      omega arith
-
-  body-size : length (sectionBody row 0 .show (b .1)) ≡ total inSection (headOf row) + length (sheetTop row .show (b .1 .1 .0)) + length (sectionEntries row 0 .show (b .1 .1 .1))
-  body-size =
-      let h = section-items (headOf row) (b .1 .0) (o .1 .0) in
-      let t = top-size row (b .1 .1 .0) (o .1 .1 .0) in
-      let y = each sectionItem (headOf row) .show (b .1 .0) in
-      let z = sectionTop row .show (b .1 .1 .0) in
-      let v = sectionEntries row 0 .show (b .1 .1 .1) in
-      let m = length-append y (z ++ v) in
-      let n = length-append z v in
-      omega arith
+    go : (b : Bool) → (if b then 0 else 0) + length (sectionTop row .show p) ≡ length (sectionTop row .show p)
+    go true = omega arith
+    go false = omega arith
 
 -- the number of entries
-abbrev pub entriesIn : List ℕ × Body → ℕ
-entriesIn b = length (b .1 .1 .1 .1)
+abbrev pub numberIn : List ℕ × Body → ℕ
+numberIn b = length (b .1 .1 .1 .1)
 
 Sized : ℕ → List ℕ × Body → Type 0
-Sized row b = length (sectionBody row 0 .show (b .1)) + 4 * rowAt row .crc + cut row * entriesIn b ≡ length (behindId row .show b) + gain row
+Sized row b = length (sectionBody row 0 .show (b .1)) + 4 * rowAt row .crc + cut row * numberIn b ≡ length (behindId row .show b) + gain row
 
 size-of : (row : ℕ) (b : List ℕ × Body) → row < 6 → behindId row .Ok b → Sized row b
-unfolding Sized cell cut gain headOf entryOf sideOf total fieldsSize sheetEntries sectionEntries
+unfolding Sized cell cut gain headOf entryOf sideOf total fieldsSize entriesFor sectionEntries
 size-of zero b h o =
-    let e = sized-entries 0 0 refl (b .1 .1 .1) (o .1 .1 .1) in
-    omega (arith, behind-size 0 b o, body-size 0 b o)
+    let e = sized-entries sheetField fieldSize field-size 0 0 refl (b .1 .1 .1) (o .1 .1 .1) in
+    omega (
+      arith,
+      behind-size sheetField fieldSize field-size 0 b o,
+      body-size sheetField fieldSize field-size 0 b o,
+      same-top 0 (b .1 .1 .0) (o .1 .1 .0),
+    )
 size-of (suc zero) b h o =
-    let e = bare-entries 1 3 refl (b .1 .1 .1) (o .1 .1 .1) in
-    omega (arith, behind-size 1 b o, body-size 1 b o)
+    let e = bare-entries sheetField fieldSize field-size 1 3 refl (b .1 .1 .1) (o .1 .1 .1) in
+    omega (
+      arith,
+      behind-size sheetField fieldSize field-size 1 b o,
+      body-size sheetField fieldSize field-size 1 b o,
+      same-top 1 (b .1 .1 .0) (o .1 .1 .0),
+    )
 size-of (suc (suc zero)) b h o =
-    let e = sized-entries 2 0 refl (b .1 .1 .1) (o .1 .1 .1) in
-    omega (arith, behind-size 2 b o, body-size 2 b o)
+    let e = sized-entries sheetField fieldSize field-size 2 0 refl (b .1 .1 .1) (o .1 .1 .1) in
+    omega (
+      arith,
+      behind-size sheetField fieldSize field-size 2 b o,
+      body-size sheetField fieldSize field-size 2 b o,
+      same-top 2 (b .1 .1 .0) (o .1 .1 .0),
+    )
 size-of (suc (suc (suc zero))) b h o =
-    let e = bare-entries 3 2 refl (b .1 .1 .1) (o .1 .1 .1) in
-    omega (arith, behind-size 3 b o, body-size 3 b o)
-size-of (suc (suc (suc (suc zero)))) b h o = omega (arith, behind-size 4 b o, body-size 4 b o)
-size-of (suc (suc (suc (suc (suc zero))))) b h o = omega (arith, behind-size 5 b o, body-size 5 b o)
+    let e = bare-entries sheetField fieldSize field-size 3 2 refl (b .1 .1 .1) (o .1 .1 .1) in
+    omega (
+      arith,
+      behind-size sheetField fieldSize field-size 3 b o,
+      body-size sheetField fieldSize field-size 3 b o,
+      same-top 3 (b .1 .1 .0) (o .1 .1 .0),
+    )
+size-of (suc (suc (suc (suc zero)))) b h o = omega (
+  arith,
+  behind-size sheetField fieldSize field-size 4 b o,
+  body-size sheetField fieldSize field-size 4 b o,
+  same-top 4 (b .1 .1 .0) (o .1 .1 .0),
+)
+size-of (suc (suc (suc (suc (suc zero))))) b h o = omega (
+  arith,
+  behind-size sheetField fieldSize field-size 5 b o,
+  body-size sheetField fieldSize field-size 5 b o,
+  same-top 5 (b .1 .1 .0) (o .1 .1 .0),
+)
 size-of (suc (suc (suc (suc (suc (suc n)))))) b h o = absurd (omega arith)
 
 -- section_length, from the length of the sheet and the number of entries
-pub section-size : (c : Content) → SheetOk c → sectionLength c + cut (rowIn c) * entriesIn (c .1) + 1 ≡ length (sheetOf c) + gain (rowIn c)
-unfolding SheetOk sheetOf sectionLength Sized
+pub section-size : (c : Content) → SheetOk c → sectionLength c + cut (rowIn c) * numberIn (c .1) + 1 ≡ length (sheetOf c) + gain (rowIn c)
+unfolding OkFor shownFor sectionLength Sized
 section-size c o = let e = size-of (rowIn c) (c .1) (o .0) (o .1) in omega arith
 
 -- ---- the number of the entries, where a table has no top loop
@@ -229,34 +285,46 @@ unfolding numberAt
 after-head id h rest k i j e =
     let a : length (id ∷ h) + 0 ≡ k + 1 = omega arith in
     let b : length (id ∷ h) + 1 ≡ k + 1 + 1 = omega arith in
-    let x : getD (id ∷ (h ++ (i ∷ j ∷ rest))) (k + 1) 0 ≡ i = ap (λ n. getD (id ∷ (h ++ (i ∷ j ∷ rest))) n 0) (sym a) ∙ getD-append-add (id ∷ h) (i ∷ j ∷ rest) 0 0 in
-    let y : getD (id ∷ (h ++ (i ∷ j ∷ rest))) (k + 1 + 1) 0 ≡ j = ap (λ n. getD (id ∷ (h ++ (i ∷ j ∷ rest))) n 0) (sym b) ∙ getD-append-add (id ∷ h) (i ∷ j ∷ rest) 1 0 in
+    let x : getD (id ∷ (h ++ (i ∷ j ∷ rest))) (k + 1) 0 ≡ i =
+    ap (λ n. getD (id ∷ (h ++ (i ∷ j ∷ rest))) n 0) (sym a) ∙ getD-append-add (id ∷ h) (i ∷ j ∷ rest) 0 0 in
+    let y : getD (id ∷ (h ++ (i ∷ j ∷ rest))) (k + 1 + 1) 0 ≡ j =
+    ap (λ n. getD (id ∷ (h ++ (i ∷ j ∷ rest))) n 0) (sym b) ∙ getD-append-add (id ∷ h) (i ∷ j ∷ rest) 1 0 in
     ap₂ (λ (m n : ℕ). m * 256 + n) x y
 
 -- what stands between the head and the entries shows no byte
-count-behind : (id k : ℕ) (f h : List ℕ) {A : Type 0} (c : Form A) (l : List A) → length f ≡ 0 → length h ≡ k → numberAt 2 (id ∷ (f ++ (h ++ counted c .show l))) (k + 1) ≡ length l
+count-behind : (id k : ℕ) (f h : List ℕ) {A : Type 0} (c : Form A) (l : List A) → length f ≡ 0 → length h ≡ k
+    → numberAt 2 (id ∷ (f ++ (h ++ counted c .show l))) (k + 1) ≡ length l
 unfolding countedShow
 count-behind id k f h c l e g =
     let n : ℕ = length l in
-    ap (λ x. numberAt 2 (id ∷ (x ++ (h ++ counted c .show l))) (k + 1)) (nothing f e) ∙ after-head id h (all c l) k (n / 256) (n % 256) g ∙ omega arith
+    ap (λ x. numberAt 2 (id ∷ (x ++ (h ++ counted c .show l))) (k + 1)) (nothing f e)
+    ∙ after-head id h (all c l) k (n / 256) (n % 256) g
+    ∙ omega arith
 
-entries-cut : (row id : ℕ) (b : List ℕ × Body) → row < 6 → behindId row .Ok b → cut row * numberAt 2 (id ∷ behindId row .show b) (countAt row) ≡ cut row * entriesIn b
-unfolding cut countAt cell headOf total fieldsSize sheetTop sheetEntries eachShow
+entries-cut : (row id : ℕ) (b : List ℕ × Body) → row < 6 → behindId row .Ok b
+    → cut row * numberAt 2 (id ∷ behindId row .show b) (countAt row) ≡ cut row * numberIn b
+unfolding cut countAt cell headOf total fieldsSize topFor entriesFor eachShow
 entries-cut zero id b h o = omega arith
 entries-cut (suc zero) id b h o =
-    ap (λ n. 3 * n) (count-behind id 8 (sheetFields frame .show (b .0)) (each sheetItem (headOf 1) .show (b .1 .0)) (sheetEntry 1) (b .1 .1 .1 .1)
-    (fields-size frame (b .0) (o .0)) (sheet-items (headOf 1) (b .1 .0) (o .1 .0)))
+    ap (λ n. 3 * n)
+    (count-behind id 8 (sheetFields frame .show (b .0)) (each sheetItem (headOf 1) .show (b .1 .0)) (sheetEntry 1)
+    (b .1 .1 .1 .1)
+    (fields-size sheetField fieldSize field-size frame (b .0) (o .0))
+    (sheet-items sheetField fieldSize field-size (headOf 1) (b .1 .0) (o .1 .0)))
 entries-cut (suc (suc zero)) id b h o = omega arith
 entries-cut (suc (suc (suc zero))) id b h o =
-    ap (λ n. 2 * n) (count-behind id 12 (sheetFields frame .show (b .0)) (each sheetItem (headOf 3) .show (b .1 .0)) (sheetEntry 3) (b .1 .1 .1 .1)
-    (fields-size frame (b .0) (o .0)) (sheet-items (headOf 3) (b .1 .0) (o .1 .0)))
+    ap (λ n. 2 * n)
+    (count-behind id 12 (sheetFields frame .show (b .0)) (each sheetItem (headOf 3) .show (b .1 .0)) (sheetEntry 3)
+    (b .1 .1 .1 .1)
+    (fields-size sheetField fieldSize field-size frame (b .0) (o .0))
+    (sheet-items sheetField fieldSize field-size (headOf 3) (b .1 .0) (o .1 .0)))
 entries-cut (suc (suc (suc (suc zero)))) id b h o = omega arith
 entries-cut (suc (suc (suc (suc (suc zero))))) id b h o = omega arith
 entries-cut (suc (suc (suc (suc (suc (suc n)))))) id b h o = absurd (omega arith)
 
 -- section_length, from the sheet's bytes
 pub section-spare : (c : Content) → SheetOk c → sectionLength c + spare (rowIn c) (sheetOf c) ≡ length (sheetOf c) + gain (rowIn c)
-unfolding SheetOk sheetOf spare
+unfolding OkFor shownFor spare
 section-spare c o = let e = section-size c o in let f = entries-cut (rowIn c) (tableOf c) (c .1) (o .0) (o .1) in omega arith
 
 -- ---- row by row

@@ -96,6 +96,14 @@ Loop = List ℕ × List Descriptor
 abbrev pub Entry : Type 0
 Entry = Fields × Loop
 
+-- an entry's fields before its loop
+abbrev pub fieldsIn : Entry → Fields
+fieldsIn e = e .0
+
+-- those beside its loop's length
+abbrev pub besideIn : Entry → List ℕ
+besideIn e = e .1 .0
+
 -- the fields beside the length over the entries, and the entries
 abbrev pub Entries : Type 0
 Entries = List ℕ × List Entry
@@ -119,6 +127,26 @@ frameOf c = c .1 .0
 -- what stands behind section_length
 abbrev pub bodyOf : Content → Body
 bodyOf c = c .1 .1
+
+-- the fields of its head
+abbrev pub headIn : Content → Fields
+headIn c = bodyOf c .0
+
+-- its top loop
+abbrev pub topIn : Content → Loop
+topIn c = bodyOf c .1 .0
+
+-- what stands behind that: the entries, and the fields beside the length over them
+abbrev pub restIn : Content → Entries
+restIn c = bodyOf c .1 .1
+
+-- the fields beside the length over its entries
+abbrev pub secondIn : Content → List ℕ
+secondIn c = restIn c .0
+
+-- its entries
+abbrev pub entriesIn : Content → List Entry
+entriesIn c = restIn c .1
 
 -- the row of its table
 abbrev pub rowIn : Content → ℕ

@@ -1,6 +1,5 @@
 -- Sections, as a form of what a table contains: EN 300 468, clause 5.2.
-use Prim.Native.Nat.{ℕ, _+_, _-_, _*_, _/_, _%_, _≤_, _<_}
-use mathlib.Core.Path.{_≡_}
+use Prim.Native.Nat.{ℕ, _+_, _-_, _*_, _/_, _%_}
 use mathlib.Core.List.{List, [], _∷_, _++_}
 use lib.ListN.{length, getD, take, drop}
 use lib.Dec.{ltb, eqb}
@@ -9,10 +8,10 @@ use Rattle.wire.specs.Reading.{Reading, value, refused, _>>=_}
 use Rattle.crc.specs.Crc.{crc, bytesOf}
 use Rattle.tables.specs.Tables.{rowOf, rowAt}
 use Rattle.forms.specs.Form.{Form, mute, raw, _then_, such, each}
-use Rattle.forms.specs.Fields.{Field, pack, unpack, Fit, byteOf}
+use Rattle.forms.specs.Fields.{Field, sheetField, pack, unpack, byteOf}
 use Rattle.forms.specs.Lists.{loop, filling}
-use Rattle.sheet.specs.Content.{Item, plain, numbers, packed, bare, frame, headOf, entryOf, sideOf, Fields, Loop, Entry, Entries, Body, Content, tableOf, frameOf, bodyOf, rowIn}
-use Rattle.sheet.specs.Sheet.{inOrder, descriptor, sheet}
+use Rattle.sheet.specs.Content.{Item, plain, numbers, packed, bare, frame, headOf, entryOf, sideOf, Loop, Entry, Entries, Body, Content, tableOf, frameOf, bodyOf, rowIn}
+use Rattle.sheet.specs.Sheet.{inOrder, descriptor, sheetFor}
 
 -- an item of a head or an entry in a section; 7 is the section's refusal of a section_number above the last
 abbrev pub sectionItem : Item → Form (List ℕ)
@@ -84,9 +83,13 @@ contentOf s =
 -- ---- a sheet's content, or the first of refusals 22 to 26
 
 -- "25 bytes after the sheet"; "26 section_length would pass its row"
-unfoldable pub readSheet : List ℕ → Reading Content
-readSheet s =
-    sheet .read s >>= λ c.
+unfoldable pub readSheetFor : (Field → Form ℕ) → List ℕ → Reading Content
+readSheetFor field s =
+    sheetFor field .read s >>= λ c.
     if ltb 0 (length (c .1)) then refused 25
     else if ltb (rowAt (rowIn (c .0)) .most) (sectionLength (c .0)) then refused 26
     else value (c .0)
+
+-- of document 01's sheets
+abbrev pub readSheet : List ℕ → Reading Content
+readSheet = readSheetFor sheetField

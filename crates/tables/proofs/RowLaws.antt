@@ -27,7 +27,8 @@ unnumbered-from row e f = ltb-false row TDT (sym e ∙ f)
 pub record Shape (i : ℕ) : Type 0 where
   pub room : rowAt i .crc ≡ 1 → rowAt i .before + 4 ≤ 3 + rowAt i .least
   pub bare : (rowAt i .crc ≡ 1 → ⊥)
-      → (rowAt i .crc ≡ 0) × (rowAt i .before ≡ 3 + rowAt i .least) × (rowAt i .most ≡ rowAt i .least) × (rowAt i .top ≡ 1 → ⊥) × (rowAt i .fixed ≡ 0)
+      → (rowAt i .crc ≡ 0) × (rowAt i .before ≡ 3 + rowAt i .least) × (rowAt i .most ≡ rowAt i .least)
+      × (rowAt i .top ≡ 1 → ⊥) × (rowAt i .fixed ≡ 0)
   pub empty : (rowAt i .top ≡ 1 → ⊥) → rowAt i .fixed ≡ 0 → rowAt i .crc ≡ 0
 
 pub shape : (i : ℕ) → i < 6 → Shape i
@@ -36,7 +37,11 @@ shape zero h = record { room = λ _. omega arith; bare = λ g. absurd (g refl); 
 shape (suc zero) h = record { room = λ _. omega arith; bare = λ g. absurd (g refl); empty = λ _ e. absurd (omega arith) }
 shape (suc (suc zero)) h = record { room = λ _. omega arith; bare = λ g. absurd (g refl); empty = λ g. absurd (g refl) }
 shape (suc (suc (suc zero))) h = record { room = λ _. omega arith; bare = λ g. absurd (g refl); empty = λ _ e. absurd (omega arith) }
-shape (suc (suc (suc (suc zero)))) h = record { room = λ e. absurd (omega arith); bare = λ _. (refl, refl, refl, (λ e. omega arith), refl); empty = λ _ _. refl }
+shape (suc (suc (suc (suc zero)))) h = record {
+  room = λ e. absurd (omega arith);
+  bare = λ _. (refl, refl, refl, (λ e. omega arith), refl);
+  empty = λ _ _. refl;
+}
 shape (suc (suc (suc (suc (suc zero))))) h = record { room = λ _. omega arith; bare = λ g. absurd (g refl); empty = λ g. absurd (g refl) }
 shape (suc (suc (suc (suc (suc (suc i)))))) h = absurd (omega arith)
 
@@ -89,7 +94,8 @@ unfolding first
 first-holds zero i p h = absurd (omega arith)
 first-holds (suc k) i p h = go (λ g. first-holds k (i + 1) p g) (p i) refl h
   where
-    go : (first k (i + 1) p < i + 1 + k → p (first k (i + 1) p) ≡ true) → (b : Bool) → p i ≡ b → (if b then i else first k (i + 1) p) < i + suc k
+    go : (first k (i + 1) p < i + 1 + k → p (first k (i + 1) p) ≡ true) → (b : Bool) → p i ≡ b
+        → (if b then i else first k (i + 1) p) < i + suc k
         → p (if b then i else first k (i + 1) p) ≡ true
     go ih true e h = e
     go ih false e h = ih (omega arith)

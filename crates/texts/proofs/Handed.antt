@@ -35,8 +35,8 @@ unfolding stuffing
 stuffing-is-body s p e = whole-is-body 0x42 s p e
 
 -- two texts read out of a descriptor's body fill it behind the first h bytes
-fill : (h tag : ℕ) (s b : List ℕ) (x : TwoTexts) → framed tag s ≡ value b → twoTexts h b ≡ value x → Filled h s x
-fill h tag s b x e q = texts-are h s x (ap (λ l. twoTexts h (drop 2 l)) (framed-is tag s b e) ∙ q)
+fill : (h tag : ℕ) (s b : List ℕ) (x : TwoTexts) → framed tag s ≡ value b → twoTexts b h ≡ value x → Filled h s x
+fill h tag s b x e q = texts-are h s x (ap (λ l. twoTexts (drop 2 l) h) (framed-is tag s b e) ∙ q)
 
 -- the type, and then each name after its length
 pub names-fill : (s : List ℕ) (f : Service) → service.service s ≡ value f
@@ -44,7 +44,7 @@ pub names-fill : (s : List ℕ) (f : Service) → service.service s ≡ value f
 unfolding service.service service.fields
 names-fill s f e =
     let t = through (framed 0x48 s) _ f e in
-    let u = through (twoTexts 1 (t .0)) _ f (t .2) in
+    let u = through (twoTexts (t .0) 1) _ f (t .2) in
     subst (λ g. Filled 1 s (record { first = g .«service_provider_name»; second = g .«service_name» })) (value-is (u .2))
     (fill 1 0x48 s (t .0) (u .0) (t .1) (u .1))
 
@@ -54,6 +54,6 @@ pub texts-fill : (s : List ℕ) (f : ShortEvent) → short-event.shortEvent s �
 unfolding short-event.shortEvent short-event.fields
 texts-fill s f e =
     let t = through (framed 0x4D s) _ f e in
-    let u = through (twoTexts 3 (t .0)) _ f (t .2) in
+    let u = through (twoTexts (t .0) 3) _ f (t .2) in
     subst (λ g. Filled 3 s (record { first = g .«event_name»; second = g .text })) (value-is (u .2))
     (fill 3 0x4D s (t .0) (u .0) (t .1) (u .1))

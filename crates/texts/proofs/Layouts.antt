@@ -6,7 +6,7 @@ use mathlib.Core.List.{List, [], _∷_}
 use native.Mathlib.Omega.{arith}
 use lib.ListN.{length, getD}
 use Rattle.wire.specs.Bytes.{Bytes}
-use Rattle.wire.specs.Reading.{value, _>>=_}
+use Rattle.wire.specs.Reading.{value}
 use Rattle.wire.specs.Number.{numberAt}
 use Rattle.wire.proofs.NumberLaws.{number-in-front}
 use Rattle.wire.proofs.ReadingLaws.{value-is, through}
@@ -82,7 +82,7 @@ unfolding service.service service.fields
 service-exactly s bytes f = (
   λ e.
       let t = through (framed 0x48 s) _ f e in
-      let u = through (twoTexts 1 (t .0)) _ f (t .2) in
+      let u = through (twoTexts (t .0) 1) _ f (t .2) in
       let fr = framed-exactly 0x48 s (t .0) .0 (t .1) in
       let x = texts-exactly 1 (t .0) (u .0) .0 (u .1) in
       subst (λ g. HoldsTexts 0x48 service.layout s (g .«service_type» ∷ []) (service.names g)) (value-is (u .2))
@@ -111,7 +111,7 @@ unfolding short-event.shortEvent short-event.fields
 short-event-exactly s bytes f = (
   λ e.
       let t = through (framed 0x4D s) _ f e in
-      let u = through (twoTexts 3 (t .0)) _ f (t .2) in
+      let u = through (twoTexts (t .0) 3) _ f (t .2) in
       let fr = framed-exactly 0x4D s (t .0) .0 (t .1) in
       let x = texts-exactly 3 (t .0) (u .0) .0 (u .1) in
       subst (λ g. HoldsTexts 0x4D short-event.layout s (g .«language_code» ∷ []) (short-event.texts g)) (value-is (u .2))

@@ -21,7 +21,7 @@ layout = kept 8  -- 0 service_type
 -- behind it the length of the provider's name, 8 bits, and that name; then the length of the name, 8 bits, and the name to the end
 unfoldable pub fields : List ℕ → Answered Service
 fields b = do
-  texts ← twoTexts (size layout) b
+  texts ← twoTexts b (size layout)
   value (record { «service_type» = byteOf layout 0 b; «service_provider_name» = texts .first; «service_name» = texts .second })
 
 -- the tag 0x48, and a body of those fields

@@ -21,7 +21,7 @@ layout = kept 24  -- 0 language_code
 -- behind it the length of the name, 8 bits, and the name; then the length of the text, 8 bits, and the text to the end
 unfoldable pub fields : List ℕ → Answered ShortEvent
 fields b = do
-  parts ← twoTexts (size layout) b
+  parts ← twoTexts b (size layout)
   value (record { «language_code» = numberOf layout 0 b; «event_name» = parts .first; text = parts .second })
 
 -- the tag 0x4D, and a body of those fields

@@ -2,10 +2,10 @@
 use Prim.Native.Nat.{ℕ, zero, suc, _<_, _≤_}
 use mathlib.Core.Path.{_≡_, refl, sym, ap, subst}
 use mathlib.Core.List.{List, [], _∷_}
-use mathlib.Core.Bool.{Bool, true, false, not}
+use mathlib.Core.Bool.{Bool, true, false}
 use native.Mathlib.Omega.{arith}
 use lib.ListN.{drop}
-use Rattle.forms.specs.Form.{Form, raw}
+use Rattle.forms.specs.Form.{raw}
 use Rattle.forms.specs.Inner.Turning.{Turned}
 use Rattle.forms.proofs.Turns.{turned-none, turned-one, turned-such}
 use Rattle.sheet.specs.Content.{Item, plain, numbers, version, flags, filler, headOf, entryOf}
@@ -84,18 +84,22 @@ module _ (b : Bool) {s : List ℕ} where
   an-item x xs t u = turned-one (itemFrom b) (itemTo b) x xs t u
 
   -- one, and no more
-  pub last-item : {p q : Place} {o o' : List ℕ} (x : Item) → Turned (itemFrom b x) (itemTo b x) s p o q o' → Turned (itemsFrom b (x ∷ [])) (itemsTo b (x ∷ [])) s p o q o'
+  pub last-item : {p q : Place} {o o' : List ℕ} (x : Item) → Turned (itemFrom b x) (itemTo b x) s p o q o'
+      → Turned (itemsFrom b (x ∷ [])) (itemsTo b (x ∷ [])) s p o q o'
   last-item x t = an-item x [] t no-items
 
-pub plain-item : {s : List ℕ} {p q : Place} {o o' : List ℕ} (b : Bool) (n : ℕ) → Turned (raw n) (raw n) s p o q o' → Turned (itemFrom b (plain n)) (itemTo b (plain n)) s p o q o'
+pub plain-item : {s : List ℕ} {p q : Place} {o o' : List ℕ} (b : Bool) (n : ℕ) → Turned (raw n) (raw n) s p o q o'
+    → Turned (itemFrom b (plain n)) (itemTo b (plain n)) s p o q o'
 plain-item true n t = t
 plain-item false n t = t
 
-pub numbers-item : {s : List ℕ} {p q : Place} {o o' : List ℕ} (b : Bool) → Turned (raw 2) (raw 2) s p o q o' → Turned (itemFrom b numbers) (itemTo b numbers) s p o q o'
+pub numbers-item : {s : List ℕ} {p q : Place} {o o' : List ℕ} (b : Bool) → Turned (raw 2) (raw 2) s p o q o'
+    → Turned (itemFrom b numbers) (itemTo b numbers) s p o q o'
 numbers-item true t = turned-such 24 7 inOrder inOrder t
 numbers-item false t = turned-such 7 24 inOrder inOrder t
 
 -- the same items
-pub as-items : {s : List ℕ} {p q : Place} {o o' : List ℕ} (b : Bool) {xs ys : List Item} → xs ≡ ys → Turned (itemsFrom b xs) (itemsTo b xs) s p o q o'
+pub as-items : {s : List ℕ} {p q : Place} {o o' : List ℕ} (b : Bool) {xs ys : List Item} → xs ≡ ys
+    → Turned (itemsFrom b xs) (itemsTo b xs) s p o q o'
     → Turned (itemsFrom b ys) (itemsTo b ys) s p o q o'
 as-items {s} {p} {q} {o} {o'} b e t = subst (λ zs. Turned (itemsFrom b zs) (itemsTo b zs) s p o q o') e t

@@ -1,12 +1,4 @@
-pub mod SectionLaws
-pub mod Held
-pub mod Accepted
-pub mod Contained
-pub mod AllOnes
-pub mod SheetSize
-pub mod RoundTrips
-pub mod MadeOnes
-pub mod AnyReserved
+pub mod TurnLaws
 pub mod PieceLaws
 pub mod HeadLaws
 pub mod CountLaws
@@ -15,8 +7,3 @@ pub mod LoopLaws
 pub mod EntriesLaws
 pub mod BodyLaws
 pub mod WholeLaws
-pub mod Once
-pub mod Demand2
-pub mod Refusals
-pub mod Rooms
-pub mod AtWork

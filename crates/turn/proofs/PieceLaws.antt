@@ -1,26 +1,25 @@
 -- Laws of the pieces that are turned by themselves.
-use Prim.Native.Nat.{ℕ, zero, suc, _+_, _-_, _*_, _/_, _%_, _^_, _<_, _≤_}
+use Prim.Native.Nat.{ℕ, _+_, _-_, _*_, _/_, _%_, _^_, _<_, _≤_}
 use mathlib.Core.Path.{_≡_, refl, sym, ap, ap₂, _∙_, subst}
 use mathlib.Core.List.{List, [], _∷_, _++_}
-use mathlib.Core.Bool.{Bool, true, false, not}
+use mathlib.Core.Bool.{Bool, true, false}
 use native.Mathlib.Omega.{arith}
+use borrow.Author.Tests.{eq-eqb, ne-eqb}
 use lib.ListN.{length, getD, take, drop, length-append, List·getD-append}
 use lib.Seq.{getD-append-add}
+use lib.Dec.{eqb}
 use Rattle.wire.specs.If.{if_then_else_}
 use Rattle.wire.specs.Parts.{Part}
 use Rattle.wire.proofs.PartLaws.{part-taken}
-use Rattle.forms.specs.Form.{Form, raw, eachShow, EachOk}
-use Rattle.forms.specs.Fields.{Field, kept, reserved, room, pack, Fit, sheetFields}
+use Rattle.forms.specs.Form.{raw, eachShow, EachOk}
+use Rattle.forms.specs.Fields.{Field, room, pack, unpack, Fit, sheetFields, byteOf}
 use Rattle.forms.specs.Room.{put, sum}
 use Rattle.forms.specs.Inner.Turning.{Done, Turned}
-use Rattle.forms.proofs.Puts.{sum-fits, put-put, put-none, copied-put}
-use Rattle.forms.proofs.Turns.{turned-never}
-use Rattle.copy.specs.Copy.{copies, copied}
-use Rattle.copy.proofs.Copies.{copies-not}
-use Rattle.sheet.specs.Content.{version, flags, filler}
-use Rattle.sheet.specs.Sheet.{sheetItem}
-use Rattle.sheet.specs.Section.{sectionItem}
-use Rattle.turn.specs.Inner.Ways.{itemFrom, itemTo, special, spanOf}
+use Rattle.forms.proofs.Puts.{sum-fits, put-none, put-put, copied-put}
+use Rattle.forms.proofs.FieldLaws.{fields-fit, pack-lt, unpack-pack}
+use Rattle.copy.specs.Copy.{copied}
+use Rattle.turn.specs.Inner.Fields.{Shape, versioned, flagged, filled, running, bared, keptSize, joinedOf, joinedAt, partedOf, Parted}
+use Rattle.turn.specs.Inner.Ways.{putNumber, ByteTurned, LoopTurned}
 use Rattle.forms.specs.declared.Place.{Place}
 
 -- ---- parts
@@ -46,168 +45,164 @@ part-first-byte {s} {p} l h g = let e : p + 0 ≡ p = omega arith in ap (λ k. g
 
 -- ---- what is done at a place
 
-module _ (s o : List ℕ) (ls : length s < 2 ^ 64) (lo : length o < 2 ^ 64) (p : Place) where
+module _ {s o : List ℕ} (ls : length s < 2 ^ 64) (lo : length o < 2 ^ 64) {p : Place} where
   pub done : (x u : List ℕ) → Part s (p .at) x → p .to + length u ≤ length o → {q : Place} {o' : List ℕ} → o' ≡ put o (p .to) u
       → q .at ≡ sum (p .at) (length x) → q .to ≡ sum (p .to) (length u) → Done p x u o q o'
   done x u w f e a b =
       let n = part-within x w in
-      record { room = e; read = a ∙ sum-fits (p .at) (length x) (omega arith); written = b ∙ sum-fits (p .to) (length u) (omega arith) }
+      record {
+        room = e;
+        read = a ∙ sum-fits (p .at) (length x) (omega arith);
+        written = b ∙ sum-fits (p .to) (length u) (omega arith);
+      }
 
-  pub turned-raw : (n : ℕ) {q : Place} {o' : List ℕ} → o' ≡ copied s (p .at) n o (p .to) → q .at ≡ p .at + n → q .to ≡ p .to + n → Turned (raw n) (raw n) s p o q o'
-  turned-raw n e a b = record {
+  pub turned-raw : {n : ℕ} {q : Place} {o' : List ℕ} → o' ≡ copied s (p .at) n o (p .to) → q .at ≡ sum (p .at) n → q .to ≡ sum (p .to) n
+      → Turned (raw n) (raw n) s p o q o'
+  turned-raw {n} e a b = record {
     turned = λ x k w f.
         let h = part-within x w in
         let t : take n (drop (p .at) s) ≡ x = ap (λ m. take m (drop (p .at) s)) (sym k) ∙ part-taken w in
-        record { room = e ∙ copied-put s (p .at) n o (p .to) (omega arith) (omega arith) ∙ ap (put o (p .to)) t; read = omega (arith, a); written = omega (arith, b) };
+        done x x w f (e ∙ copied-put s (p .at) n o (p .to) (omega arith) (omega arith) ∙ ap (put o (p .to)) t)
+        (a ∙ ap (sum (p .at)) (sym k)) (b ∙ ap (sum (p .to)) (sym k));
   }
 
-  -- what is not copied is not there, or has no room
-  pub raw-not-there : (n : ℕ) {r : Bool} {q : Place} {o' : List ℕ} → r ≡ copies s (p .at) n o (p .to) → r ≡ false → Turned (raw n) (raw n) s p o q o'
-  raw-not-there n e g = turned-never (λ x k w f. let h = part-within x w in copies-not s (p .at) n o (p .to) e g (omega arith) (omega arith))
+-- two bytes put one after the other
+pub two-put : (o : List ℕ) (to a b : ℕ) → length o < 2 ^ 64 → to + 2 ≤ length o
+    → put (put o to (a ∷ [])) (sum to 1) (b ∷ []) ≡ put o to (a ∷ b ∷ [])
+two-put o to a b lo f =
+    ap (λ k. put (put o to (a ∷ [])) k (b ∷ [])) (sum-fits to 1 (omega arith))
+    ∙ put-put o to (a ∷ []) (omega arith) (b ∷ []) (omega arith)
 
--- ---- a byte of reserved bits, a value and a flag
+-- a number of two bytes, put
+pub number-put : (o : List ℕ) (to v : ℕ) → length o < 2 ^ 64 → to + 2 ≤ length o
+    → putNumber o to v ≡ put o to (v / 256 % 256 ∷ v % 256 ∷ [])
+number-put o to v lo f = two-put o to (v / 256 % 256) (v % 256) lo f
 
-pub span-small : (v : Bool) → (2 ≤ spanOf v) × (spanOf v ≤ 32)
-span-small true = (omega arith, omega arith)
-span-small false = (omega arith, omega arith)
+-- ---- fields
 
--- its two forms, by the value and the flag
-pub record Two (v : Bool) (vs : List ℕ) : Type 0 where
-  pub kept-value : ℕ
-  pub kept-flag : ℕ
-  pub in-sheet : sheetItem (special v) .show vs ≡ kept-value ∷ kept-flag ∷ []
-  pub in-section : sectionItem (special v) .show vs ≡ (256 - 2 * spanOf v + kept-value * 2 + kept-flag) % 256 ∷ []
+pub shape-room : {fs : List Field} {span all : ℕ} → Shape fs span all → room fs ≡ all
+unfolding room
+shape-room versioned = refl
+shape-room flagged = refl
+shape-room filled = refl
+shape-room running = refl
+shape-room bared = refl
 
-pub two-of : (v : Bool) (vs : List ℕ) → sheetItem (special v) .Ok vs → Two v vs
-unfolding eachShow EachOk pack room
-two-of true [] o = absurd o
-two-of true (r ∷ []) o = absurd (o .1)
-two-of true (r ∷ a ∷ []) o = absurd (o .1 .1)
-two-of true (r ∷ a ∷ b ∷ []) o =
-    let e = o .0 in
-    let f = o .1 .0 in
-    let g = o .1 .1 .0 in
-    let i : pack (reserved 2 ∷ kept 5 ∷ kept 1 ∷ []) (r ∷ a ∷ b ∷ []) ≡ (256 - 2 * 32 + a * 2 + b) % 256 = omega arith in
-    record { kept-value = a; kept-flag = b; in-sheet = refl; in-section = ap (λ x. x ∷ []) i }
-two-of true (r ∷ a ∷ b ∷ x ∷ vs) o = absurd (o .1 .1 .1)
-two-of false [] o = absurd o
-two-of false (r ∷ []) o = absurd (o .1)
-two-of false (r ∷ a ∷ []) o = absurd (o .1 .1)
-two-of false (r ∷ a ∷ b ∷ []) o =
-    let e = o .0 in
-    let f = o .1 .0 in
-    let g = o .1 .1 .0 in
-    let i : pack (reserved 6 ∷ kept 1 ∷ kept 1 ∷ []) (r ∷ a ∷ b ∷ []) ≡ (256 - 2 * 2 + a * 2 + b) % 256 = omega arith in
-    record { kept-value = a; kept-flag = b; in-sheet = refl; in-section = ap (λ x. x ∷ []) i }
-two-of false (r ∷ a ∷ b ∷ x ∷ vs) o = absurd (o .1 .1 .1)
+-- the fields of a number, as a sheet has them
+parted-is : {fs : List Field} {span all : ℕ} → Shape fs span all → (x : ℕ) → x < all → sheetFields fs .show (unpack fs x) ≡ partedOf span x
+unfolding eachShow unpack room
+parted-is versioned x h = ap₂ (λ a b. a ∷ b ∷ []) (omega arith) (omega arith)
+parted-is flagged x h = ap₂ (λ a b. a ∷ b ∷ []) (omega arith) (omega arith)
+parted-is filled x h = refl
+parted-is running x h = ap₂ (λ a b. a ∷ b ∷ []) (omega arith) (omega arith)
+parted-is bared x h = refl
 
--- and by the byte
-pub record Byte (v : Bool) (vs : List ℕ) : Type 0 where
-  pub x : ℕ
-  pub in-section : sectionItem (special v) .show vs ≡ x ∷ []
-  pub in-sheet : sheetItem (special v) .show vs ≡ x / 2 % spanOf v ∷ x % 2 ∷ []
+-- a number whose fields a sheet can have is what these join to
+joined-is : {fs : List Field} {span all : ℕ} → Shape fs span all → (x : ℕ) → x < all → sheetFields fs .Ok (unpack fs x)
+    → joinedOf span (x / 2 % span) (x % 2) % all ≡ x
+unfolding EachOk unpack room
+joined-is versioned x h o = let e = o .0 in omega arith
+joined-is flagged x h o = let e = o .0 in omega arith
+joined-is filled x h o = let e = o .0 in omega arith
+joined-is running x h o = omega arith
+joined-is bared x h o = let e = o .0 in omega arith
 
-pub byte-of : (v : Bool) (vs : List ℕ) → sectionItem (special v) .Ok vs → Byte v vs
-unfolding eachShow EachOk pack room
-byte-of true [] o = absurd o
-byte-of true (r ∷ []) o = absurd (o .1)
-byte-of true (r ∷ a ∷ []) o = absurd (o .1 .1)
-byte-of true (r ∷ a ∷ b ∷ []) o =
-    let x : ℕ = pack (reserved 2 ∷ kept 5 ∷ kept 1 ∷ []) (r ∷ a ∷ b ∷ []) in
-    let e = o .0 in
-    let f = o .1 .0 in
-    let g = o .1 .1 .0 in
-    let i : a ≡ x / 2 % 32 = omega arith in
-    let j : b ≡ x % 2 = omega arith in
-    record { x = x; in-section = refl; in-sheet = ap₂ (λ m n. m ∷ n ∷ []) i j }
-byte-of true (r ∷ a ∷ b ∷ x ∷ vs) o = absurd (o .1 .1 .1)
-byte-of false [] o = absurd o
-byte-of false (r ∷ []) o = absurd (o .1)
-byte-of false (r ∷ a ∷ []) o = absurd (o .1 .1)
-byte-of false (r ∷ a ∷ b ∷ []) o =
-    let x : ℕ = pack (reserved 6 ∷ kept 1 ∷ kept 1 ∷ []) (r ∷ a ∷ b ∷ []) in
-    let e = o .0 in
-    let f = o .1 .0 in
-    let g = o .1 .1 .0 in
-    let i : a ≡ x / 2 % 2 = omega arith in
-    let j : b ≡ x % 2 = omega arith in
-    record { x = x; in-section = refl; in-sheet = ap₂ (λ m n. m ∷ n ∷ []) i j }
-byte-of false (r ∷ a ∷ b ∷ x ∷ vs) o = absurd (o .1 .1 .1)
+pub parted-size : (span x : ℕ) → length (partedOf span x) ≡ keptSize span
+parted-size span x = go (eqb span 0)
+  where
+    go : (b : Bool) → length (if b then [] else x / 2 % span ∷ x % 2 ∷ []) ≡ (if b then 0 else 2)
+    go true = refl
+    go false = refl
 
-module _ (s o : List ℕ) (ls : length s < 2 ^ 64) (lo : length o < 2 ^ 64) (p : Place) where
-  -- two bytes that are read there
-  two-read : (a b : ℕ) → Part s (p .at) (a ∷ b ∷ []) → (getD s (p .at) 0 ≡ a) × (getD s (sum (p .at) 1) 0 ≡ b)
-  two-read a b w =
-      let n = part-within (a ∷ b ∷ []) w in
-      (part-first-byte (a ∷ b ∷ []) w (omega arith), ap (λ k. getD s k 0) (sum-fits (p .at) 1 (omega arith)) ∙ part-byte (a ∷ b ∷ []) w 1 (omega arith))
+module _ {fs : List Field} {span all : ℕ} (sh : Shape fs span all) (vs : List ℕ) (fit : Fit fs vs) where
+  pub packed-small : pack fs vs < all
+  packed-small = subst (λ n. pack fs vs < n) (shape-room sh) (pack-lt fs vs fit)
 
-  -- two bytes that are written there, one after the other
-  pub two-put : (a b : ℕ) → p .to + 2 ≤ length o → put (put o (p .to) (a ∷ [])) (sum (p .to) 1) (b ∷ []) ≡ put o (p .to) (a ∷ b ∷ [])
-  two-put a b f = ap (λ k. put (put o (p .to) (a ∷ [])) k (b ∷ [])) (sum-fits (p .to) 1 (omega arith)) ∙ put-put o (p .to) (a ∷ []) (omega arith) (b ∷ []) (omega arith)
+  -- values are the fields of the number that they make
+  values : unpack fs (pack fs vs) ≡ vs
+  values = unpack-pack fs vs fit
 
-  pub turned-pack : (v : Bool) (x : ℕ) → x ≡ (256 - 2 * spanOf v + getD s (p .at) 0 * 2 + getD s (sum (p .at) 1) 0) % 256 → {q : Place} {o' : List ℕ}
-      → o' ≡ put o (p .to) (x ∷ []) → q .at ≡ sum (p .at) 2 → q .to ≡ sum (p .to) 1 → Turned (sheetItem (special v)) (sectionItem (special v)) s p o q o'
-  turned-pack v x is {q} {o'} e a b = record {
-    turned = λ vs k w f.
-        let t = two-of v vs k in
-        let y : List ℕ = t .kept-value ∷ t .kept-flag ∷ [] in
-        let w' : Part s (p .at) y = subst (Part s (p .at)) (t .in-sheet) w in
-        let r = two-read (t .kept-value) (t .kept-flag) w' in
-        let i : x ≡ (256 - 2 * spanOf v + t .kept-value * 2 + t .kept-flag) % 256 = is ∙ ap₂ (λ m n. (256 - 2 * spanOf v + m * 2 + n) % 256) (r .0) (r .1) in
-        let u : x ∷ [] ≡ sectionItem (special v) .show vs = ap (λ z. z ∷ []) i ∙ sym (t .in-section) in
-        done s o ls lo p (sheetItem (special v) .show vs) (sectionItem (special v) .show vs) w f (e ∙ ap (put o (p .to)) u)
-        (a ∙ ap (λ l. sum (p .at) (length l)) (sym (t .in-sheet))) (b ∙ ap (λ l. sum (p .to) (length l)) u);
-  }
+  pub fields-shown : sheetFields fs .show vs ≡ partedOf span (pack fs vs)
+  fields-shown = ap (sheetFields fs .show) (sym values) ∙ parted-is sh (pack fs vs) packed-small
 
-  pub turned-unpack : (v : Bool) (i j : ℕ) → i ≡ getD s (p .at) 0 / 2 % spanOf v → j ≡ getD s (p .at) 0 % 2 → {q : Place} {o' : List ℕ}
-      → o' ≡ put (put o (p .to) (i ∷ [])) (sum (p .to) 1) (j ∷ []) → q .at ≡ sum (p .at) 1 → q .to ≡ sum (p .to) 2
-      → Turned (sectionItem (special v)) (sheetItem (special v)) s p o q o'
-  turned-unpack v i j hi hj {q} {o'} e a b = record {
-    turned = λ vs k w f.
-        let t = byte-of v vs k in
-        let r : getD s (p .at) 0 ≡ t .x = part-first-byte (t .x ∷ []) (subst (Part s (p .at)) (t .in-section) w) (omega arith) in
-        let u : i ∷ j ∷ [] ≡ sheetItem (special v) .show vs = ap₂ (λ m n. m ∷ n ∷ []) (hi ∙ ap (λ z. z / 2 % spanOf v) r) (hj ∙ ap (λ z. z % 2) r) ∙ sym (t .in-sheet) in
-        let l = ap length u in
-        done s o ls lo p (sectionItem (special v) .show vs) (sheetItem (special v) .show vs) w f
-        (e ∙ two-put i j (omega arith) ∙ ap (put o (p .to)) u)
-        (a ∙ ap (λ l. sum (p .at) (length l)) (sym (t .in-section))) (b ∙ ap (λ l. sum (p .to) (length l)) u);
-  }
+  pub fields-size : length (sheetFields fs .show vs) ≡ keptSize span
+  fields-size = ap length fields-shown ∙ parted-size span (pack fs vs)
 
-  -- ---- a byte of reserved bits
+-- what a sheet has at a place is joined to the number that its values make
+pub fields-joined : {s : List ℕ} {at : ℕ} {fs : List Field} {span all : ℕ} → length s < 2 ^ 64 → Shape fs span all → (vs : List ℕ)
+    → sheetFields fs .Ok vs → Part s at (sheetFields fs .show vs) → joinedAt span s at % all ≡ pack fs vs
+fields-joined {s} {at} {fs} {span} {all} ls sh vs ok w =
+    let fit = fields-fit fs vs ok in
+    let x : ℕ = pack fs vs in
+    let o : sheetFields fs .Ok (unpack fs x) = subst (sheetFields fs .Ok) (sym (values sh vs fit)) ok in
+    ap (λ n. n % all) (bytes (eqb span 0) x (subst (Part s at) (fields-shown sh vs fit) w))
+    ∙ joined-is sh x (packed-small sh vs fit) o
+  where
+    bytes : (b : Bool) (x : ℕ) → Part s at (if b then [] else x / 2 % span ∷ x % 2 ∷ [])
+        → (if b then 255 else 512 - 2 * span + getD s at 0 * 2 + getD s (sum at 1) 0)
+        ≡ (if b then 255 else 512 - 2 * span + x / 2 % span * 2 + x % 2)
+    bytes true x p = refl
+    bytes false x p =
+        let l : List ℕ = x / 2 % span ∷ x % 2 ∷ [] in
+        let n = part-within l p in
+        ap₂ (λ a b. 512 - 2 * span + a * 2 + b) (part-first-byte l p (omega arith))
+        (ap (λ k. getD s k 0) (sum-fits at 1 (omega arith)) ∙ part-byte l p 1 (omega arith))
 
-  pub turned-fill : {q : Place} {o' : List ℕ} → o' ≡ put o (p .to) (255 ∷ []) → q .at ≡ p .at → q .to ≡ sum (p .to) 1 → Turned (sheetItem filler) (sectionItem filler) s p o q o'
-  unfolding eachShow EachOk pack room
-  turned-fill {q} {o'} e a b = record { turned = λ vs k w f. go vs k w f }
+pub joined-none : (span : ℕ) (s : List ℕ) (at : ℕ) → span ≡ 0 → 255 ≡ joinedAt span s at
+joined-none span s at e = rw (eq-eqb span 0 e) refl
+
+pub joined-two : (span : ℕ) (s : List ℕ) (at : ℕ) {m a b : ℕ} → (span ≡ 0 → ⊥) → m ≡ span → a ≡ getD s at 0 → b ≡ getD s (sum at 1) 0
+    → 512 - 2 * m + a * 2 + b ≡ joinedAt span s at
+joined-two span s at n hm ha hb = rw (ne-eqb span 0 n, hm, ha, hb) refl
+
+-- fields put into a sheet
+module _ (span x : ℕ) (o : List ℕ) (to : ℕ) where
+  pub parted-none : span ≡ 0 → Parted span x o to o
+  parted-none e h = sym (ap (λ b. put o to (if b then [] else x / 2 % span ∷ x % 2 ∷ [])) (eq-eqb span 0 e) ∙ put-none o to (omega arith))
+
+  pub parted-two : length o < 2 ^ 64 → (span ≡ 0 → ⊥) → {o₁ o' : List ℕ} → o₁ ≡ put o to (x / 2 % span ∷ [])
+      → o' ≡ put o₁ (sum to 1) (x % 2 ∷ []) → Parted span x o to o'
+  parted-two lo n e₁ e h =
+      let no : eqb span 0 ≡ false = ne-eqb span 0 n in
+      let f : to + 2 ≤ length o = subst (λ b. to + (if b then 0 else 2) ≤ length o) no h in
+      e ∙ ap (λ z. put z (sum to 1) (x % 2 ∷ [])) e₁
+      ∙ two-put o to (x / 2 % span) (x % 2) lo f
+      ∙ ap (λ b. put o to (if b then [] else x / 2 % span ∷ x % 2 ∷ [])) (sym no)
+
+-- ---- a byte of fields
+
+module _ {s o : List ℕ} (ls : length s < 2 ^ 64) (lo : length o < 2 ^ 64) {p q : Place} {span x : ℕ} {o' : List ℕ} where
+  pub byte-joined : x ≡ joinedAt span s (p .at) → o' ≡ put o (p .to) (x % 256 ∷ []) → q .at ≡ sum (p .at) (keptSize span)
+      → q .to ≡ sum (p .to) 1 → ByteTurned true span s p o q o'
+  byte-joined is e a b = record { turned = go }
     where
-      go : (vs : List ℕ) → sheetItem filler .Ok vs → Part s (p .at) (sheetItem filler .show vs) → p .to + 1 ≤ length o → Done p (sheetItem filler .show vs) (pack (reserved 8 ∷ []) vs ∷ []) o q o'
-      go [] k w f = absurd k
-      go (x ∷ []) k w f =
-          let i : 255 ≡ x * 1 + 0 = omega (arith, k .0) in
-          record { room = e ∙ ap (λ z. put o (p .to) (z ∷ [])) i; read = a ∙ omega arith; written = b ∙ sum-fits (p .to) 1 (omega arith) }
-      go (x ∷ y ∷ vs) k w f = absurd (k .1)
+      go : {fs : List Field} → Shape fs span 256 → Turned (sheetFields fs) (byteOf fs) s p o q o'
+      go {fs} sh = record {
+        turned = λ vs k w f.
+            done ls lo (sheetFields fs .show vs) (pack fs vs ∷ []) w f
+            (e ∙ ap (λ z. put o (p .to) (z ∷ [])) (ap (λ z. z % 256) is ∙ fields-joined ls sh vs k w))
+            (a ∙ ap (sum (p .at)) (sym (fields-size sh vs (fields-fit fs vs k)))) b;
+      }
 
-  pub turned-skip : {q : Place} → q .at ≡ sum (p .at) 1 → q .to ≡ p .to → Turned (sectionItem filler) (sheetItem filler) s p o q o
-  unfolding eachShow EachOk
-  turned-skip {q} a b = record { turned = λ vs k w f. go vs k w f }
+  pub byte-parted : x ≡ getD s (p .at) 0 → Parted span x o (p .to) o' → q .at ≡ sum (p .at) 1 → q .to ≡ sum (p .to) (keptSize span)
+      → ByteTurned false span s p o q o'
+  byte-parted is e a b = record { turned = go }
     where
-      go : (vs : List ℕ) → sectionItem filler .Ok vs → Part s (p .at) (sectionItem filler .show vs) → p .to + length (sheetItem filler .show vs) ≤ length o
-          → Done p (sectionItem filler .show vs) (sheetItem filler .show vs) o q o
-      go [] k w f = absurd k
-      go (x ∷ []) k w f =
-          let n = part-within (sectionItem filler .show (x ∷ [])) w in
-          record { room = sym (put-none o (p .to) (omega arith)); read = a ∙ sum-fits (p .at) 1 (omega arith); written = b ∙ omega arith }
-      go (x ∷ y ∷ vs) k w f = absurd (k .1)
-
--- the value in a byte is one
-pub value-small : (v : Bool) (x : ℕ) → x / 2 % spanOf v < 256
-value-small true x = omega arith
-value-small false x = omega arith
+      go : {fs : List Field} → Shape fs span 256 → Turned (byteOf fs) (sheetFields fs) s p o q o'
+      go {fs} sh = record {
+        turned = λ vs k w f.
+            let l = fields-size sh vs k in
+            let x-is : x ≡ pack fs vs = is ∙ part-first-byte (pack fs vs ∷ []) w (omega arith) in
+            done ls lo (pack fs vs ∷ []) (sheetFields fs .show vs) w f
+            (e (omega arith) ∙ ap (put o (p .to)) (ap (partedOf span) x-is ∙ sym (fields-shown sh vs k)))
+            a (b ∙ ap (sum (p .to)) (sym l));
+      }
 
 -- ---- either way
 
-module _ {A : Type 0} (F : Bool → Form A) {s o o' : List ℕ} {p q : Place} where
-  pub forth : (b : Bool) → b ≡ true → Turned (F true) (F false) s p o q o' → Turned (F b) (F (not b)) s p o q o'
-  forth b e t = subst (λ x. Turned (F x) (F (not x)) s p o q o') (sym e) t
+module _ {span : ℕ} {s o o' : List ℕ} {p q : Place} {c : Bool} (b : Bool) (e : b ≡ c) where
+  pub byte-as : ByteTurned c span s p o q o' → ByteTurned b span s p o q o'
+  byte-as t = subst (λ x. ByteTurned x span s p o q o') (sym e) t
 
-  pub back : (b : Bool) → b ≡ false → Turned (F false) (F true) s p o q o' → Turned (F b) (F (not b)) s p o q o'
-  back b e t = subst (λ x. Turned (F x) (F (not x)) s p o q o') (sym e) t
+  pub loop-as : LoopTurned c span s p o q o' → LoopTurned b span s p o q o'
+  loop-as t = subst (λ x. LoopTurned x span s p o q o') (sym e) t

@@ -1,12 +1,11 @@
 -- Laws of whole sections and sheets, written at a room's start.
 use Prim.Native.Nat.{ℕ, zero, suc, _+_, _-_, _*_, _/_, _%_, _^_, _<_, _≤_}
 use mathlib.Core.Path.{_≡_, refl, sym, ap, ap₂, _∙_, subst}
-use mathlib.Core.List.{List, [], _∷_, _++_, append-nil, append-assoc}
+use mathlib.Core.List.{List, [], _∷_, _++_, append-nil}
 use mathlib.Core.Bool.{Bool, true, false}
 use native.Mathlib.Omega.{arith}
-use borrow.Author.Tests.{eqb-true, eqb-false, lt-ltb, le-ltb}
-use lib.ListN.{length, getD, take, drop, length-append}
-use lib.Seq.{take-at}
+use borrow.Author.Tests.{eqb-true, lt-ltb, le-ltb}
+use lib.ListN.{length, getD, take, length-append}
 use lib.Dec.{eqb, ltb, lit<}
 use Prim.{tt}
 use Rattle.wire.specs.If.{if_then_else_}
@@ -19,27 +18,30 @@ use Rattle.wire.specs.Reading.{_>>=_}
 use Rattle.crc.specs.Crc.{crc, bytesOf}
 use Rattle.crc.proofs.Bytes.{bytes-lt}
 use Rattle.tables.specs.Tables.{rowOf, rowAt}
+use Rattle.tables.specs.declared.Row.{Row}
 use Rattle.verdict.specs.Verdict as verdict
 use Rattle.section.specs.Reading.{judged}
 use Rattle.forms.specs.Form.{eachShow, EachOk}
-use Rattle.forms.specs.Fields.{Field, Fit, room, pack, sheetFields}
+use Rattle.forms.specs.Fields.{Fit, room, pack, sheetFields}
 use Rattle.forms.specs.Room.{put, sum}
-use Rattle.forms.proofs.Puts.{sum-fits, put-fits, put-put, length-put}
+use Rattle.forms.proofs.Puts.{sum-fits, put-put, length-put}
+pub use Rattle.forms.proofs.Outcomes.{take-put}
 use Rattle.sheet.specs.Content.{Content, frame, tableOf, frameOf, bodyOf, rowIn}
-use Rattle.sheet.specs.Sheet.{sheetBody, sheetOf, SheetOk}
-use Rattle.sheet.specs.Section.{sectionBody, bodyBytes, sectionLength, front, seal, sectionOf, contentOf, readSheet}
-use Rattle.sheet.specs.Reads.{judgedSheet}
+use Rattle.sheet.specs.Sheet.{sheetBody, sheetOf, shownFor, OkFor}
+use Rattle.sheet.specs.Section.{bodyBytes, sectionLength, front, seal, sectionOf, contentOf, readSheet}
+use Rattle.sheet.specs.Reads.{judgedFor, judgedSheet}
 use Rattle.turn.specs.Inner.Ways.{putNumber}
-use Rattle.turn.specs.Inner.Bodies.{BodyForth, BodyBack, SectionWritten, SheetWritten, AcceptedWritten}
+use Rattle.turn.specs.Inner.Bodies.{BodyForth, BodyBack, crcSize, leadingOf, begun, sealed, SectionWritten, SheetWritten, AcceptedWritten}
 use Rattle.turn.specs.Turn as turn
 use Rattle.turn.specs.Answers.{toldRefusal}
 use Rattle.sheet.proofs.SectionSize.{front-is, front-length, second, section-length, seal-length}
-use Rattle.turn.specs.Holds.{Holds}
-use Rattle.turn.proofs.SectionLaws.{numbers-of, first-byte, frame-lt}
-use Rattle.turn.proofs.Held.{Held, held}
-use Rattle.turn.proofs.SheetSize.{sheet-fits}
-use Rattle.turn.proofs.RoundTrips.{FromSection, of-accepted, to-section, to-sheet}
-use Rattle.turn.proofs.EntriesLaws.{number-put}
+use Rattle.contents.specs.Holds.{Holds}
+use Rattle.contents.proofs.SectionLaws.{numbers-of, first-byte}
+use Rattle.contents.proofs.Held.{held}
+use Rattle.contents.proofs.SheetSize.{sheet-fits}
+use Rattle.contents.proofs.ReadBack.{of-accepted}
+use Rattle.turn.proofs.TurnLaws.{to-section, to-sheet}
+use Rattle.turn.proofs.PieceLaws.{number-put}
 use Rattle.forms.specs.declared.Place.{Place}
 
 -- ---- the frame
@@ -59,7 +61,7 @@ frame-ones (a ∷ b ∷ []) o = let e = o .0 in let f = o .1 .0 in omega arith
 frame-ones (a ∷ b ∷ c ∷ vs) o = absurd (o .1 .1)
 
 sheet-is : (c : Content) → Fit frame (frameOf c) → sheetOf c ≡ tableOf c ∷ sheetBody (rowIn c) .show (bodyOf c)
-unfolding sheetOf
+unfolding shownFor
 sheet-is c o = ap (λ l. tableOf c ∷ (l ++ sheetBody (rowIn c) .show (bodyOf c))) (frame-shown (frameOf c) o)
 
 -- a part behind one that is known
@@ -68,7 +70,7 @@ behind x l y e = record { front = x; back = y; whole = e; place = refl }
 
 -- ---- a section
 
-syntax-bits : (x n : ℕ) → x ≤ 1 → n ≤ 4093 → ((if eqb x 1 then 0xF000 else 0x7000) + n) / 256 % 256 ≡ x * 128 + 7 * 16 + n / 256
+syntax-bits : (x n : ℕ) → x ≤ 1 → n ≤ 4093 → (leadingOf x + n) / 256 % 256 ≡ x * 128 + 7 * 16 + n / 256
 syntax-bits zero n h g = omega arith
 syntax-bits (suc zero) n h g = omega arith
 syntax-bits (suc (suc x)) n h g = absurd (omega arith)
@@ -81,14 +83,10 @@ lead-small : (b : Bool) → (if b then 0xF000 else 0x7000) ≤ 0xF000
 lead-small true = omega arith
 lead-small false = omega arith
 
-crc-bytes : (x : ℕ) → x ≤ 1 → (if eqb x 1 then 4 else 0) ≡ 4 * x
+crc-bytes : (x : ℕ) → x ≤ 1 → crcSize x ≡ 4 * x
 crc-bytes zero h = refl
 crc-bytes (suc zero) h = refl
 crc-bytes (suc (suc x)) h = absurd (omega arith)
-
--- the first bytes of a room in which something was put
-pub take-put : (o l : List ℕ) → length l ≤ length o → take (length l) (put o 0 l) ≡ l
-take-put o l h = ap (take (length l)) (put-fits o 0 l (omega arith)) ∙ take-at l (drop (0 + length l) o) (length l) refl
 
 -- four bytes of a CRC_32, put as two numbers
 four-put : (o : List ℕ) (to v : ℕ) → v < 2 ^ 32 → length o < 2 ^ 64 → to + 4 ≤ length o
@@ -114,11 +112,10 @@ crc-small : (s : List ℕ) → crc s < 2 ^ 32
 unfolding crc
 crc-small s = bytes-lt s (2 ^ 32 - 1) (lit< tt)
 
-module _ (s o : List ℕ) (w : Bytes s) (lo : length o < 2 ^ 64) (n number : ℕ) (o₁ o₂ o₃ : List ℕ) (q : Place) (end : ℕ)
-    (h₁ : o₁ ≡ put o 0 (getD s 0 0 ∷ []))
-    (h₂ : o₂ ≡ putNumber o₁ 1 (sum (if eqb (rowAt number .syntax) 1 then 0xF000 else 0x7000) n))
-    (he : end ≡ sum n 3 - (if eqb (rowAt number .crc) 1 then 4 else 0))
-    (h₃ : BodyForth number s (record { at = 1; to = 3 }) end o₂ q o₃) where
+-- the room, and what each step made of it; m are the bytes of the section, of which `end` stand before the CRC_32
+module _ (s o : List ℕ) (w : Bytes s) (lo : length o < 2 ^ 64) (n : ℕ) {number id m end : ℕ} {row : Row} {o₂ o₃ : List ℕ} {q : Place}
+    (hr : row ≡ rowAt number) (hm : m ≡ sum n 3) (he : end ≡ m - crcSize (row .crc)) (hid : id ≡ getD s 0 0)
+    (h₂ : o₂ ≡ begun o id (row .syntax) n) (h₃ : BodyForth number s (record { at = 1; to = 3 }) end o₂ q o₃) where
   -- all but the CRC_32
   pub record Fronted (c : Content) : Type 0 where
     pub room : o₃ ≡ put o 0 (front c)
@@ -126,96 +123,100 @@ module _ (s o : List ℕ) (w : Bytes s) (lo : length o < 2 ^ 64) (n number : ℕ
     pub holds : Holds c
 
   fronted : (c : Content) → readSheet s ≡ reading.value c → n ≡ sectionLength c → number ≡ rowIn c → 4096 ≤ length o → Fronted c
-  unfolding sectionLength SheetOk
-  fronted c r hn hr big =
+  unfolding sectionLength OkFor
+  fronted c r hn hnumber big =
       let h = held s c w r in
       let k = h .holds in
-      let m = numbers-of (rowIn c) (k .known) in
-      let mm = m .most in
+      let facts = numbers-of (rowIn c) (k .known) in
+      let most = facts .most in
       let sm = k .most in
       let b = bodyBytes c in
       let L : ℕ = length b in
       let fl = front-length c in
+      let row-is : row ≡ rowAt (rowIn c) = hr ∙ ap rowAt hnumber in
       let n-is : n ≡ L + 4 * rowAt (rowIn c) .crc = hn in
-      let e3 : sum n 3 ≡ n + 3 = sum-fits n 3 (omega arith) in
-      let cb : (if eqb (rowAt number .crc) 1 then 4 else 0) ≡ 4 * rowAt (rowIn c) .crc = ap (λ i. if eqb (rowAt i .crc) 1 then 4 else 0) hr ∙ crc-bytes (rowAt (rowIn c) .crc) (m .crc-bit) in
+      let m-is : m ≡ n + 3 = hm ∙ sum-fits n 3 (omega arith) in
+      let size : crcSize (row .crc) ≡ 4 * rowAt (rowIn c) .crc =
+      ap (λ (x : Row). crcSize (x .crc)) row-is ∙ crc-bytes (rowAt (rowIn c) .crc) (facts .crc-bit) in
       let e-is : end ≡ 3 + L = omega arith in
       let body = sheetBody (rowIn c) .show (bodyOf c) in
       let si : s ≡ tableOf c ∷ (body ++ []) = h .shows ∙ sheet-is c (k .frame-fits) ∙ ap (λ l. tableOf c ∷ l) (sym (append-nil body)) in
       let part : Part s 1 body = behind (tableOf c ∷ []) body [] si in
-      let v : ℕ = (if eqb (rowAt number .syntax) 1 then 0xF000 else 0x7000) + n in
-      let ls = lead-small (eqb (rowAt number .syntax) 1) in
-      let hv : sum (if eqb (rowAt number .syntax) 1 then 0xF000 else 0x7000) n ≡ v = sum-fits _ n (omega arith) in
-      let p₁ : length o₁ ≡ length o = ap length h₁ ∙ length-put o 0 (getD s 0 0 ∷ []) (omega arith) in
+      let id-is : id ≡ tableOf c = hid ∙ ap (λ z. getD z 0 0) si in
+      let lead : ℕ = leadingOf (row .syntax) in
+      let v : ℕ = lead + n in
+      let small = lead-small (eqb (row .syntax) 1) in
       let x : ℕ = v / 256 % 256 in
       let y : ℕ = v % 256 in
-      let p₂ : o₂ ≡ put o₁ 1 (x ∷ y ∷ []) = h₂ ∙ ap (putNumber o₁ 1) hv ∙ number-put o₁ 1 v (omega arith) (omega arith) in
-      let p₃ : o₂ ≡ put o 0 (getD s 0 0 ∷ x ∷ y ∷ []) = p₂ ∙ ap (λ z. put z 1 (x ∷ y ∷ [])) h₁ ∙ put-put o 0 (getD s 0 0 ∷ []) (omega arith) (x ∷ y ∷ []) (omega arith) in
-      let l₂ : length o₂ ≡ length o = ap length p₃ ∙ length-put o 0 (getD s 0 0 ∷ x ∷ y ∷ []) (omega arith) in
-      let t : BodyForth (rowIn c) s (record { at = 1; to = 3 }) end o₂ q o₃ = subst (λ i. BodyForth i s (record { at = 1; to = 3 }) end o₂ q o₃) hr h₃ in
+      let u : List ℕ = id ∷ x ∷ y ∷ [] in
+      let l₁ : length (put o 0 (id ∷ [])) ≡ length o = length-put o 0 (id ∷ []) (omega arith) in
+      let p₂ : o₂ ≡ put o 0 u =
+      h₂ ∙ ap (putNumber (put o 0 (id ∷ [])) 1) (sum-fits lead n (omega arith))
+      ∙ number-put (put o 0 (id ∷ [])) 1 v (omega arith) (omega arith)
+      ∙ put-put o 0 (id ∷ []) (omega arith) (x ∷ y ∷ []) (omega arith) in
+      let l₂ : length o₂ ≡ length o = ap length p₂ ∙ length-put o 0 u (omega arith) in
+      let t : BodyForth (rowIn c) s (record { at = 1; to = 3 }) end o₂ q o₃ =
+      subst (λ i. BodyForth i s (record { at = 1; to = 3 }) end o₂ q o₃) hnumber h₃ in
       let d = t .turned (bodyOf c) (h .ok .1 .1) (k .body) part (sym e-is) (omega arith) (omega arith) in
-      let ff = frame-ones (frameOf c) (h .ok .1 .0) in
-      let sb = syntax-bits (rowAt (rowIn c) .syntax) n (m .syntax) (omega arith) in
-      let hx : x ≡ second c = ap (λ i. ((if eqb (rowAt i .syntax) 1 then 0xF000 else 0x7000) + n) / 256 % 256) hr ∙ sb ∙ ap₂ (λ i j. rowAt (rowIn c) .syntax * 128 + i * 16 + j / 256) (sym ff) hn in
-      let hy : y ≡ sectionLength c % 256 = lead-mod (eqb (rowAt number .syntax) 1) n ∙ ap (λ i. i % 256) hn in
-      let hz : getD s 0 0 ≡ tableOf c = ap (λ z. getD z 0 0) si in
+      let ones = frame-ones (frameOf c) (h .ok .1 .0) in
+      let x-is : x ≡ second c =
+      ap (λ (r : Row). (leadingOf (r .syntax) + n) / 256 % 256) row-is
+      ∙ syntax-bits (rowAt (rowIn c) .syntax) n (facts .syntax) (omega arith)
+      ∙ ap₂ (λ i j. rowAt (rowIn c) .syntax * 128 + i * 16 + j / 256) (sym ones) hn in
+      let y-is : y ≡ sectionLength c % 256 = lead-mod (eqb (row .syntax) 1) n ∙ ap (λ i. i % 256) hn in
       record {
-        room = d .room ∙ ap (λ z. put z 3 b) p₃ ∙ put-put o 0 (getD s 0 0 ∷ x ∷ y ∷ []) (omega arith) b (omega arith)
-            ∙ ap (λ i. put o 0 (i ∷ x ∷ y ∷ b)) hz ∙ ap₂ (λ i j. put o 0 (tableOf c ∷ i ∷ j ∷ b)) hx hy ∙ ap (put o 0) (sym (front-is c));
+        room =
+            d .room ∙ ap (λ z. put z 3 b) p₂ ∙ put-put o 0 u (omega arith) b (omega arith)
+            ∙ ap (λ i. put o 0 (i ∷ x ∷ y ∷ b)) id-is
+            ∙ ap₂ (λ i j. put o 0 (tableOf c ∷ i ∷ j ∷ b)) x-is y-is
+            ∙ ap (put o 0) (sym (front-is c));
         ends = e-is ∙ sym fl;
         holds = k;
       }
 
-  pub written-sealed : (o₄ : List ℕ) → eqb (rowAt number .crc) 1 ≡ true
-      → o₄ ≡ putNumber (putNumber o₃ end (crc (take end o₃) / 65536)) (sum end 2) (crc (take end o₃) % 65536) → SectionWritten s n number o o₄
-  unfolding sectionOf seal
-  written-sealed o₄ hc h₄ = record {
-    written = λ c r hn hr big.
-        let f = fronted c r hn hr big in
-        let m = numbers-of (rowIn c) (f .holds .known) in
-        let sl = section-length c (f .holds .known) in
-        let ml = f .holds .most in
-        let mm = m .most in
-        let la = length-append (front c) (seal c) in
-        let e1 = eqb-true (rowAt (rowIn c) .crc) 1 (ap (λ i. eqb (rowAt i .crc) 1) (sym hr) ∙ hc) in
-        let ql = seal-length c (f .holds .known) in
-        let fe = f .ends in
-        let l₃ : length o₃ ≡ length o = ap length (f .room) ∙ length-put o 0 (front c) (omega arith) in
-        let tk : take end o₃ ≡ front c = ap₂ take (f .ends) (f .room) ∙ take-put o (front c) (omega arith) in
-        let C : ℕ = crc (front c) in
-        let hv : crc (take end o₃) ≡ C = ap crc tk in
-        let nought : length (front c) ≡ 0 + length (front c) = omega arith in
-        let q4 = four-put o₃ end C (crc-small (front c)) (omega arith) (omega arith) in
-        let sc : seal c ≡ bytesOf C = ap (λ b. if b then bytesOf (crc (front c)) else []) (ap (λ i. eqb (rowAt i .crc) 1) (sym hr) ∙ hc) in
-        h₄ ∙ ap (λ v. putNumber (putNumber o₃ end (v / 65536)) (sum end 2) (v % 65536)) hv ∙ q4
-        ∙ ap₂ (λ i j. put i j (bytesOf C)) (f .room) (f .ends ∙ nought)
-        ∙ put-put o 0 (front c) (omega arith) (bytesOf C) (omega arith)
-        ∙ ap (λ z. put o 0 (front c ++ z)) (sym sc);
-  }
+  sealed-is : (c : Content) → Fronted c → 4096 ≤ length o → (t : Bool) → eqb (rowAt (rowIn c) .crc) 1 ≡ t
+      → (if t then putNumber (putNumber o₃ end (crc (take end o₃) / 65536)) (sum end 2) (crc (take end o₃) % 65536) else o₃)
+      ≡ put o 0 (front c ++ (if t then bytesOf (crc (front c)) else []))
+  unfolding sectionOf
+  sealed-is c f big true h =
+      let most = numbers-of (rowIn c) (f .holds .known) .most in
+      let sl = section-length c (f .holds .known) in
+      let ql = seal-length c (f .holds .known) in
+      let ml = f .holds .most in
+      let la = length-append (front c) (seal c) in
+      let one = eqb-true (rowAt (rowIn c) .crc) 1 h in
+      let ends = f .ends in
+      let l₃ : length o₃ ≡ length o = ap length (f .room) ∙ length-put o 0 (front c) (omega arith) in
+      let C : ℕ = crc (front c) in
+      let of-front : crc (take end o₃) ≡ C = ap crc (ap₂ take ends (f .room) ∙ take-put o (front c) (omega arith)) in
+      let nought : length (front c) ≡ 0 + length (front c) = omega arith in
+      ap (λ v. putNumber (putNumber o₃ end (v / 65536)) (sum end 2) (v % 65536)) of-front
+      ∙ four-put o₃ end C (crc-small (front c)) (omega arith) (omega arith)
+      ∙ ap₂ (λ i j. put i j (bytesOf C)) (f .room) (ends ∙ nought)
+      ∙ put-put o 0 (front c) (omega arith) (bytesOf C) (omega arith)
+  sealed-is c f big false h = f .room ∙ ap (put o 0) (sym (append-nil (front c)))
 
-  pub written-bare : eqb (rowAt number .crc) 1 ≡ false → SectionWritten s n number o o₃
+  pub section-written : {o₄ : List ℕ} → o₄ ≡ sealed o₃ end (row .crc) → SectionWritten s n number o o₄
   unfolding sectionOf seal
-  written-bare hc = record {
-    written = λ c r hn hr big.
-        let f = fronted c r hn hr big in
-        let sc : seal c ≡ [] = ap (λ b. if b then bytesOf (crc (front c)) else []) (ap (λ i. eqb (rowAt i .crc) 1) (sym hr) ∙ hc) in
-        f .room ∙ ap (put o 0) (sym (append-nil (front c)) ∙ ap (λ z. front c ++ z) (sym sc));
+  section-written h₄ = record {
+    written = λ c r hn hnumber big.
+        h₄ ∙ ap (λ (x : Row). sealed o₃ end (x .crc)) (hr ∙ ap rowAt hnumber)
+        ∙ sealed-is c (fronted c r hn hnumber big) big (eqb (rowAt (rowIn c) .crc) 1) refl;
   }
 
 -- no table
-pub written-never : (s o : List ℕ) (n number : ℕ) → Bytes s → 6 ≤ number → SectionWritten s n number o o
-written-never s o n number w h = record { written = λ c r hn hr big. let k = held s c w r .holds .known in absurd (omega arith) }
+pub written-never : {s o : List ℕ} {n number : ℕ} → Bytes s → 6 ≤ number → SectionWritten s n number o o
+written-never {s} w h = record { written = λ c r hn hr big. let k = held s c w r .holds .known in absurd (omega arith) }
 
 -- ---- a sheet
 
-module _ (s o : List ℕ) (w : Bytes s) (number : ℕ) (o₁ o₂ : List ℕ) (q : Place) (end : ℕ)
-    (h₁ : o₁ ≡ put o 0 (getD s 0 0 ∷ []))
-    (he : end ≡ length s - (if eqb (rowAt number .crc) 1 then 4 else 0))
+module _ {s o : List ℕ} (w : Bytes s) {number : ℕ} {row : Row} {id end : ℕ} {o₁ o₂ : List ℕ} {q : Place}
+    (hr : row ≡ rowAt number) (he : end ≡ length s - crcSize (row .crc)) (hid : id ≡ getD s 0 0) (h₁ : o₁ ≡ put o 0 (id ∷ []))
     (h₂ : BodyBack number s (record { at = 3; to = 1 }) end o₁ q o₂) where
   pub sheet-written : SheetWritten s number o (q .to) o₂
   unfolding sectionOf
   sheet-written = record {
-    written = λ c acc r hr big.
+    written = λ c acc r hnumber big.
         let x = of-accepted s w acc in
         let cc' : x .content ≡ c = value-is (sym (x .reads) ∙ r) in
         let k : Holds c = subst Holds cc' (x .holds) in
@@ -229,7 +230,8 @@ module _ (s o : List ℕ) (w : Bytes s) (number : ℕ) (o₁ o₂ : List ℕ) (q
         let ql = seal-length c (k .known) in
         let km = k .most in
         let mm = m .most in
-        let cb : (if eqb (rowAt number .crc) 1 then 4 else 0) ≡ 4 * rowAt (rowIn c) .crc = ap (λ i. if eqb (rowAt i .crc) 1 then 4 else 0) hr ∙ crc-bytes (rowAt (rowIn c) .crc) (m .crc-bit) in
+        let size : crcSize (row .crc) ≡ 4 * rowAt (rowIn c) .crc =
+        ap (λ (x : Row). crcSize (x .crc)) (hr ∙ ap rowAt hnumber) ∙ crc-bytes (rowAt (rowIn c) .crc) (m .crc-bit) in
         let e-is : 3 + length b ≡ end = omega arith in
         let hd = tableOf c ∷ second c ∷ (sectionLength c % 256) ∷ [] in
         let si : s ≡ hd ++ (b ++ seal c) = sym is ∙ ap (λ z. z ++ seal c) (front-is c) in
@@ -238,16 +240,23 @@ module _ (s o : List ℕ) (w : Bytes s) (number : ℕ) (o₁ o₂ : List ℕ) (q
         let fits = sheet-fits c k in
         let sh = sheet-is c (k .frame-fits) in
         let lsh = ap length sh in
-        let p₁ : length o₁ ≡ length o = ap length h₁ ∙ length-put o 0 (getD s 0 0 ∷ []) (omega arith) in
-        let t : BodyBack (rowIn c) s (record { at = 3; to = 1 }) end o₁ q o₂ = subst (λ i. BodyBack i s (record { at = 3; to = 1 }) end o₁ q o₂) hr h₂ in
+        let p₁ : length o₁ ≡ length o = ap length h₁ ∙ length-put o 0 (id ∷ []) (omega arith) in
+        let t : BodyBack (rowIn c) s (record { at = 3; to = 1 }) end o₁ q o₂ =
+        subst (λ i. BodyBack i s (record { at = 3; to = 1 }) end o₁ q o₂) hnumber h₂ in
         let d = t .turned (bodyOf c) (k .body) part e-is (omega arith) (omega arith) (omega arith) in
-        let hz : getD s 0 0 ≡ tableOf c = ap (λ z. getD z 0 0) si in
-        let dw = d .written in
-        (d .room ∙ ap (λ z. put z 1 body) h₁ ∙ put-put o 0 (getD s 0 0 ∷ []) (omega arith) body (omega arith) ∙ ap (λ i. put o 0 (i ∷ body)) hz ∙ ap (put o 0) (sym sh), omega arith);
+        let id-is : id ≡ tableOf c = hid ∙ ap (λ z. getD z 0 0) si in
+        let dw = d .written in (
+          d .room
+              ∙ ap (λ z. put z 1 body) h₁
+              ∙ put-put o 0 (id ∷ []) (omega arith) body (omega arith)
+              ∙ ap (λ i. put o 0 (i ∷ body)) id-is
+              ∙ ap (put o 0) (sym sh),
+          omega arith,
+        );
   }
 
-pub sheet-never : (s o : List ℕ) (number : ℕ) → Bytes s → 6 ≤ number → SheetWritten s number o 0 o
-sheet-never s o number w h = record {
+pub sheet-never : {s o : List ℕ} {number : ℕ} → Bytes s → 6 ≤ number → SheetWritten s number o 0 o
+sheet-never {s} w h = record {
   written = λ c acc r hr big.
       let x = of-accepted s w acc in
       let cc' : x .content ≡ c = value-is (sym (x .reads) ∙ r) in
@@ -262,7 +271,8 @@ unfolding turn.toSection
 section-no-room n s h = rw (lt-ltb n 4096 h) refl
 
 -- written where it was accepted, and only there
-pub accepted-written : (x : Bool) (s : List ℕ) → x ≡ true → {row r : ℕ} {o o' : List ℕ} → row ≡ rowOf (getD s 0 0) → SheetWritten s row o r o' → AcceptedWritten x s o r o'
+pub accepted-written : (x : Bool) (s : List ℕ) → x ≡ true → {row r : ℕ} {o o' : List ℕ} → row ≡ rowOf (getD s 0 0)
+    → SheetWritten s row o r o' → AcceptedWritten x s o r o'
 accepted-written x s e {row} {r} {o} {o'} h w =
     record {
       written = λ f. subst (λ k. SheetWritten s k o r o') h w;
@@ -276,12 +286,13 @@ refused-kept x s e =
       kept = λ f. refl;
     }
 
-refused-through : {A B : Type 0} (r : reading.Reading A) (f : A → B) (k : ℕ) → (r >>= λ a. reading.value (f a)) ≡ reading.refused k → r ≡ reading.refused k
+refused-through : {A B : Type 0} (r : reading.Reading A) (f : A → B) (k : ℕ)
+    → (r >>= λ a. reading.value (f a)) ≡ reading.refused k → r ≡ reading.refused k
 refused-through (reading.value a) f k e = absurd (never e)
 refused-through (reading.refused j) f k e = ap reading.refused (refused-is e)
 
 pub section-refused : (n : ℕ) (s : List ℕ) (k : ℕ) → 4096 ≤ n → judgedSheet s ≡ reading.refused k → turn.toSection n s ≡ turn.refuses k 0
-unfolding turn.toSection judgedSheet
+unfolding turn.toSection judgedFor
 section-refused n s k h e = let r = refused-through (readSheet s) sectionLength k e in rw (le-ltb n 4096 h, r) refl
 
 -- what an accepted sheet gives
@@ -294,7 +305,7 @@ pub record Made (n : ℕ) (s : List ℕ) (k : ℕ) : Type 0 where
   pub bytes : sum k 3 ≡ length (sectionOf content)
 
 pub section-made : (n : ℕ) (s : List ℕ) (k : ℕ) → Bytes s → 4096 ≤ n → judgedSheet s ≡ reading.value k → Made n s k
-unfolding judgedSheet
+unfolding judgedFor
 section-made n s k w h e =
     let x = through (readSheet s) _ k e in
     let c = x .0 in
@@ -322,7 +333,10 @@ pub sheet-refused : (n : ℕ) (s o : List ℕ) → 5120 ≤ n → verdict.isAcce
 unfolding turn.toSheet
 sheet-refused n s o h e = go (judged s) refl
   where
-    go : (v : verdict.Said) → judged s ≡ v → (toldRefusal (judged s) ≡ turn.answer (if ltb n 5120 then turn.refuses 21 0 else turn.sheetIf (judged s) (turn.sheetFrom (contentOf s))))
+    go : (v : verdict.Said) → judged s ≡ v
+        → (toldRefusal (judged s)
+        ≡ turn.answer (if ltb n 5120 then turn.refuses 21 0 else turn.sheetIf (judged s)
+        (turn.sheetFrom (contentOf s))))
         × (o ≡ turn.roomAfter o (if ltb n 5120 then turn.refuses 21 0 else turn.sheetIf (judged s) (turn.sheetFrom (contentOf s))))
     go verdict.accepted q = absurd (true-not-false (ap verdict.isAccepted (sym q) ∙ e))
     go (verdict.refused k p) q = (rw (le-ltb n 5120 h, q) refl, rw (le-ltb n 5120 h, q) refl)

@@ -1,7 +1,6 @@
 -- Document 01's numbers for the answers of both turns.
 use Rattle.turn.specs.Turn.{Told, wrote, refused}
 use Rattle.verdict.specs.Verdict as verdict
-use Rattle.verdict.specs.declared.Verdict.{Verdict}
 use Rattle.turn.specs.declared.SectionAnswer.{SectionAnswer}
 use Rattle.turn.specs.declared.SectionAnswer.the-variants as section
 use Rattle.turn.specs.declared.SheetAnswer.{SheetAnswer}

@@ -2,21 +2,15 @@
 -- Success writes the first n bytes and tells n; later bytes stay."
 use Prim.Native.Nat.{ℕ}
 use mathlib.Core.List.{List, []}
-use lib.ListN.{length}
 use lib.Dec.{ltb}
 use Rattle.wire.specs.If.{if_then_else_}
 use Rattle.wire.specs.Reading as reading
 use Rattle.verdict.specs.Verdict as verdict
 use Rattle.section.specs.Reading.{judged}
-use Rattle.forms.specs.Room.{put}
+pub use Rattle.forms.specs.Outcome.{Outcome, gives, refuses, Told, wrote, refused, answer, roomAfter}
 use Rattle.sheet.specs.Content.{Content}
 use Rattle.sheet.specs.Sheet.{sheetOf}
 use Rattle.sheet.specs.Section.{sectionOf, contentOf, readSheet}
-
--- how a turn ends: the bytes that it gives, or a refusal's number and place
-pub data Outcome : Type 0 where
-  gives : List ℕ → Outcome
-  refuses : ℕ → ℕ → Outcome
 
 -- ---- a sheet into a section
 
@@ -44,20 +38,3 @@ sheetIf (verdict.refused k p) l = refuses k p
 -- "21 room under 5,120 (for a sheet)"
 unfoldable pub toSheet : ℕ → List ℕ → Outcome
 toSheet n s = if ltb n 5120 then refuses 21 0 else sheetIf (judged s) (sheetFrom (contentOf s))
-
--- ---- what is told, and what the room holds then
-
--- what the caller is told: how many bytes were written, or a refusal's number and place
-pub data Told : Type 0 where
-  wrote : ℕ → Told
-  refused : ℕ → ℕ → Told
-
--- "tells n"
-abbrev pub answer : Outcome → Told
-answer (gives l) = wrote (length l)
-answer (refuses k p) = refused k p
-
--- "Success writes the first n bytes ..; later bytes stay."; a refusal writes nothing
-abbrev pub roomAfter : List ℕ → Outcome → List ℕ
-roomAfter o (gives l) = put o 0 l
-roomAfter o (refuses k p) = o

@@ -1,7 +1,5 @@
-// How many items fill their bytes, and how many bytes so many descriptors take. Each is right where the bytes are such items; it ends anyhow.
-ghost use mathlib.Core.Path.{_≡_};
-ghost use Prim.Native.Nat.{_≤_};
-ghost use Rattle.tables.specs.Tables.{rowAt};
+// How many items fill their bytes, and how many bytes so many descriptors take. Each is right where the bytes are such items; it ends
+// anyhow.
 ghost use Rattle.sheet.specs.Sheet.{descriptor};
 ghost use Rattle.sheet.specs.Section.{sectionEntry};
 ghost use Rattle.turn.specs.Inner.Ways.{NumberIn, SizeAt, EntrySizes};

@@ -5,7 +5,6 @@ ghost use Rattle.forms.specs.Inner.Turning.{Turned};
 ghost use Rattle.tables.specs.Tables.{TDT, UNKNOWN};
 ghost use Rattle.sheet.specs.Content.{headOf, entryOf};
 ghost use Rattle.turn.specs.Inner.Ways.{itemsFrom, itemsTo};
-use crate::pieces::filler;
 use crate::pieces::packed;
 use crate::pieces::plain;
 use forms::Place;
@@ -16,11 +15,12 @@ use tables::is_numbered;
 // What follows last_section_number: in an SDT original_network_id and a reserved byte, in an EIT ids and numbers.
 fn ids(forth: bool, row: usize, s: &[u8], p: Place, room: &mut [u8]) -> Place
     requires { ⌜ row < TDT ⌝ }
-    ensures { λ r. ⌜ Turned (itemsFrom forth (drop 3 (headOf row))) (itemsTo forth (drop 3 (headOf row))) (now (s .entry)) p (now (room .entry)) r (now (room .exit)) ⌝ }
+    ensures { λ r. ⌜ Turned (itemsFrom forth (drop 3 (headOf row))) (itemsTo forth (drop 3 (headOf row)))
+        (now (s .entry)) p (now (room .entry)) r (now (room .exit)) ⌝ }
 {
     if row == SDT {
         let q = plain(s, p, 2, room);
-        return filler(forth, s, q, room);
+        return packed(forth, 0, s, q, room);
     }
     if row == EIT {
         return plain(s, p, 6, room);
@@ -31,17 +31,19 @@ fn ids(forth: bool, row: usize, s: &[u8], p: Place, room: &mut [u8]) -> Place
 // Extension id, version and current_next_indicator, section numbers, ids.
 fn common(forth: bool, row: usize, s: &[u8], p: Place, room: &mut [u8]) -> Place
     requires { ⌜ row < TDT ⌝ }
-    ensures { λ r. ⌜ Turned (itemsFrom forth (headOf row)) (itemsTo forth (headOf row)) (now (s .entry)) p (now (room .entry)) r (now (room .exit)) ⌝ }
+    ensures { λ r. ⌜ Turned (itemsFrom forth (headOf row)) (itemsTo forth (headOf row))
+        (now (s .entry)) p (now (room .entry)) r (now (room .exit)) ⌝ }
 {
     let version = plain(s, p, 2, room);
-    let numbers = packed(forth, true, s, version, room);
+    let numbers = packed(forth, 32, s, version, room);
     let more = plain(s, numbers, 2, room);
     ids(forth, row, s, more, room)
 }
 
 pub fn head(forth: bool, row: usize, s: &[u8], p: Place, room: &mut [u8]) -> Place
     requires { ⌜ row < UNKNOWN ⌝ }
-    ensures { λ r. ⌜ Turned (itemsFrom forth (headOf row)) (itemsTo forth (headOf row)) (now (s .entry)) p (now (room .entry)) r (now (room .exit)) ⌝ }
+    ensures { λ r. ⌜ Turned (itemsFrom forth (headOf row)) (itemsTo forth (headOf row))
+        (now (s .entry)) p (now (room .entry)) r (now (room .exit)) ⌝ }
 {
     if is_numbered(row) {
         return common(forth, row, s, p, room);
@@ -50,11 +52,12 @@ pub fn head(forth: bool, row: usize, s: &[u8], p: Place, room: &mut [u8]) -> Pla
 }
 
 pub fn entry_fields(forth: bool, row: usize, s: &[u8], p: Place, room: &mut [u8]) -> Place
-    ensures { λ r. ⌜ Turned (itemsFrom forth (entryOf row)) (itemsTo forth (entryOf row)) (now (s .entry)) p (now (room .entry)) r (now (room .exit)) ⌝ }
+    ensures { λ r. ⌜ Turned (itemsFrom forth (entryOf row)) (itemsTo forth (entryOf row))
+        (now (s .entry)) p (now (room .entry)) r (now (room .exit)) ⌝ }
 {
     if row == SDT {
         let q = plain(s, p, 2, room);
-        return packed(forth, false, s, q, room);
+        return packed(forth, 2, s, q, room);
     }
     if row == EIT {
         return plain(s, p, 10, room);

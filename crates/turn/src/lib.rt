@@ -1,5 +1,5 @@
 // Document 01, "Content sheets": a sheet becomes a section, and a section a sheet.
-ghost use Rattle.turn.specs.Demand2.{ToSection, ToSheet};
+ghost use Rattle.turn.specs.Promise.{ToSection, ToSheet};
 use section::judge::judge;
 use sheet::Judged;
 use tables::row_of;

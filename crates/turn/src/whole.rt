@@ -1,13 +1,7 @@
 // A whole section or sheet, at the room's start.
 ghost use mathlib.Core.Path.{_≡_};
-ghost use Prim.Native.Nat.{_/_, _%_};
-ghost use lib.ListN.{take};
-ghost use lib.Dec.{eqb};
-ghost use Rattle.wire.specs.If.{if_then_else_};
-ghost use Rattle.crc.specs.Crc.{crc};
-ghost use Rattle.forms.specs.Room.{sum};
-ghost use Rattle.turn.specs.Inner.Ways.{putNumber};
-ghost use Rattle.turn.specs.Inner.Bodies.{SectionWritten, SheetWritten, AcceptedWritten};
+ghost use Prim.Native.Nat.{_-_};
+ghost use Rattle.turn.specs.Inner.Bodies.{crcSize, leadingOf, begun, sealed, SectionWritten, SheetWritten, AcceptedWritten};
 use crate::bodies::body_back;
 use crate::bodies::body_forth;
 use crate::bodies::is_one;
@@ -24,7 +18,7 @@ use wire::parts::part;
 
 // The syntax bit and the reserved bits before section_length, in two bytes.
 fn leading(syntax: usize) -> usize
-    ensures { λ r. ⌜ r ≡ (if eqb syntax 1 then 0xF000 else 0x7000) ⌝ }
+    ensures { λ r. ⌜ r ≡ leadingOf syntax ⌝ }
 {
     if is_one(syntax) {
         return 0xF000;
@@ -32,23 +26,33 @@ fn leading(syntax: usize) -> usize
     0x7000
 }
 
-// The bytes of a CRC_32, where the table has one.
-fn crc_size(crc: usize) -> usize
-    ensures { λ r. ⌜ r ≡ (if eqb crc 1 then 4 else 0) ⌝ }
+// Where the CRC_32 stands, or the end, where the table has none.
+fn body_end(length: usize, crc: usize) -> usize
+    ensures { λ r. ⌜ r ≡ length - crcSize crc ⌝ }
 {
     if is_one(crc) {
-        return 4;
+        return less(length, 4);
     }
-    0
+    length
 }
 
-// The CRC_32 of what stands before the place `end` is put there.
-fn seal(room: &mut [u8], end: usize)
-    ensures { λ _. ⌜ now (room .exit) ≡ putNumber (putNumber (now (room .entry)) end (crc (take end (now (room .entry))) / 65536)) (sum end 2) (crc (take end (now (room .entry))) % 65536) ⌝ }
+// The table_id, and section_length with the bits before it.
+fn begin(room: &mut [u8], id: u8, syntax: usize, n: usize)
+    ensures { λ _. ⌜ now (room .exit) ≡ begun (now (room .entry)) id syntax n ⌝ }
 {
-    let register = crc::crc32(part(room, 0, end)) as usize;
-    put_number(room, end, register / 65536);
-    put_number(room, past(end, 2), register % 65536);
+    put_byte(room, 0, id);
+    put_number(room, 1, past(leading(syntax), n));
+}
+
+// The CRC_32 of what stands before the place `end` is put there, where the table has one.
+fn seal(room: &mut [u8], end: usize, crc: usize)
+    ensures { λ _. ⌜ now (room .exit) ≡ sealed (now (room .entry)) end crc ⌝ }
+{
+    if is_one(crc) {
+        let register = crc::crc32(part(room, 0, end)) as usize;
+        put_number(room, end, register / 65536);
+        put_number(room, past(end, 2), register % 65536);
+    }
 }
 
 // The section of a sheet that was judged; n is its section_length.
@@ -59,13 +63,10 @@ pub fn write_section(sheet: &[u8], n: usize, number: usize, room: &mut [u8])
         return;
     }
     let row = row_at(number);
-    let end = less(past(n, 3), crc_size(row.crc));
-    put_byte(room, 0, byte_at(sheet, 0));
-    put_number(room, 1, past(leading(row.syntax), n));
+    let end = body_end(past(n, 3), row.crc);
+    begin(room, byte_at(sheet, 0), row.syntax, n);
     body_forth(number, sheet, Place { at: 1, to: 3 }, end, room);
-    if is_one(row.crc) {
-        seal(room, end);
-    }
+    seal(room, end, row.crc);
 }
 
 // The sheet of a section that was judged, and its length.
@@ -76,7 +77,7 @@ fn write_sheet(section: &[u8], number: usize, room: &mut [u8]) -> usize
         return 0;
     }
     let row = row_at(number);
-    let end = less(section.len(), crc_size(row.crc));
+    let end = body_end(section.len(), row.crc);
     put_byte(room, 0, byte_at(section, 0));
     let q = body_back(number, section, Place { at: 3, to: 1 }, end, room);
     q.to

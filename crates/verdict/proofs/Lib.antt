@@ -1,3 +1,3 @@
 -- Laws that several proofs cite, and what the promises come to.
 pub mod SaidLaws
-pub mod Once
+pub mod Unique

@@ -22,7 +22,7 @@ after-decimal (suc k) a v h =
     (after-decimal k (a * 10 + digit k v) v (λ j l. h j (omega arith))
     ∙ ap value (tenfold a (digit k v) (10 ^ k) (decimal k v) ∙ rw pow-succ'))
 
-pub bcd-decimal : (n v : ℕ) → ((j : ℕ) → j < n → digit j v ≤ 9) → bcdOf n v ≡ value (decimal n v)
+pub bcd-decimal : (n v : ℕ) → ((j : ℕ) → j < n → digit j v ≤ 9) → bcdOf v n ≡ value (decimal n v)
 unfolding bcdOf
 bcd-decimal n v h = after-decimal n 0 v h ∙ ap value (rw (zero-mul, zero-add))
 
@@ -34,7 +34,7 @@ after-bad (suc k) a v j h b =
     (λ g. ⊎-elim (λ (e : j ≡ k). absurd (omega (arith, ltb-false 9 (digit k v) g, ap (λ i. digit i v) e)))
     (λ (l : j < k). after-bad k (a * 10 + digit k v) v j l b) (eq-or-lt-of-le (le-of-suc-le-suc h)))
 
-pub bcd-bad : (n v j : ℕ) → j < n → 9 < digit j v → bcdOf n v ≡ refused 63
+pub bcd-bad : (n v j : ℕ) → j < n → 9 < digit j v → bcdOf v n ≡ refused 63
 unfolding bcdOf
 bcd-bad n v j h b = after-bad n 0 v j h b
 
@@ -52,6 +52,6 @@ after-below (suc k) a v x =
     rw (pow-succ', ← mul-assoc) (lt-of-lt-of-le i (mul-le-mul-right (10 ^ k) m)))
 
 -- n digits make a number below 10 ^ n
-pub bcd-below : (n v x : ℕ) → bcdOf n v ≡ value x → x < 10 ^ n
+pub bcd-below : (n v x : ℕ) → bcdOf v n ≡ value x → x < 10 ^ n
 unfolding bcdOf
 bcd-below n v x e = rw one-mul at (after-below n 0 v x e)

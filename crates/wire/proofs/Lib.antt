@@ -4,6 +4,7 @@ pub mod TrailLaws
 pub mod NumberLaws
 pub mod ReadingLaws
 pub mod PartLaws
+pub mod EachLaws
 pub mod Decimal
 pub mod NextDigit
 pub mod SomeBits

@@ -41,7 +41,7 @@ above : (v m : ℕ) → v < 2 ^ 32 → 8 ≤ m → digit m v ≡ 0
 above v m h g = let l : 32 ≤ 4 * m = omega arith in ap (λ (q : ℕ). q % 16) (div-eq-of-lt (lt-of-lt-of-le h (pow-mono l)))
 
 -- digits above the eighth add nothing to a number of 32 bits
-pub eight : (n v : ℕ) → v < 2 ^ 32 → 8 ≤ n → bcdOf n v ≡ bcdOf 8 v
+pub eight : (n v : ℕ) → v < 2 ^ 32 → 8 ≤ n → bcdOf v n ≡ bcdOf v 8
 unfolding bcdOf bcdAfter
 eight zero v h g = absurd (omega arith)
 eight (suc m) v h g =

@@ -14,9 +14,15 @@ bytes-after zero s k i = refl
 bytes-after (suc n) s k i = ap₂ _∷_ (getD-drop k s i 0) (bytes-after n s k (i + 1) ∙ rw add-assoc)
 
 -- the number in the first bytes of what follows the first k is the number at place k
-pub number-after : (n : ℕ) (s : List ℕ) (k : ℕ) → number (bytesAt n (drop k s) 0) ≡ numberAt n s k
+number-after : (n : ℕ) (s : List ℕ) (k : ℕ) → number (bytesAt n (drop k s) 0) ≡ numberAt n s k
 unfolding numberAt
 number-after n s k = ap number (bytes-after n s k 0) ∙ rw add-zero
+
+-- so a number r of the n bytes that are first in t is the number at place k of s, where t is what follows the first k
+pub read-after : (n : ℕ) (s : List ℕ) (k : ℕ) {t bs : List ℕ} {r : ℕ} → t ≡ drop k s → bs ≡ bytesAt n t 0 → r ≡ number bs
+    → r ≡ numberAt n s k
+read-after n s k rest first read =
+    read ∙ ap number (first ∙ ap (λ (t : List ℕ). bytesAt n t 0) rest) ∙ number-after n s k
 
 -- the number in the first n bytes of a list is theirs, whatever follows
 pub number-in-front : (n : ℕ) (x y : List ℕ) → n ≤ length x → numberAt n (x ++ y) 0 ≡ numberAt n x 0

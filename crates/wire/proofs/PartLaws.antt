@@ -80,7 +80,8 @@ part-at l a n h =
 pub part-both : {s : List ℕ} {p : ℕ} (x y : List ℕ) → Part s p x → Part s (p + length x) y → Part s p (x ++ y)
 part-both x y g h =
     let same =
-    same-parts (g .front ++ x) (g .back) (h .front) (y ++ h .back) (length-append (g .front) x ∙ ap (λ n. n + length x) (g .place) ∙ sym (h .place))
+    same-parts (g .front ++ x) (g .back) (h .front) (y ++ h .back)
+    (length-append (g .front) x ∙ ap (λ n. n + length x) (g .place) ∙ sym (h .place))
     (append-assoc (g .front) x (g .back) ∙ sym (g .whole) ∙ h .whole) in
     record {
       front = g .front;

@@ -53,7 +53,7 @@ after-shown (suc k) j a v x =
     ∙ ap₂ (λ y z. bcdShow j a * y + z) (sym (digit-more k)) (sym (digits-split k v)))
 
 -- a number that is read is what its value shows
-pub bcd-shown : (n v x : ℕ) → v < 2 ^ (4 * n) → bcdOf n v ≡ value x → bcdShow n x ≡ v
+pub bcd-shown : (n v x : ℕ) → v < 2 ^ (4 * n) → bcdOf v n ≡ value x → bcdShow n x ≡ v
 unfolding bcdOf bcdShow
 bcd-shown n v x h e =
     ap (λ i. bcdShow i x) (sym (zero-add n)) ∙ after-shown n 0 0 v x e ∙ rw (zero-mul, zero-add) (mod-eq-of-lt h)
@@ -108,6 +108,6 @@ after-of-shown (suc k) c u a h =
     ∙ ap value (rw (add-mul, mul-assoc, add-assoc) (ap₂ (λ y z. c * y + z) (sym t) cut)))
 
 -- a number of n digits is read from what it shows
-pub bcd-of-shown : (n a : ℕ) → a < 10 ^ n → bcdOf n (bcdShow n a) ≡ value a
+pub bcd-of-shown : (n a : ℕ) → a < 10 ^ n → bcdOf (bcdShow n a) n ≡ value a
 unfolding bcdOf
 bcd-of-shown n a h = ap (bcdAfter 0 n) (omega arith) ∙ after-of-shown n 0 0 a h ∙ ap value (omega arith)

@@ -20,7 +20,8 @@ module _ {S A R : Type 0} (f : S → Turn S A R) (d : R) (m : S → ℕ) (falls 
   enough (suc k) zero s h g = absurd (omega arith)
   enough (suc k) (suc j) s h g = run-by k s ∙ go (λ t l n. enough k j t l n) (f s) refl ∙ sym (run-by j s)
     where
-      go : ((t : S) → m t < k → m t < j → run f d k t ≡ run f d j t) → (t : Turn S A R) → f s ≡ t → onward (run f d k) t ≡ onward (run f d j) t
+      go : ((t : S) → m t < k → m t < j → run f d k t ≡ run f d j t) → (t : Turn S A R) → f s ≡ t
+          → onward (run f d k) t ≡ onward (run f d j) t
       go ih (on a t) e = let l = falls s t a e in ap (before a) (ih t (omega arith) (omega arith))
       go ih (stop r) e = refl
 

@@ -17,7 +17,7 @@ bcdAfter a (suc k) v = if ltb 9 (digit k v) then refused 63 else bcdAfter (a * 1
 
 -- the number that the n low digits of v are
 unfoldable pub bcdOf : ℕ → ℕ → Reading ℕ
-bcdOf n v = bcdAfter 0 n v
+bcdOf v n = bcdAfter 0 n v
 
 -- the sum of the k low digits of v, each at its power of ten
 abbrev pub decimal : ℕ → ℕ → ℕ

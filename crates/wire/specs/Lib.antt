@@ -6,4 +6,6 @@ pub mod Number
 pub mod Reading
 pub mod Digits
 pub mod Parts
+pub mod Each
+pub mod Sections
 pub mod Ensures

@@ -23,5 +23,5 @@ unfoldable pub numberAt : ℕ → List ℕ → ℕ → ℕ
 numberAt n s i = number (bytesAt n s i)
 
 -- the bits h down to l of the byte of s at place i; b7 is a byte's highest, b0 its lowest
-unfoldable pub bitsAt : ℕ → ℕ → List ℕ → ℕ → ℕ
-bitsAt h l s i = getD s i 0 / 2 ^ l % 2 ^ (h + 1 - l)
+unfoldable pub bitsAt : List ℕ → ℕ → ℕ → ℕ → ℕ
+bitsAt s i h l = getD s i 0 / 2 ^ l % 2 ^ (h + 1 - l)

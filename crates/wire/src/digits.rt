@@ -10,7 +10,7 @@ pub enum Digits {
 
 // The number that the n low digits of v are. What stands above the eighth digit is 0, as v has no more.
 pub fn bcd(v: u32, n: u32) -> Digits
-    ensures { λ r. ⌜ told r ≡ bcdOf n v ⌝ }
+    ensures { λ r. ⌜ told r ≡ bcdOf v n ⌝ }
 {
     let mut a: u32 = 0;
     let mut k = if n < 8 { n } else { 8 };

@@ -32,7 +32,7 @@ pub fn length12_at(s: &[u8], i: usize) -> usize
     }
 }
 
-// The difference; 0 where there is less than is to be taken away.
+// Saturating subtraction: the difference, or 0 where there is less than is to be taken away.
 pub fn less(from: usize, taken: usize) -> usize
     ensures { λ r. ⌜ r ≡ from - taken ⌝ }
 {

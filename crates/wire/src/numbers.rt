@@ -53,7 +53,7 @@ pub fn number32_at(s: &[u8], i: usize) -> u32
 
 // The bits from a high one down to a low one of the byte at place i, b7 being the highest. Above b7 there are none.
 pub fn bits_at(s: &[u8], i: usize, high: u32, low: u32) -> u8
-    ensures { λ r. ⌜ r ≡ bitsAt high low (now (s .entry)) i ⌝ }
+    ensures { λ r. ⌜ r ≡ bitsAt (now (s .entry)) i high low ⌝ }
 {
     let b = byte_at(s, i);
     if 7 < low {

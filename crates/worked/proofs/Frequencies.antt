@@ -48,33 +48,35 @@ module _ {A : Type 0} (count : A → ℕ) where
   is-count c a h e = sym (ap count (value-is e)) ∙ h
 
   module _ (tag : ℕ) (fields : List ℕ → Answered A)
-      (first : (b : List ℕ) (a : A) → fields b ≡ value a → digitsAt 8 b 0 ≡ value (count a)) where
-    by-digits : (l : List ℕ) (n : ℕ) → digitsAt 8 l 0 ≡ value n → (a : A) → (fixed 11 tag (tag ∷ 11 ∷ l) >>= fields) ≡ value a → count a ≡ n
+      (first : (b : List ℕ) (a : A) → fields b ≡ value a → digitsAt b 0 8 ≡ value (count a)) where
+    by-digits : (l : List ℕ) (n : ℕ) → digitsAt l 0 8 ≡ value n → (a : A) → (fixed 11 tag (tag ∷ 11 ∷ l) >>= fields) ≡ value a → count a ≡ n
     by-digits l n d a e = go (through (fixed 11 tag (tag ∷ 11 ∷ l)) fields a e)
       where
         go : (b : List ℕ) × (fixed 11 tag (tag ∷ 11 ∷ l) ≡ value b) × (fields b ≡ value a) → count a ≡ n
         go (b, f, q) = value-is (sym (first l a (ap fields (body-is tag l b f) ∙ q)) ∙ d)
 
-cable-first : (b : List ℕ) (a : Cable) → cableFields b ≡ value a → digitsAt 8 b 0 ≡ value (a .frequency .0)
+cable-first : (b : List ℕ) (a : Cable) → cableFields b ≡ value a → digitsAt b 0 8 ≡ value (a .frequency .0)
 unfolding cableFields
 cable-first b =
     let count : Cable → ℕ = λ c. c .frequency .0 in
-    first-is count (digitsAt 8 b 0) _ (λ n. stays count (digitsAt 7 b 7) _ (λ m a. is-count count _ a refl))
+    first-is count (digitsAt b 0 8) _ (λ n. stays count (digitsAt b 7 7) _ (λ m a. is-count count _ a refl))
 
-satellite-first : (b : List ℕ) (a : Satellite) → satelliteFields b ≡ value a → digitsAt 8 b 0 ≡ value (a .frequency .0)
+satellite-first : (b : List ℕ) (a : Satellite) → satelliteFields b ≡ value a → digitsAt b 0 8 ≡ value (a .frequency .0)
 unfolding satelliteFields
 satellite-first b =
     let count : Satellite → ℕ = λ c. c .frequency .0 in
-    first-is count (digitsAt 8 b 0) _
-    (λ n. stays count (digitsAt 4 b 4) _ (λ o. stays count (digitsAt 7 b 7) _ (λ m a. is-count count _ a refl)))
+    first-is count (digitsAt b 0 8) _
+    (λ n. stays count (digitsAt b 4 4) _ (λ o. stays count (digitsAt b 7 7) _ (λ m a. is-count count _ a refl)))
 
 -- four bytes that are eight digits, whatever follows them; and one descriptor that has them is read
-module _ (f : List ℕ) (n : ℕ) (digits : (l : List ℕ) → digitsAt 8 (f ++ l) 0 ≡ value n) where
-  pub cable-holds : (cable (0x44 ∷ 11 ∷ (f ++ zeros)) >>= λ c. value (c .frequency)) ≡ value (record { 0 = n }) → holds (cableSteps f (record { 0 = n }))
+module _ (f : List ℕ) (n : ℕ) (digits : (l : List ℕ) → digitsAt (f ++ l) 0 8 ≡ value n) where
+  pub cable-holds : (cable (0x44 ∷ 11 ∷ (f ++ zeros)) >>= λ c. value (c .frequency)) ≡ value (record { 0 = n })
+      → holds (cableSteps f (record { 0 = n }))
   unfolding cable
   cable-holds e =
       record {
-        always = λ l a q. ap (λ k. record { 0 = k }) (by-digits (λ c. c .frequency .0) 0x44 cableFields cable-first (f ++ l) n (digits l) a q);
+        always = λ l a q. ap (λ k. record { 0 = k })
+            (by-digits (λ c. c .frequency .0) 0x44 cableFields cable-first (f ++ l) n (digits l) a q);
         once = e;
       }
 
@@ -83,6 +85,7 @@ module _ (f : List ℕ) (n : ℕ) (digits : (l : List ℕ) → digitsAt 8 (f ++ 
   unfolding satellite
   satellite-holds e =
       record {
-        always = λ l a q. ap (λ k. record { 0 = k }) (by-digits (λ c. c .frequency .0) 0x43 satelliteFields satellite-first (f ++ l) n (digits l) a q);
+        always = λ l a q. ap (λ k. record { 0 = k })
+            (by-digits (λ c. c .frequency .0) 0x43 satelliteFields satellite-first (f ++ l) n (digits l) a q);
         once = e;
       }

@@ -2,8 +2,8 @@
 """The header for C and the source say the same: agree.py [--layout | --texts FILE]
 
     agree.py                every exported function and every struct of the source against include/lohitunga.h, field by
-                            field; the header's constants against docs/REFUSALS.md and CHANGELOG.md; the calls that take
-                            bytes against lent.c
+                            field; what is lent by pointer has no padding; the header's constants against
+                            docs/REFUSALS.md and CHANGELOG.md; the calls that take bytes against lent.c
     agree.py --layout       prints the static assertions of layout.c: sizes and places of fields by #[repr(C)]'s rules
     agree.py --texts FILE   FILE has a line `number text` for each text of lohitunga_text: the words of docs/REFUSALS.md
 """
@@ -115,31 +115,39 @@ def aligned(at, width):
     return -(-at // width) * width
 
 
+def measure(structs, kind):
+    """Size and alignment."""
+    if m := re.fullmatch(r"\[(\w+); (\d+)\]", kind):
+        return WIDTHS[m.group(1)] * int(m.group(2)), WIDTHS[m.group(1)]
+    if kind in WIDTHS:
+        return WIDTHS[kind], WIDTHS[kind]
+    at, widest = 0, 1
+    for _, of in structs[snake(kind)]:
+        size, width = measure(structs, of)
+        at, widest = aligned(at, width) + size, max(widest, width)
+    return aligned(at, widest), widest
+
+
+def padded():
+    """What is lent by pointer is kept by the caller, who may compare it byte for byte."""
+    structs, functions = source()
+    lent_kinds = (re.fullmatch(r"&(?:mut )?(\w+)", kind) for words, _ in functions.values() for kind in words)
+    kinds = {m.group(1) for m in lent_kinds if m}
+    for kind in sorted(kinds):
+        size, of_fields = measure(structs, kind)[0], sum(measure(structs, of)[0] for _, of in structs[snake(kind)])
+        if size != of_fields:
+            yield f"{snake(kind)} is lent, and has {size - of_fields} bytes of padding"
+
+
 def layout():
     structs, _ = source()
-    sizes = {}  # name -> size and alignment
-
-    def measure(kind):
-        if m := re.fullmatch(r"\[(\w+); (\d+)\]", kind):
-            return WIDTHS[m.group(1)] * int(m.group(2)), WIDTHS[m.group(1)]
-        if kind in WIDTHS:
-            return WIDTHS[kind], WIDTHS[kind]
-        name = snake(kind)
-        if name not in sizes:
-            at, widest = 0, 1
-            for _, of in structs[name]:
-                size, width = measure(of)
-                at, widest = aligned(at, width) + size, max(widest, width)
-            sizes[name] = aligned(at, widest), widest
-        return sizes[name]
-
     interface = re.search(r"^#define LOHITUNGA_INTERFACE (\d+)$", read("include/lohitunga.h"), re.M).group(1)
     yield f"IS(LOHITUNGA_INTERFACE, {interface});"
     for name in sorted(structs):
         at, widest = 0, 1
         places = []
         for field, kind in structs[name]:
-            size, width = measure(kind)
+            size, width = measure(structs, kind)
             at, widest = aligned(at, width), max(widest, width)
             places.append(f"FIELD({name}, {field}, {at}, {size});")
             at += size
@@ -158,7 +166,7 @@ def main():
     if sys.argv[1:] == ["--layout"]:
         print("\n".join(layout()))
         return
-    bad = texts(sys.argv[2]) if sys.argv[1:2] == ["--texts"] else [*differences(), *constants()]
+    bad = texts(sys.argv[2]) if sys.argv[1:2] == ["--texts"] else [*differences(), *padded(), *constants()]
     if bad:
         sys.exit("header: " + "\nheader: ".join(bad))
     if not sys.argv[1:]:

@@ -466,9 +466,8 @@ static void print_account(FILE *to, const uint8_t *stream, size_t size)
         sections += a.sections;
     }
     fprintf(to, "PID %04X\ntaken %" PRIu64 "\nrepeated %" PRIu64 "\nrefused %" PRIu64 "\n", r.pid, taken, repeated, refused);
-    fprintf(to, "pointer %" PRIu32 "\ndelivered %" PRIu32 "\nbroken %" PRIu32 "\nfiller %" PRIu32 "\nskipped %" PRIu32 "\n",
-            r.counters[SECOND_POINTER], r.counters[SECOND_DELIVERED], r.counters[SECOND_BROKEN], r.counters[SECOND_FILLER],
-            r.counters[SECOND_SKIPPED]);
+#define COUNTED(NAME, counter, words) fprintf(to, #counter " %" PRIu32 "\n", r.counters[SECOND_##NAME]);
+    SECOND_COUNTED(COUNTED)
     fprintf(to, "in hand %" PRIu64 "\nsections %" PRIu64 "\n", r.in_hand, sections);
 }
 

@@ -1,13 +1,14 @@
 /* Histories of packets: each call compared, and demand 3 over the whole history. */
 #include "kinds.h"
-#include "lohitunga.h"
-#include "second.h"
+#include "record.h"
 #include "tally.h"
 
 #include <stdlib.h>
 #include <string.h>
 
 enum { HISTORY_MOST = 80, LEDGER_MOST = HISTORY_MOST * 184 };
+
+#define IN_WORDS(NAME, counter, words) words " "
 
 void prepare_packets(void)
 {
@@ -17,7 +18,7 @@ void prepare_packets(void)
     must_meet("48 for control", "00 10 11");
     must_meet("49 for", "pointer payload-of-1");
     must_meet("packets taken", "without-payload with-sections over-4,200-out");
-    must_meet("fates", "pointer delivered broken-off filler skipped in-hand");
+    must_meet("fates", SECOND_COUNTED(IN_WORDS) "in-hand");
 }
 
 /* The ledger: every payload byte of the packets taken so far, with its fate */
@@ -52,14 +53,15 @@ static void ledger_takes(const struct second_collected *a, const uint8_t *packet
     ledger.out_size += a->bytes;
 }
 
-/* "Modulo 2^32 the five counters equal the bytes of each fate, and with those in hand they make up the payload taken." */
+/* "Modulo 2^32 the counters equal the bytes of each fate, and with those in hand they make up the payload taken." */
 static void same_counts(const lohitunga_record *r)
 {
-    long long counts[6] = {0};
+    long long counts[SECOND_FATES] = {0}, library[SECOND_FATES];
     for (size_t i = 0; i < ledger.size; i++)
         counts[ledger.fates[i]]++;
-    long long library[] = {r->pointer, r->delivered, r->broken, r->filler, r->skipped, (long long)r->in_hand};
-    same("pointer delivered broken filler skipped in_hand", library, counts, 6);
+    record_counters(r, library);
+    library[SECOND_IN_HAND] = (long long)r->in_hand;
+    same(RECORD_COUNTERS "in_hand", library, counts, SECOND_FATES);
 }
 
 /*
@@ -91,30 +93,35 @@ static void delivered_in_order(void)
 
 static void fates_met(void)
 {
-    static const char *const names[6] = {"pointer", "delivered", "broken-off", "filler", "skipped", "in-hand"};
-    unsigned long counts[6] = {0};
+#define NAMED(NAME, counter, words) words,
+    static const char *const names[SECOND_FATES] = {SECOND_COUNTED(NAMED) "in-hand"};
+    unsigned long counts[SECOND_FATES] = {0};
     for (size_t i = 0; i < ledger.size; i++)
         counts[ledger.fates[i]]++;
-    for (int i = 0; i < 6; i++)
+    for (int i = 0; i < SECOND_FATES; i++)
         met_word("fates", names[i], counts[i]);
 }
 
 /* One packet */
 
-static struct second_record seen_by_second(const lohitunga_record *r)
+/* The record before a packet, and after it: field by field, so that a difference has a name, then every byte. */
+static void same_record(const lohitunga_record *before, const lohitunga_record *r, const struct second_record *s)
 {
-    struct second_record s = {r->pid, r->last != LOHITUNGA_NO_COUNTER, r->last, r->in_hand,
-                              {r->pointer, r->delivered, r->broken, r->filler, r->skipped}};
-    return s;
+    long long library[RECORD_MOST], second[RECORD_MOST];
+    lohitunga_record wanted = *before;
+    record_out(&wanted, s);
+    record_values(r, library);
+    same(RECORD_NAMES, library, second, record_values(&wanted, second));
+    same_bytes("the record, with what is spare", (const uint8_t *)r, (const uint8_t *)&wanted, sizeof wanted);
 }
 
-static void same_record(const lohitunga_record *r, const struct second_record *s)
+static void record_told(const lohitunga_record *r)
 {
-    long long library[] = {r->pid, r->last, (long long)r->in_hand, r->pointer, r->delivered, r->broken, r->filler, r->skipped};
-    long long second[] = {s->pid, s->has_counter ? (long long)s->counter : LOHITUNGA_NO_COUNTER, (long long)s->in_hand,
-                          s->counters[SECOND_POINTER], s->counters[SECOND_DELIVERED], s->counters[SECOND_BROKEN],
-                          s->counters[SECOND_FILLER], s->counters[SECOND_SKIPPED]};
-    same("pid last in_hand pointer delivered broken filler skipped", library, second, 8);
+#define PLAIN_TOLD(field, value) call_number("record." #field, (long long)r->field);
+#define COUNTER_TOLD(NAME, field, words) call_number("record." #field, r->field);
+    RECORD_PLAIN(PLAIN_TOLD)
+    SECOND_COUNTED(COUNTER_TOLD)
+    call_piece("record", r, sizeof *r);
 }
 
 enum { ROOM_MOST = 6000 };
@@ -181,7 +188,7 @@ static void cut_out(const uint8_t *out, size_t size, lohitunga_collect_answer m)
 /* One packet; record, hold and out are then as the library left them. */
 static void compare_collect(struct collector *c, const uint8_t *packet, size_t size, struct second_collected *a)
 {
-    struct second_record after = seen_by_second(&c->record);
+    struct second_record after = record_in(&c->record);
     memcpy(hold_second, c->hold, c->hold_size);
     memcpy(out_second, c->out, c->out_size);
     second_collect(a, &after, hold_second, c->hold_size, out_second, c->out_size, packet, size);
@@ -189,14 +196,7 @@ static void compare_collect(struct collector *c, const uint8_t *packet, size_t s
     lohitunga_record now;
     for (enum placing p = 0; p < PLACINGS; p++) {
         call_begins("lohitunga_collect", p);
-        call_number("record.pid", c->record.pid);
-        call_number("record.last", c->record.last);
-        call_number("record.in_hand", (long long)c->record.in_hand);
-        call_number("record.pointer", c->record.pointer);
-        call_number("record.delivered", c->record.delivered);
-        call_number("record.broken", c->record.broken);
-        call_number("record.filler", c->record.filler);
-        call_number("record.skipped", c->record.skipped);
+        record_told(&c->record);
         call_number("out room", (long long)c->out_size);
         call_piece("packet", packet, size);
         call_piece("hold", c->hold, c->hold_size);
@@ -210,7 +210,7 @@ static void compare_collect(struct collector *c, const uint8_t *packet, size_t s
         same("number repeated sections size", library, second, 4);
         cut_out(out, c->out_size, m);
         memcpy(&now, room_now(&rooms.state), sizeof now);
-        same_record(&now, &after);
+        same_record(&c->record, &now, &after);
         same_bytes("the hold", room_now(&rooms.hold), hold_second, c->hold_size);
         same_bytes("the out room", room_now(&rooms.out), out_second, c->out_size);
         must(room_back(&rooms.state), "the canaries beside the record stand");
@@ -246,16 +246,14 @@ static uint32_t any_count(struct dice *d)
 static void any_record(struct dice *d, struct collector *c, const struct sender *s)
 {
     lohitunga_record *r = &c->record;
-    memset(r, 0, sizeof *r);
+    fill(d, (uint8_t *)r, sizeof *r);
+    r->in_hand = 0;
     r->pid = (uint16_t)(one_in(d, 12) ? (one_in(d, 2) ? 8191 + below(d, 3) : below(d, 65536)) : s->pid);
-    r->last = (uint8_t)(one_in(d, 8) ? LOHITUNGA_NO_COUNTER : one_in(d, 12) ? below(d, 256) : below(d, 16));
+    r->last = (uint8_t)(one_in(d, 8) ? LOHITUNGA_NO_COUNTER : one_in(d, 4) ? below(d, 256) : below(d, 16));
     if (one_in(d, 2))
         r->last = (uint8_t)((s->counter + 15) % 16); /* so that the sender's next packet goes on with what is in hand */
-    r->pointer = any_count(d);
-    r->delivered = any_count(d);
-    r->broken = any_count(d);
-    r->filler = any_count(d);
-    r->skipped = any_count(d);
+#define ANY(NAME, field, words) r->field = any_count(d);
+    SECOND_COUNTED(ANY)
     fill(d, c->hold, c->hold_size);
     if (one_in(d, 3))
         return;
@@ -272,7 +270,7 @@ static void any_record(struct dice *d, struct collector *c, const struct sender 
         declared = 3;
     if (declared > 4096)
         declared = 4096;
-    if (one_in(d, 24))
+    if (one_in(d, 8))
         declared = between(d, 4097, 4098);
     c->hold[1] = (uint8_t)(c->hold[1] / 16 * 16 + (declared - 3) / 256 % 16);
     c->hold[2] = (uint8_t)(declared - 3);
@@ -328,7 +326,8 @@ void one_history(struct dice *d)
     c.record = lohitunga_fresh((uint16_t)(kept || one_in(d, 2) ? s.pid : below(d, 65536)));
     struct second_record fresh = second_fresh(c.record.pid);
     call_begins("lohitunga_fresh", AT_END);
-    same_record(&c.record, &fresh);
+    static const lohitunga_record zeros;
+    same_record(&zeros, &c.record, &fresh);
     if (!kept && !one_in(d, 4))
         any_record(d, &c, &s);
     ledger_begins();

@@ -64,10 +64,20 @@ struct second_written second_to_section(const uint8_t *sheet, size_t size, uint8
 
 /* Collector */
 
-/* IN_HAND is no counter; the five before it are, in this order. */
-enum { SECOND_POINTER, SECOND_DELIVERED, SECOND_BROKEN, SECOND_FILLER, SECOND_SKIPPED, SECOND_IN_HAND };
+/* The fates that are counted, in the order of the account: name, the counter's name, the fate in words. */
+#define SECOND_COUNTED(FATE) \
+    FATE(POINTER, pointer, "pointer") \
+    FATE(DELIVERED, delivered, "delivered") \
+    FATE(BROKEN, broken, "broken-off") \
+    FATE(FILLER, filler, "filler") \
+    FATE(SKIPPED, skipped, "skipped")
 
-struct second_record { uint32_t pid; int has_counter; uint32_t counter; uint64_t in_hand; uint32_t counters[5]; };
+/* SECOND_POINTER and so on; what is in hand has no counter, and comes behind them. */
+#define SECOND_FATE(NAME, counter, words) SECOND_##NAME,
+enum { SECOND_COUNTED(SECOND_FATE) SECOND_IN_HAND, SECOND_FATES };
+enum { SECOND_COUNTERS = SECOND_IN_HAND };
+
+struct second_record { uint32_t pid; int has_counter; uint32_t counter; uint64_t in_hand; uint32_t counters[SECOND_COUNTERS]; };
 
 enum { SECOND_TAKEN, SECOND_REPEATED };
 

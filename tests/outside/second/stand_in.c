@@ -2,8 +2,7 @@
  * The C interface with the second implementation behind it instead of the library. The harness is tried on it: as it stands no
  * difference may show, and with each of the faults below (FAULT=n in the environment) one must.
  */
-#include "lohitunga.h"
-#include "second.h"
+#include "record.h"
 
 #include <stdlib.h>
 #include <string.h>
@@ -149,21 +148,15 @@ lohitunga_collect_answer lohitunga_collect(lohitunga_record *r, uint8_t *hold, s
                                            const uint8_t *packet, size_t packet_size)
 {
     static __thread struct second_collected c;
-    struct second_record s = {r->pid, r->last != LOHITUNGA_NO_COUNTER, r->last, r->in_hand,
-                              {r->pointer, r->delivered, r->broken, r->filler, r->skipped}};
+    struct second_record s = record_in(r);
     second_collect(&c, &s, hold, hold_size, out, out_size, packet, packet_size);
     lohitunga_collect_answer a = {c.number, c.number == 0 && c.kind == SECOND_REPEATED, c.sections, c.bytes};
     if (c.number)
         return a;
     uint32_t filler = r->filler;
-    r->last = (uint8_t)(s.has_counter ? s.counter : LOHITUNGA_NO_COUNTER);
-    r->in_hand = s.in_hand;
-    r->pointer = s.counters[SECOND_POINTER];
-    r->delivered = s.counters[SECOND_DELIVERED];
-    r->broken = s.counters[SECOND_BROKEN];
-    r->filler = s.counters[SECOND_FILLER];
-    r->skipped = s.counters[SECOND_SKIPPED];
-    /* 7: one byte beyond the delivered ones; 8: the hold as scratch room; 9: a counter that stops at its end; 10: control 10 keeps the counter */
+    record_out(r, &s);
+    /* 7: one byte beyond the delivered ones; 8: the hold as scratch room; 9: a counter that stops at its end; 10: control 10 keeps the counter;
+     * 27: what is spare is cleared */
     if (fault(7) && c.bytes > 0 && c.bytes < out_size)
         out[c.bytes] ^= 1;
     if (fault(8) && c.sections > 0 && s.in_hand < hold_size)
@@ -172,6 +165,8 @@ lohitunga_collect_answer lohitunga_collect(lohitunga_record *r, uint8_t *hold, s
         r->filler = UINT32_MAX;
     if (fault(10) && c.payload == 0 && !a.repeated)
         r->last = packet[3] % 16;
+    if (fault(27))
+        memset(r->spare, 0, sizeof r->spare);
     return a;
 }
 

@@ -69,24 +69,5 @@ returns-2 c = late-right (c .before .args .mjd) (c .before .pre) (c .before .fit
 pub by-formula-spec : {M : Type 1} → statement M
 by-formula-spec =
     tie.close
-    (tie.spec
-    mul-y
-    sub-y
-    sub-a
-    mul-a
-    sub-a-2
-    mul-m
-    sub-m
-    mul-day
-    sub-day
-    cast-day
-    add-t12
-    cast-t13
-    sub-t14
-    cast-t15
-    add-t16
-    cast-t17
-    sub-t18
-    cast-t19
-    returns
-    returns-2)
+    (tie.spec mul-y sub-y sub-a mul-a sub-a-2 mul-m sub-m mul-day sub-day cast-day add-t12 cast-t13 sub-t14 cast-t15
+    add-t16 cast-t17 sub-t18 cast-t19 returns returns-2)

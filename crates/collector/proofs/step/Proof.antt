@@ -1,11 +1,13 @@
 -- `collector::step` meets its contract: the verdict decides the outcome.
 use mathlib.Core.Path.{sym, ap, _∙_}
 use borrow.Author.Needs.{needs}
-use Rattle.collector.specs.Refusals.{beforeOf, Judged, ruledBy}
+use Rattle.packet.specs.Refusals.{Judged}
+use Rattle.packet.specs.Ruling.{ruledBy}
+use Rattle.packet.specs.Judgement.{meant}
+use Rattle.collector.specs.Refusals.{beforeOf}
 use Rattle.collector.specs.Answer.{Outcome}
 use Rattle.collector.specs.Collected.{outcomeOf}
-use Rattle.collector.specs.Inner.Packet.{meant}
-use Rattle.collector.proofs.Table.{fit-of}
+use Rattle.collector.proofs.Fits.{fit-of}
 use Rattle.collector.proofs.step.Statement.{statement}
 use Rattle.collector.proofs.step.Tie as tie
 

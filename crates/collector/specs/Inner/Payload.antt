@@ -4,9 +4,8 @@ use mathlib.Core.Bool.{Bool, true, false}
 use mathlib.Core.List.{List}
 use Prim.Native.Nat.{ℕ, _+_, _-_, _≤_, _<_}
 use lib.ListN.{length, take, getD}
-use Rattle.collector.specs.declared.stretch.Came.{Came}
 use Rattle.collector.specs.declared.payload.Front.{Front}
-use Rattle.collector.specs.Inner.Stretch.{CanStand, cameOf, cameWith}
+use Rattle.wire.specs.Sections.{Unfinished}
 
 -- what is known once a packet is judged to carry payload, with n bytes in hand: the rooms are large enough, the payload is there from index from
 -- on, what is in hand can stand, and the pointer leads to a byte of the packet
@@ -17,23 +16,10 @@ pub record Fit (n : ℕ) (hold out packet : List ℕ) (from : ℕ) (start : Bool
   pub from-past : 4 ≤ from
   pub from-within : from < length packet
   pub long : length packet ≤ 188
-  pub stands : CanStand (take n hold)
+  pub stands : Unfinished (take n hold)
   pub points : start ≡ true → from + 1 + getD packet from 0 < length packet
 
 -- the stretch that goes to the section in hand: before the pointer's target, or all of the payload
 abbrev pub frontOf : Bool → List ℕ → ℕ → Front
 frontOf true packet from = record { from = from + 1; bytes = getD packet from 0 }
 frontOf false packet from = record { from = from; bytes = length packet - from }
-
--- one stretch after another
-abbrev pub bothOf : Came → Came → Came
-bothOf a b =
-    cameWith (b .in_hand) (a .sections + b .sections) (a .bytes + b .bytes) (λ k. cameOf a k + cameOf b k)
-
--- numbers that can be added with room to spare
-pub record Small (a : Came) : Type 0 where
-  pub sections : a .sections ≤ 5000
-  pub bytes : a .bytes ≤ 5000
-  pub broken : a .broken ≤ 5000
-  pub filler : a .filler ≤ 5000
-  pub skipped : a .skipped ≤ 5000

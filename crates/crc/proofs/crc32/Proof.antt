@@ -26,10 +26,4 @@ returns-3 c = c .crc-by-five .ensures
 pub crc32-spec : {M : Type 1} → statement M
 crc32-spec =
     tie.close
-    (tie.spec
-    feed-by-words-requires
-    crc-by-two-requires
-    crc-by-five-requires
-    returns
-    returns-2
-    returns-3)
+    (tie.spec feed-by-words-requires crc-by-two-requires crc-by-five-requires returns returns-2 returns-3)

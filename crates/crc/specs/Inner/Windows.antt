@@ -4,7 +4,7 @@ use mathlib.Core.List.{List, [], _∷_}
 use Prim.Native.Nat.{ℕ, _+_, _-_, _*_, _%_, _^_, _≤_}
 use lib.ListN.{length, getD, drop}
 use Rattle.crc.specs.Crc.{feedBits, feedBytes, crc}
-use Rattle.crc.specs.Inner.Moves.{added}
+use Rattle.moves.specs.Moves.{added}
 
 -- the four bytes from i on as a number, the first the highest
 abbrev pub wordAt : List ℕ → ℕ → ℕ

@@ -39,14 +39,5 @@ returns c = search needs
 pub bytes-in-turn-spec : {M : Type 1} → statement M
 bytes-in-turn-spec =
     tie.close
-    (tie.spec
-    Inv-loop
-    μ-loop
-    loop-holds
-    shared-slice-read-wide
-    wide-requires
-    number-requires
-    add-i
-    loop-less
-    loop-again
+    (tie.spec Inv-loop μ-loop loop-holds shared-slice-read-wide wide-requires number-requires add-i loop-less loop-again
     returns)

@@ -32,13 +32,17 @@ loop-less : tie.Need-loop-less Inv-loop μ-loop
 loop-less c = omega arith
 
 loop-again : tie.Need-loop-again Inv-loop μ-loop
-loop-again c = (c .before .before .before .before .before .loop .inv .0 ∙ sym (c .before .before .turn .kept .0), omega arith)
+loop-again c =
+    let turned = c .before .before in
+    (turned .before .before .before .loop .inv .0 ∙ sym (turned .turn .kept .0), omega arith)
 
 loop-less-2 : tie.Need-loop-less-2 Inv-loop μ-loop
 loop-less-2 c = omega arith
 
 loop-again-2 : tie.Need-loop-again-2 Inv-loop μ-loop
-loop-again-2 c = (c .before .before .before .before .before .loop .inv .0 ∙ sym (c .before .before .turn .kept .0), omega arith)
+loop-again-2 c =
+    let turned = c .before .before in
+    (turned .before .before .before .loop .inv .0 ∙ sym (turned .turn .kept .0), omega arith)
 
 returns : tie.Need-returns Inv-loop μ-loop
 returns c = search needs
@@ -46,16 +50,5 @@ returns c = search needs
 pub main-spec : {M : Type 1} → statement M
 main-spec =
     tie.close
-    (tie.spec
-    Inv-loop
-    μ-loop
-    large-buffer-requires
-    loop-holds
-    slice-aggregate-turn
-    turn-requires
-    sub-turns
-    loop-less
-    loop-again
-    loop-less-2
-    loop-again-2
-    returns)
+    (tie.spec Inv-loop μ-loop large-buffer-requires loop-holds slice-aggregate-turn turn-requires sub-turns loop-less
+    loop-again loop-less-2 loop-again-2 returns)

@@ -41,15 +41,5 @@ returns c = search needs
 pub tell-walk-spec : {M : Type 1} → statement M
 tell-walk-spec =
     tie.close
-    (tie.spec
-    Inv-loop
-    μ-loop
-    loop-holds
-    step-of-walk-requires
-    tell-step-requires
-    sub-turns
-    loop-less
-    loop-again
-    loop-less-2
-    loop-again-2
-    returns)
+    (tie.spec Inv-loop μ-loop loop-holds step-of-walk-requires tell-step-requires sub-turns loop-less loop-again
+    loop-less-2 loop-again-2 returns)

@@ -87,30 +87,7 @@ returns-5 c = search needs
 pub turn-spec : {M : Type 1} → statement M
 turn-spec =
     tie.close
-    (tie.spec
-    slice-aggregate-read-full
-    read-full-requires
-    returns
-    array-read-wide
-    wide-requires
-    mul-size
-    array-read-wide-2
-    wide-requires-2
-    add-size
-    returns-2
-    slice-relend-prefix-read-full
-    slice-aggregate-read-full-2
-    read-full-requires-2
-    same-length
-    returns-3
-    part-requires
-    array-read-if4
-    array-read-tell
-    tell-requires
-    array-read-wide-3
-    wide-requires-3
-    tell-walk-requires
-    same-length-2
-    returns-4
-    same-length-3
-    returns-5)
+    (tie.spec slice-aggregate-read-full read-full-requires returns array-read-wide wide-requires mul-size
+    array-read-wide-2 wide-requires-2 add-size returns-2 slice-relend-prefix-read-full slice-aggregate-read-full-2
+    read-full-requires-2 same-length returns-3 part-requires array-read-if4 array-read-tell tell-requires
+    array-read-wide-3 wide-requires-3 tell-walk-requires same-length-2 returns-4 same-length-3 returns-5)

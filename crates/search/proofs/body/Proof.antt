@@ -25,7 +25,10 @@ slice-aggregate-result-2 : tie.Need-slice-aggregate-result-2
 slice-aggregate-result-2 c = search needs
 
 returns : tie.Need-returns
-returns c = c .part .ensures ∙ sym (ap (λ x. bodyOf (c .before .before .before .before .before .args .section .now) (toldFound x)) (c .before .before .found .given .1))
+returns c =
+    let after-found = c .before .before in
+    let args = after-found .before .before .before .args in
+    c .part .ensures ∙ sym (ap (λ x. bodyOf (args .section .now) (toldFound x)) (after-found .found .given .1))
 
 returns-2 : tie.Need-returns-2
 returns-2 c = search needs
@@ -36,13 +39,5 @@ returns-3 c = search needs
 pub body-spec : {M : Type 1} → statement M
 body-spec =
     tie.close
-    (tie.spec
-    enum-known-found
-    part-requires
-    enum-told
-    slice-aggregate-result
-    enum-told-2
-    slice-aggregate-result-2
-    returns
-    returns-2
-    returns-3)
+    (tie.spec enum-known-found part-requires enum-told slice-aggregate-result enum-told-2 slice-aggregate-result-2
+    returns returns-2 returns-3)

@@ -1,5 +1,7 @@
 -- `search::find_from_top` meets its contract: what the top loop gives, or else what the entries behind it give.
 use mathlib.Core.Path.{_≡_, sym, ap, _∙_}
+use mathlib.Core.List.{List}
+use Prim.Native.Nat.{ℕ}
 use native.Mathlib.Omega.{arith}
 use lib.ListN.{drop}
 use lib.Seq.{length-take-le}
@@ -13,16 +15,36 @@ use borrow.Author.Needs.{needs}
 use Rattle.search.proofs.find_from_top.Statement.{statement}
 use Rattle.search.proofs.find_from_top.Tie as tie
 
--- the table's loops, once the top loop's length is read
-whole : (c : tie.After-length12-at)
-    → Topped (c .before .before .args .bytes .now) (c .before .before .args .at) (c .length12-at .result) (c .length12-at .ensures .same) (c .before .before .args .fixed)
-whole c = topped-ok _ _ _ _ (c .before .before .args .fixed) (c .before .before .pre .1)
+-- The top loop's length has been read.
+module _ (c : tie.After-length12-at) where
+  abbrev start : tie.Start
+  start = c .before .before
 
--- what was found in the top loop leads, and what lies behind it follows
-lead : (c : tie.After-find-in-top) (v : Found) → c .find-in-top .result ≡ v
-    → hitFrom (c .before .before .before .before .args .tag) 0 (topped (c .before .before .before .before .args .fixed) (c .before .before .before .before .args .at) (drop (c .before .before .before .before .args .at) (c .before .before .before .before .args .bytes .now)) .items)
-    ≡ orElse (toldFound v) (hitFrom (c .before .before .before .before .args .tag) 1 (behind (c .before .before .before .before .args .bytes .now) (c .before .before .before .before .args .at) (c .before .before .length12-at .result) (c .before .before .length12-at .ensures .same) (c .before .before .before .before .args .fixed)))
-lead c v q = hit-lead _ _ _ _ (toldFound v) (whole (c .before .before) .holds) (sym (ap toldFound q) ∙ c .find-in-top .ensures)
+  -- the table's loops
+  whole : Topped (start .args .bytes .now) (start .args .at) (c .length12-at .result) (c .length12-at .ensures .same) (start .args .fixed)
+  whole = topped-ok _ _ _ _ (start .args .fixed) (start .pre .1)
+
+-- The top loop has been searched: what was found in it leads, and what lies behind it follows.
+module _ (c : tie.After-find-in-top) where
+  abbrev sized : tie.After-length12-at
+  sized = c .before .before
+
+  abbrev bytes : List ℕ
+  bytes = start sized .args .bytes .now
+
+  abbrev tag : ℕ
+  tag = start sized .args .tag
+
+  abbrev fixed : ℕ
+  fixed = start sized .args .fixed
+
+  abbrev at : ℕ
+  at = start sized .args .at
+
+  lead : (v : Found) → c .find-in-top .result ≡ v
+      → hitFrom tag 0 (topped fixed at (drop at bytes) .items)
+      ≡ orElse (toldFound v) (hitFrom tag 1 (behind bytes at (sized .length12-at .result) (sized .length12-at .ensures .same) fixed))
+  lead v q = hit-lead _ _ _ _ (toldFound v) (whole sized .holds) (sym (ap toldFound q) ∙ c .find-in-top .ensures)
 
 length12-at-requires : tie.Need-length12-at-requires
 length12-at-requires c κs = search needs
@@ -52,13 +74,19 @@ enum-told-3 : tie.Need-enum-told-3
 enum-told-3 c = search needs
 
 returns : tie.Need-returns
-returns c = ap toldFound (c .before .enum-told3 .given .1) ∙ sym (lead (c .before .before .before) _ (c .before .enum-told3 .given .1) ∙ rw (eq-eqb _ _ (c .if1 .taken)))
+returns c =
+    ap toldFound (c .before .enum-told3 .given .1)
+    ∙ sym (lead (c .before .before .before) _ (c .before .enum-told3 .given .1) ∙ rw (eq-eqb _ _ (c .if1 .taken)))
 
 add-find-in-entries : tie.Need-add-find-in-entries
-add-find-in-entries c = omega (arith, whole (c .before .before .before .before .before) .room (c .if1 .left))
+add-find-in-entries c =
+    let top = c .before .before .before in
+    omega (arith, whole (sized top) .room (c .if1 .left))
 
 find-in-entries-requires : tie.Need-find-in-entries-requires
-find-in-entries-requires c κs = (c .before .before .before .before .before .before .before .pre .0 (c .if1 .left), whole (c .before .before .before .before .before) .onward (c .if1 .left))
+find-in-entries-requires c κs =
+    let top = c .before .before .before in
+    (start (sized top) .pre .0 (c .if1 .left), whole (sized top) .onward (c .if1 .left))
 
 returns-2 : tie.Need-returns-2
 returns-2 c = ap toldFound (c .enum-told .given .1) ∙ sym (lead (c .before .before) _ (c .enum-told .given .1))
@@ -67,24 +95,15 @@ returns-3 : tie.Need-returns-3
 returns-3 c = ap toldFound (c .enum-told2 .given .1) ∙ sym (lead (c .before .before) _ (c .enum-told2 .given .1))
 
 returns-4 : tie.Need-returns-4
-returns-4 c = sym (lead (c .before .before .before .before) _ (c .before .before .enum-told3 .given .1) ∙ rw (ne-eqb _ _ (c .before .if1 .left)) (sym (c .find-in-entries .ensures)))
+returns-4 c =
+    let nothing = c .before .before in
+    sym
+    (lead (nothing .before .before) _ (nothing .enum-told3 .given .1)
+    ∙ rw (ne-eqb _ _ (c .before .if1 .left)) (sym (c .find-in-entries .ensures)))
 
 pub find-from-top-spec : {M : Type 1} → statement M
 find-from-top-spec =
     tie.close
-    (tie.spec
-    length12-at-requires
-    add-end
-    add-end-2
-    slice-aggregate-find-in-top
-    add-find-in-top
-    find-in-top-requires
-    enum-told
-    enum-told-2
-    enum-told-3
-    returns
-    add-find-in-entries
-    find-in-entries-requires
-    returns-2
-    returns-3
+    (tie.spec length12-at-requires add-end add-end-2 slice-aggregate-find-in-top add-find-in-top find-in-top-requires
+    enum-told enum-told-2 enum-told-3 returns add-find-in-entries find-in-entries-requires returns-2 returns-3
     returns-4)

@@ -4,7 +4,7 @@ use lib.ListN.{drop}
 use Rattle.wire.specs.Trail.{answer}
 use Rattle.tables.specs.Tables.{rowOf, rowAt, FixedTwo}
 use Rattle.verdict.specs.Verdict.{Said, accepted, isAccepted, numberOf, placeOf}
-use Rattle.section.specs.Reading.{Reading, inside, read, judged}
+use Rattle.section.specs.Reading.{LoopsRead, inside, read, judged}
 use Rattle.search.specs.Search.{refusing, hitFrom, sought}
 use Rattle.tables.specs.declared.Row.{Row}
 use Rattle.tables.proofs.RowLaws.{fixed-two}
@@ -14,21 +14,32 @@ use borrow.Author.Needs.{needs}
 use Rattle.search.proofs.search.Statement.{statement}
 use Rattle.search.proofs.search.Tie as tie
 
--- the section is accepted
-ok : (c : tie.Then1) → judged (c .before .before .before .before .args .section .now) ≡ accepted
-ok c = sym (c .before .before .judge .ensures) ∙ is-accepted _ (sym (c .before .is-accepted .ensures) ∙ c .if1 .taken)
+-- The section is accepted.
+module _ (c : tie.Then1) where
+  abbrev judging : tie.After-judge
+  judging = c .before .before
 
--- and its loops are those of its row
-all-read : (c : tie.After-before-crc)
-    → let row : Row = c .before .row-at .result in
-    read (c .before .before .before .before .before .before .before .before .args .section .now)
-    ≡ inside row (row .before) (drop (row .before) (c .before-crc .result .now))
-all-read c =
-    let row-of = c .before .before .row-of in
-    let byte-at = c .before .before .before .byte-at in
-    read-inside _ _ _ (c .before .row-at .ensures ∙ ap rowAt (row-of .ensures ∙ ap rowOf (byte-at .ensures)))
-    (c .before-crc .ensures)
-    (ok (c .before .before .before .before))
+  abbrev start : tie.Start
+  start = judging .before .before
+
+  ok : judged (start .args .section .now) ≡ accepted
+  ok = sym (judging .judge .ensures) ∙ is-accepted _ (sym (c .before .is-accepted .ensures) ∙ c .if1 .taken)
+
+-- Its loops are those of its row.
+module _ (c : tie.After-before-crc) where
+  abbrev byte : tie.After-byte-at
+  byte = c .before .before .before
+
+  abbrev held : tie.Then1
+  held = byte .before
+
+  abbrev row : Row
+  row = c .before .row-at .result
+
+  all-read : read (start held .args .section .now) ≡ inside row (row .before) (drop (row .before) (c .before-crc .result .now))
+  all-read =
+      read-inside _ _ _ (c .before .row-at .ensures ∙ ap rowAt (c .before .before .row-of .ensures ∙ ap rowOf (byte .byte-at .ensures)))
+      (c .before-crc .ensures) (ok held)
 
 judge-requires : tie.Need-judge-requires
 judge-requires c κs = search needs
@@ -52,16 +63,16 @@ find-inside-requires : tie.Need-find-inside-requires
 unfolding judged
 find-inside-requires c κs = (
   subst (λ (r : Row). FixedTwo (r .fixed)) (sym (c .before .row-at .ensures)) (fixed-two _),
-  sym (ap answer (all-read c)) ∙ ok (c .before .before .before .before),
+  sym (ap answer (all-read c)) ∙ ok (held c),
 )
 
 returns : tie.Need-returns
 unfolding sought
 returns c =
-    let then = c .before .before .before .before .before in
-    let tag = then .before .before .before .before .args .tag in
-    rw (ap isAccepted (ok then))
-    (c .find-inside .ensures ∙ sym (ap (λ (x : Reading). hitFrom tag 0 (x .items)) (all-read (c .before))))
+    let loops = c .before in
+    let tag = start (held loops) .args .tag in
+    rw (ap isAccepted (ok (held loops)))
+    (c .find-inside .ensures ∙ sym (ap (λ (x : LoopsRead). hitFrom tag 0 (x .items)) (all-read loops)))
 
 returns-2 : tie.Need-returns-2
 unfolding sought
@@ -73,13 +84,5 @@ returns-2 c =
 pub search-spec : {M : Type 1} → statement M
 search-spec =
     tie.close
-    (tie.spec
-    judge-requires
-    is-accepted-requires
-    byte-at-requires
-    row-of-requires
-    row-at-requires
-    before-crc-requires
-    find-inside-requires
-    returns
-    returns-2)
+    (tie.spec judge-requires is-accepted-requires byte-at-requires row-of-requires row-at-requires before-crc-requires
+    find-inside-requires returns returns-2)

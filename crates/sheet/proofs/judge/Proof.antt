@@ -2,6 +2,7 @@
 use native.Mathlib.Omega.{arith}
 use mathlib.Core.Path.{sym, subst}
 use Prim.Native.Nat.{_≤_}
+use Rattle.forms.specs.Fields.{sheetField}
 use Rattle.sheet.proofs.JudgeLaws.{judged-empty, judged-unknown}
 use borrow.Author.Needs.{needs}
 use Rattle.sheet.proofs.judge.Statement.{statement}
@@ -17,10 +18,20 @@ row-of-requires : tie.Need-row-of-requires
 row-of-requires c κs = search needs
 
 returns-2 : tie.Need-returns-2
-returns-2 c = sym (judged-unknown (c .before .before .before .before .before .args .sheet .now) (omega (arith, c .before .before .before .if1)) (subst (λ n. 6 ≤ n) (c .before .row-of .ensures) (c .if2 .taken)))
+returns-2 c =
+    let test = c .before .before .before in
+    sym (judged-unknown sheetField (test .before .before .args .sheet .now)
+    (omega (arith, test .if1)) (subst (λ n. 6 ≤ n) (c .before .row-of .ensures) (c .if2 .taken)))
 
 judge-known-requires : tie.Need-judge-known-requires
-judge-known-requires c κs = record { there = omega (arith, c .before .before .before .if1); has = sym (c .before .row-of .ensures); known = omega (arith, c .if2); bytes = λ i. omega (arith, c .before .before .before .before .shared-slice-known .given i) }
+judge-known-requires c κs =
+    let test = c .before .before .before in
+    record {
+      there = omega (arith, test .if1);
+      has = sym (c .before .row-of .ensures);
+      known = omega (arith, c .if2);
+      bytes = λ i. omega (arith, test .before .shared-slice-known .given i);
+    }
 
 returns-3 : tie.Need-returns-3
 returns-3 c = c .judge-known .ensures

@@ -18,7 +18,14 @@ enum-known-end : tie.Need-enum-known-end
 enum-known-end c = search needs
 
 returns : tie.Need-returns
-returns c = sym (judged-after (c .before .before .before .before .before .before .before .args .row) (c .before .before .before .before .before .before .before .args .sheet .now) (c .before .before .before .before .before .before .before .pre) (seen (c .before .before .end .given .1) (c .before .before .before .before .behind-id .ensures) (c .before .before .before .before .before .before .before .pre .there)) (c .if1 .taken))
+returns c =
+    let matched = c .before .before in
+    let read = matched .before .before in
+    let start = read .before .before .before in
+    let args = start .args in
+    let pre = start .pre in
+    sym (judged-after (args .row) (args .sheet .now) pre
+    (seen (matched .end .given .1) (read .behind-id .ensures) (pre .there)) (c .if1 .taken))
 
 section-length-requires : tie.Need-section-length-requires
 section-length-requires c κs = search needs
@@ -33,13 +40,35 @@ enum-told-2 : tie.Need-enum-told-2
 enum-told-2 c = search needs
 
 returns-2 : tie.Need-returns-2
-returns-2 c = c .judge-length .ensures ∙ ap₂ judgedLength (ap (λ r. r .most) (c .before .before .before .before .before .before .before .row-at .ensures)) (c .before .section-length .ensures) ∙ sym (judged-whole (c .before .before .before .before .before .before .before .before .before .args .row) (c .before .before .before .before .before .before .before .before .before .args .sheet .now) (c .before .before .before .before .before .before .before .before .before .pre) (seen (c .before .before .before .before .end .given .1) (c .before .before .before .before .before .before .behind-id .ensures) (c .before .before .before .before .before .before .before .before .before .pre .there)) (omega (arith, c .before .before .if1)))
+returns-2 c =
+    let test = c .before .before in
+    let matched = test .before .before in
+    let read = matched .before .before in
+    let start = read .before .before .before in
+    let args = start .args in
+    let pre = start .pre in
+    c .judge-length .ensures
+    ∙ ap₂ judgedLength (ap (λ r. r .most) (read .before .row-at .ensures)) (c .before .section-length .ensures)
+    ∙ sym (judged-whole (args .row) (args .sheet .now) pre (seen (matched .end .given .1) (read .behind-id .ensures) (pre .there))
+    (omega (arith, test .if1)))
 
 returns-3 : tie.Need-returns-3
-returns-3 c = sym (judged-refused (c .before .before .before .before .before .args .row) (c .before .before .before .before .before .args .sheet .now) 22 (c .before .before .before .before .before .pre) (seen (c .enum-told .given .1) (c .before .before .behind-id .ensures) (c .before .before .before .before .before .pre .there)))
+returns-3 c =
+    let read = c .before .before in
+    let start = read .before .before .before in
+    let args = start .args in
+    let pre = start .pre in
+    sym (judged-refused (args .row) (args .sheet .now) 22 pre
+    (seen (c .enum-told .given .1) (read .behind-id .ensures) (pre .there)))
 
 returns-4 : tie.Need-returns-4
-returns-4 c = sym (judged-refused (c .before .before .before .before .before .args .row) (c .before .before .before .before .before .args .sheet .now) 24 (c .before .before .before .before .before .pre) (seen (c .enum-told2 .given .1) (c .before .before .behind-id .ensures) (c .before .before .before .before .before .pre .there)))
+returns-4 c =
+    let read = c .before .before in
+    let start = read .before .before .before in
+    let args = start .args in
+    let pre = start .pre in
+    sym (judged-refused (args .row) (args .sheet .now) 24 pre
+    (seen (c .enum-told2 .given .1) (read .behind-id .ensures) (pre .there)))
 
 pub judge-known-spec : {M : Type 1} → statement M
 judge-known-spec =

@@ -34,12 +34,5 @@ returns-2 c = rw (sym (c .before .before .within .ensures) ∙ c .before .if1 .l
 pub held-by-spec : {M : Type 1} → statement M
 held-by-spec =
     tie.close
-    (tie.spec
-    array-read-within
-    array-read-within-2
-    within-requires
-    returns
-    array-read-within-3
-    array-read-within-4
-    within-requires-2
-    returns-2)
+    (tie.spec array-read-within array-read-within-2 within-requires returns array-read-within-3 array-read-within-4
+    within-requires-2 returns-2)

@@ -45,15 +45,5 @@ returns-2 c = refl
 pub row-at-spec : {M : Type 1} → statement M
 row-at-spec =
     tie.close
-    (tie.spec
-    returns
-    mul-row
-    array-copy-out-row
-    array-read-t11
-    array-read-t19
-    array-read-t22
-    array-read-t25
-    array-read-t28
-    array-read-t31
-    array-read-t34
-    returns-2)
+    (tie.spec returns mul-row array-copy-out-row array-read-t11 array-read-t19 array-read-t22 array-read-t25
+    array-read-t28 array-read-t31 array-read-t34 returns-2)

@@ -31,8 +31,9 @@ held-by-requires c κs = search needs
 
 returns : tie.Need-returns Inv-loop μ-loop
 returns c =
-    let l = c .before .before .before .before .loop in
-    sym (l .inv .1 ∙ first-here 6 (l .i) _ (omega arith) (sym (c .before .held-by .ensures) ∙ c .if1 .taken))
+    let test = c .before in
+    let l = test .before .before .before .loop in
+    sym (l .inv .1 ∙ first-here 6 (l .i) _ (omega arith) (sym (test .held-by .ensures) ∙ c .if1 .taken))
 
 add-i : tie.Need-add-i Inv-loop μ-loop
 add-i c = omega arith
@@ -42,8 +43,9 @@ loop-less c = omega arith
 
 loop-again : tie.Need-loop-again Inv-loop μ-loop
 loop-again c =
-    let l = c .before .before .before .before .loop in
-    (omega arith, l .inv .1 ∙ first-on 6 (l .i) _ (omega arith) (sym (c .before .held-by .ensures) ∙ c .if1 .left))
+    let test = c .before in
+    let l = test .before .before .before .loop in
+    (omega arith, l .inv .1 ∙ first-on 6 (l .i) _ (omega arith) (sym (test .held-by .ensures) ∙ c .if1 .left))
 
 returns-2 : tie.Need-returns-2 Inv-loop μ-loop
 returns-2 c = sym (c .before .loop .inv .1 ∙ first-none 6 (c .before .loop .i) _ (omega arith))
@@ -51,4 +53,5 @@ returns-2 c = sym (c .before .loop .inv .1 ∙ first-none 6 (c .before .loop .i)
 pub row-of-spec : {M : Type 1} → statement M
 row-of-spec =
     tie.close
-    (tie.spec Inv-loop μ-loop loop-holds mul-held-by array-copy-out-held-by held-by-requires returns add-i loop-less loop-again returns-2)
+    (tie.spec Inv-loop μ-loop loop-holds mul-held-by array-copy-out-held-by held-by-requires returns add-i loop-less
+    loop-again returns-2)

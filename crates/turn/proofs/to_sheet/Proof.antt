@@ -1,6 +1,5 @@
 -- `turn::to_sheet` meets its contract.
-use mathlib.Core.Path.{_≡_, refl, sym, ap, _∙_}
-use native.Mathlib.Omega.{arith}
+use mathlib.Core.Path.{sym, ap, _∙_}
 use lib.ListN.{length}
 use Rattle.verdict.specs.Verdict.{isAccepted}
 use Rattle.turn.specs.Turn.{wrote, answer, roomAfter}
@@ -12,38 +11,31 @@ use Rattle.turn.proofs.to_sheet.Tie as tie
 
 returns : tie.Need-returns
 returns c =
-    let o = c .before .before .before .args .room .now in
-    let f = sheet-no-room (length o) (c .before .before .before .args .section .now) (c .if1 .taken) in
+    let start = c .before .before .before in
+    let o = start .args .room .now in
+    let f = sheet-no-room (length o) (start .args .section .now) (c .if1 .taken) in
     (ap answer (sym f), ap (roomAfter o) (sym f))
-
-judge-requires : tie.Need-judge-requires
-judge-requires c κs = search needs
-
-is-accepted-requires : tie.Need-is-accepted-requires
-is-accepted-requires c κs = search needs
-
-write-accepted-requires : tie.Need-write-accepted-requires
-write-accepted-requires c κs = search needs
-
-same-length : tie.Need-same-length
-same-length c = search needs
 
 returns-2 : tie.Need-returns-2
 returns-2 c =
-    let o = c .before .before .before .before .before .before .before .before .before .before .args .room .now in
-    let a = sym (c .before .before .before .before .before .before .judge .ensures) ∙ accepted-is _ (sym (c .before .before .before .before .before .is-accepted .ensures) ∙ c .if2 .taken) in
-    let m = sheet-made (length o) (c .before .before .before .before .before .before .before .before .before .before .args .section .now) (λ k. c .before .before .before .before .before .before .before .before .before .shared-slice-known .given k .fits) (c .before .before .before .before .before .before .before .if1 .left) a in
-    let x = c .before .before .before .write-accepted .ensures .written (c .if2 .taken) .written (m .content) a (m .reads) (m .row) (c .before .before .before .before .before .before .before .if1 .left) in
+    let made = c .before .before .before in let verdict = made .before .before in
+    let large = verdict .before .before in let known = large .before .before in let start = known .before in
+    let o = start .args .room .now in
+    let a = sym (verdict .before .judge .ensures) ∙ accepted-is _ (sym (verdict .is-accepted .ensures) ∙ c .if2 .taken) in
+    let m = sheet-made (length o) (start .args .section .now) (λ k. known .shared-slice-known .given k .fits) (large .if1 .left) a in
+    let x = made .write-accepted .ensures .written (c .if2 .taken) .written (m .content) a (m .reads) (m .row) (large .if1 .left) in
     (ap wrote (x .1) ∙ ap answer (sym (m .gives)), x .0 ∙ ap (roomAfter o) (sym (m .gives)))
-
-same-length-2 : tie.Need-same-length-2
-same-length-2 c = search needs
 
 returns-3 : tie.Need-returns-3
 returns-3 c =
-    let o = c .before .before .before .before .before .before .before .before .before .before .args .room .now in
-    let x = sheet-refused (length o) (c .before .before .before .before .before .before .before .before .before .before .args .section .now) o (c .before .before .before .before .before .before .before .if1 .left) (ap isAccepted (sym (c .before .before .before .before .before .before .judge .ensures)) ∙ sym (c .before .before .before .before .before .is-accepted .ensures) ∙ c .if2 .left) in
-    (ap toldRefusal (c .before .before .before .before .before .before .judge .ensures) ∙ x .0, c .before .before .before .write-accepted .ensures .kept (c .if2 .left) ∙ x .1)
+    let made = c .before .before .before in let verdict = made .before .before in let judged = verdict .before in
+    let large = judged .before in let start = large .before .before .before in
+    let o = start .args .room .now in
+    let x = sheet-refused (length o) (start .args .section .now) o (large .if1 .left)
+    (ap isAccepted (sym (judged .judge .ensures)) ∙ sym (verdict .is-accepted .ensures) ∙ c .if2 .left) in
+    (ap toldRefusal (judged .judge .ensures) ∙ x .0, made .write-accepted .ensures .kept (c .if2 .left) ∙ x .1)
 
 pub to-sheet-spec : {M : Type 1} → statement M
-to-sheet-spec = tie.close (tie.spec returns judge-requires is-accepted-requires write-accepted-requires same-length returns-2 same-length-2 returns-3)
+to-sheet-spec =
+    tie.close (tie.spec returns (λ c κs. search needs) (λ c κs. search needs) (λ c κs. search needs)
+    (λ c. search needs) returns-2 (λ c. search needs) returns-3)

@@ -1,20 +1,22 @@
 -- The two ways of a turn. On the way to a section (true) sheets are read and sections are written; on the way to a sheet (false) the reverse.
-use Prim.Native.Nat.{ℕ, _+_, _*_, _/_, _%_, _≤_, _<_}
+use Prim.Native.Nat.{ℕ, _+_, _-_, _/_, _%_, _≤_, _<_}
 use mathlib.Core.Path.{_≡_}
 use mathlib.Core.List.{List, [], _∷_}
 use mathlib.Core.Bool.{Bool, true, false, not}
-use lib.ListN.{length, getD}
+use lib.ListN.{length}
 use Rattle.wire.specs.If.{if_then_else_}
+use Rattle.wire.specs.Bytes.{len12At}
 use Rattle.wire.specs.Parts.{Part}
 use Rattle.tables.specs.Tables.{TDT, rowAt}
 use Rattle.forms.specs.Form.{Form, mute, _then_, each}
 use Rattle.forms.specs.Fields.{Field, sheetFields, Fit}
 use Rattle.forms.specs.Lists.{all, All, countedShow, loopShow}
 use Rattle.forms.specs.Room.{put, sum}
-use Rattle.forms.specs.Inner.Turning.{Done}
-use Rattle.sheet.specs.Content.{Item, version, flags, bare, status, entryOf, sideOf, Fields, Descriptor, Loop, Entry}
+use Rattle.forms.specs.Inner.Turning.{Done, Turned}
+use Rattle.sheet.specs.Content.{Item, packed, bare, entryOf, sideOf, Fields, Descriptor, Loop, Entry}
 use Rattle.sheet.specs.Sheet.{descriptor, sheetItem, sheetLoop, sheetEntry}
 use Rattle.sheet.specs.Section.{sectionItem, sectionLoop, sectionEntry}
+use Rattle.turn.specs.Inner.Fields.{Shape}
 use Rattle.forms.specs.declared.Place.{Place}
 
 -- a form for values of which more is known
@@ -55,20 +57,6 @@ loopTo b = loopFrom (not b)
 abbrev pub entryTo : Bool → ℕ → Form Entry
 entryTo b = entryFrom (not b)
 
--- one of the two bytes with reserved bits, a value and a flag
-abbrev pub special : Bool → Item
-special true = version
-special false = flags
-
--- one number more than that value can be
-abbrev pub spanOf : Bool → ℕ
-spanOf v = if v then 32 else 2
-
--- the fields before a loop's length
-abbrev pub sideIf : Bool → List Field
-sideIf true = status
-sideIf false = bare
-
 -- k is the number of items that fill the bytes l, where such items do
 abbrev pub NumberIn : {A : Type 0} → Form A → List ℕ → ℕ → Type 0
 NumberIn {A} c l k = (m : List A) → All c m → all c m ≡ l → k ≡ length m
@@ -82,33 +70,43 @@ pub record EntrySizes (fixed row : ℕ) : Type 0 where
   pub has : fixed ≡ rowAt row .fixed
   pub known : row < TDT
 
--- ---- the fields before a loop's length
+-- a byte of fields is turned, by their span
+pub record ByteTurned (forth : Bool) (span : ℕ) (s : List ℕ) (p : Place) (o : List ℕ) (q : Place) (o' : List ℕ) : Type 0 where
+  pub turned : {fs : List Field} → Shape fs span 256
+      → Turned (itemFrom forth (packed fs)) (itemTo forth (packed fs)) s p o q o'
 
--- as the high bits of the first of its two bytes
-abbrev pub sideAt : Bool → List ℕ → ℕ → ℕ
-sideAt true s at = (getD s at 0 % 8 * 2 + getD s (sum at 1) 0 % 2) * 16
-sideAt false s at = 240
-
--- the bytes that they are in a sheet
-abbrev pub sideSize : Bool → ℕ
-sideSize true = 2
-sideSize false = 0
-
--- written into a sheet, from the first of the two bytes
-abbrev pub sideBack : Bool → ℕ → List ℕ → ℕ → List ℕ
-sideBack true x o to = put (put o to (x / 32 ∷ [])) (sum to 1) (x / 16 % 2 ∷ [])
-sideBack false x o to = o
+-- ---- loops of descriptors
 
 -- a number of two bytes, written
 abbrev pub putNumber : List ℕ → ℕ → ℕ → List ℕ
 putNumber o to n = put (put o to (n / 256 % 256 ∷ [])) (sum to 1) (n % 256 ∷ [])
 
+-- a number of two bytes and n bytes that stand at p's first place are put at its second
+pub record Numbered (number n : ℕ) (s : List ℕ) (p : Place) (o : List ℕ) (q : Place) (o' : List ℕ) : Type 0 where
+  pub turned : (l : List ℕ) → length l ≡ n → number < 65536 → Part s (p .at) l → p .to + (2 + n) ≤ length o
+      → Done p l (number / 256 ∷ number % 256 ∷ l) o q o'
+
+-- a loop is turned, by the span of the fields beside its length
+pub record LoopTurned (forth : Bool) (span : ℕ) (s : List ℕ) (p : Place) (o : List ℕ) (q : Place) (o' : List ℕ) : Type 0 where
+  pub turned : {fs : List Field} → Shape fs span 16 → Turned (loopFrom forth fs) (loopTo forth fs) s p o q o'
+
 -- ---- top loop and entries
 
 -- the top loop that is read, where the table has one
 abbrev pub topIf : Bool → Bool → Form Loop
-topIf b true = loopFrom b bare
-topIf b false = mute ([], [])
+topIf b top = if top then loopFrom b bare else mute ([], [])
+
+-- the place behind the entries' own length, where they have one
+abbrev pub behindOwn : Bool → ℕ → ℕ
+behindOwn top at = if top then sum at 2 else at
+
+-- the bytes of a section's entries: by that length, or up to `end`
+abbrev pub ownSize : Bool → List ℕ → ℕ → ℕ → ℕ
+ownSize top s at end = if top then len12At s at else end - at
+
+-- that length put, where the entries go up to `end`
+abbrev pub ownPut : Bool → List ℕ → ℕ → ℕ → List ℕ
+ownPut top o to end = if top then putNumber o to (sum 0xF000 (end - sum to 2)) else o
 
 -- entries in a section: after a length of their own, or up to the CRC_32
 abbrev pub entriesShown : Bool → ℕ → List ℕ → List Entry → List ℕ

@@ -32,10 +32,4 @@ returns-2 c = past (c .before .before .args .s .now) (c .before .before .args .i
 pub length12-at-spec : {M : Type 1} → statement M
 length12-at-spec =
     tie.close
-    (tie.spec
-    shared-slice-read-length12
-    add-byte-at
-    byte-at-requires
-    length12-requires
-    returns
-    returns-2)
+    (tie.spec shared-slice-read-length12 add-byte-at byte-at-requires length12-requires returns returns-2)

@@ -10,8 +10,8 @@ record-in-requires c κs = search needs
 step-requires : tie.Need-step-requires
 step-requires c κs = search needs
 
-record-says-requires : tie.Need-record-says-requires
-record-says-requires c κs = search needs
+record-after-requires : tie.Need-record-after-requires
+record-after-requires c κs = search needs
 
 answer-says-requires : tie.Need-answer-says-requires
 answer-says-requires c κs = search needs
@@ -25,7 +25,7 @@ same-length-2 c = search needs
 returns : tie.Need-returns
 returns c =
     let a = c .before .before .before .before .before .before .before .before .before .before .before .before .before .before .args in
-    rw (c .before .record-says .ensures, c .answer-says .ensures) (collecting-is (a .rec) (a .hold .now) (a .out .now) (a .packet .now) (c .before .before .before .before .before .before .before .before .before .before .record-in .ensures) (c .before .before .before .before .before .before .before .step .ensures))
+    rw (c .before .record-after .ensures, c .answer-says .ensures) (collecting-is (a .rec) (a .hold .now) (a .out .now) (a .packet .now) (c .before .before .before .before .before .before .before .before .before .before .record-in .ensures) (c .before .before .before .before .before .before .before .step .ensures))
 
 pub step-spec : {M : Type 1} → statement M
 step-spec =
@@ -33,7 +33,7 @@ step-spec =
     (tie.spec
     record-in-requires
     step-requires
-    record-says-requires
+    record-after-requires
     answer-says-requires
     same-length
     same-length-2

@@ -33,59 +33,58 @@ enum-known-s-2 c = search needs
 
 returns : tie.Need-returns
 unfolding hms
-returns c = rw (← c .before .before .before .before .before .two-digits .ensures, c .before .h .given .1)
+returns c =
+    let after-two-digits3 = c .before .before .before in
+    let two-digits = after-two-digits3 .before .before .two-digits in
+    rw (← two-digits .ensures, c .before .h .given .1)
 
 returns-2 : tie.Need-returns-2
 unfolding hms
 returns-2 c =
-    let h = c .before .before .before .before in
-    let calls = h .before .before in
-    rw (← calls .before .before .two-digits .ensures, h .h2 .given .1, ← calls .before .two-digits2 .ensures, c .before .m .given .1)
+    let after-m = c .before in
+    let h = after-m .before .before .before in
+    let after-two-digits2 = h .before .before .before in
+    let two-digits = after-two-digits2 .before .two-digits in
+    rw (← two-digits .ensures, h .h2 .given .1, ← after-two-digits2 .two-digits2 .ensures, after-m .m .given .1)
 
 returns-3 : tie.Need-returns-3
 unfolding hms
 returns-3 c =
-    let m = c .before .before .before .before in
+    let after-s = c .before in
+    let m = after-s .before .before .before in
     let h = m .before .before .before in
     let calls = h .before .before in
+    let two-digits2 = calls .before .two-digits2 in
+    let two-digits = calls .before .before .two-digits in
     rw (
-      ← calls .before .before .two-digits .ensures,
+      ← two-digits .ensures,
       h .h2 .given .1,
-      ← calls .before .two-digits2 .ensures,
+      ← two-digits2 .ensures,
       m .m2 .given .1,
       ← calls .two-digits3 .ensures,
-      c .before .s .given .1,
+      after-s .s .given .1,
     )
 
 returns-4 : tie.Need-returns-4
 unfolding hms
 returns-4 c =
-    let m = c .before .before .before .before in
+    let after-s2 = c .before in
+    let m = after-s2 .before .before .before in
     let h = m .before .before .before in
     let calls = h .before .before in
+    let two-digits2 = calls .before .two-digits2 in
+    let two-digits = calls .before .before .two-digits in
     rw (
-      ← calls .before .before .two-digits .ensures,
+      ← two-digits .ensures,
       h .h2 .given .1,
-      ← calls .before .two-digits2 .ensures,
+      ← two-digits2 .ensures,
       m .m2 .given .1,
       ← calls .two-digits3 .ensures,
-      c .before .s2 .given .1,
+      after-s2 .s2 .given .1,
     )
 
 pub six-digits-spec : {M : Type 1} → statement M
 six-digits-spec =
     tie.close
-    (tie.spec
-    two-digits-requires
-    two-digits-requires-2
-    two-digits-requires-3
-    enum-known-h
-    enum-known-h-2
-    enum-known-m
-    enum-known-m-2
-    enum-known-s
-    enum-known-s-2
-    returns
-    returns-2
-    returns-3
-    returns-4)
+    (tie.spec two-digits-requires two-digits-requires-2 two-digits-requires-3 enum-known-h enum-known-h-2 enum-known-m
+    enum-known-m-2 enum-known-s enum-known-s-2 returns returns-2 returns-3 returns-4)

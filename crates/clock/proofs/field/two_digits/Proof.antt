@@ -23,11 +23,17 @@ returns c = rw (← c .before .before .bcd .ensures, c .enum-told .given .1)
 
 returns-2 : tie.Need-returns-2
 unfolding field
-returns-2 c = rw (← c .before .before .before .before .bcd .ensures, c .before .before .n .given .1, lt-ltb _ _ (c .if1 .taken))
+returns-2 c =
+    let after-n = c .before .before in
+    let bcd = after-n .before .before .bcd in
+    rw (← bcd .ensures, after-n .n .given .1, lt-ltb _ _ (c .if1 .taken))
 
 returns-3 : tie.Need-returns-3
 unfolding field
-returns-3 c = rw (← c .before .before .before .before .bcd .ensures, c .before .before .n .given .1, le-ltb _ _ (c .if1 .left))
+returns-3 c =
+    let after-n = c .before .before in
+    let bcd = after-n .before .before .bcd in
+    rw (← bcd .ensures, after-n .n .given .1, le-ltb _ _ (c .if1 .left))
 
 pub two-digits-spec : {M : Type 1} → statement M
 two-digits-spec =

@@ -43,14 +43,19 @@ signed-minutes-requires c κs = search needs
 
 returns : tie.Need-returns
 unfolding offsetOf
-returns c = rw (← c .before .before .before .before .two-digits .ensures, c .before .h .given .1)
+returns c =
+    let after-h = c .before in
+    let two-digits = after-h .before .before .before .two-digits in
+    rw (← two-digits .ensures, after-h .h .given .1)
 
 returns-2 : tie.Need-returns-2
 unfolding offsetOf
 returns-2 c =
-    let h = c .before .before .before .before in
+    let after-m = c .before in
+    let h = after-m .before .before .before in
     let calls = h .before .before in
-    rw (← calls .before .two-digits .ensures, h .h2 .given .1, ← calls .two-digits2 .ensures, c .before .m .given .1)
+    let two-digits = calls .before .two-digits in
+    rw (← two-digits .ensures, h .h2 .given .1, ← calls .two-digits2 .ensures, after-m .m .given .1)
 
 returns-3 : tie.Need-returns-3
 unfolding offsetOf
@@ -58,24 +63,13 @@ returns-3 c =
     let m = c .before .before in
     let h = m .before .before .before in
     let calls = h .before .before in
-    rw (← calls .before .two-digits .ensures, h .h2 .given .1, ← calls .two-digits2 .ensures, m .m2 .given .1)
+    let two-digits = calls .before .two-digits in
+    rw (← two-digits .ensures, h .h2 .given .1, ← calls .two-digits2 .ensures, m .m2 .given .1)
     (ap value (toZ-ofZ (sfits-of {w = w16} (c .signed-minutes .ok)) ∙ c .signed-minutes .ensures))
 
 pub read-spec : {M : Type 1} → statement M
 read-spec =
     tie.close
-    (tie.spec
-    two-digits-requires
-    two-digits-requires-2
-    enum-known-h
-    enum-known-h-2
-    enum-known-m
-    enum-known-m-2
-    cast-signed-minutes
-    mul-signed-minutes
-    cast-signed-minutes-2
-    add-signed-minutes
-    signed-minutes-requires
-    returns
-    returns-2
-    returns-3)
+    (tie.spec two-digits-requires two-digits-requires-2 enum-known-h enum-known-h-2 enum-known-m enum-known-m-2
+    cast-signed-minutes mul-signed-minutes cast-signed-minutes-2 add-signed-minutes signed-minutes-requires returns
+    returns-2 returns-3)

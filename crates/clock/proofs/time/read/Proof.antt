@@ -44,28 +44,20 @@ returns-3 : tie.Need-returns-3
 unfolding timeOf
 returns-3 c =
     let call = c .before .before .before in
-    rw (ne-eqb _ _ (call .before .before .if1 .left), le-ltb _ _ (call .before .if2 .left), ← call .six-digits .ensures, c .before .f .given .1)
+    let if2 = call .before .if2 in
+    let if1 = call .before .before .if1 in
+    rw (ne-eqb _ _ (if1 .left), le-ltb _ _ (if2 .left), ← call .six-digits .ensures, c .before .f .given .1)
 
 returns-4 : tie.Need-returns-4
 unfolding timeOf
 returns-4 c =
     let call = c .before .before .before in
-    rw (ne-eqb _ _ (call .before .before .if1 .left), le-ltb _ _ (call .before .if2 .left), ← call .six-digits .ensures, c .before .clock .given .1)
+    let if2 = call .before .if2 in
+    let if1 = call .before .before .if1 in
+    rw (ne-eqb _ _ (if1 .left), le-ltb _ _ (if2 .left), ← call .six-digits .ensures, c .before .clock .given .1)
 
 pub read-spec : {M : Type 1} → statement M
 read-spec =
     tie.close
-    (tie.spec
-    mul-if1
-    add-if1
-    mul-if1-2
-    add-if1-2
-    mul-if1-3
-    add-if1-3
-    returns
-    returns-2
-    six-digits-requires
-    enum-known-f
-    enum-known-clock
-    returns-3
-    returns-4)
+    (tie.spec mul-if1 add-if1 mul-if1-2 add-if1-2 mul-if1-3 add-if1-3 returns returns-2 six-digits-requires enum-known-f
+    enum-known-clock returns-3 returns-4)

@@ -8,7 +8,7 @@ use borrow.Author.Needs.{needs}
 use lib.ListN.{length, take, drop, length-append, length-take, length-drop}
 use lib.Seq.{length-take-le}
 use Rattle.collector.specs.declared.payload.Front.{Front}
-use Rattle.collector.proofs.Payloads.{kept-gone, kept-back, gone-bytes, small-of, front-in, carry-start, carry-on}
+use Rattle.collector.proofs.PayloadLaws.{kept-gone, kept-back, gone-bytes, small-of, front-in, carry-start, carry-on}
 use Rattle.collector.proofs.payload.carry.Statement.{statement}
 use Rattle.collector.proofs.payload.carry.Tie as tie
 

@@ -2,7 +2,7 @@
 use mathlib.Core.Path.{sym}
 use native.Mathlib.Omega.{arith}
 use borrow.Author.Needs.{needs}
-use Rattle.collector.proofs.Seam.{seam-left, seam-right}
+use Rattle.collector.proofs.HoldThenPacket.{seam-left, seam-right}
 use Rattle.collector.proofs.stretch.byte_of.Statement.{statement}
 use Rattle.collector.proofs.stretch.byte_of.Tie as tie
 

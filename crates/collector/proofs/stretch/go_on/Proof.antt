@@ -2,7 +2,7 @@
 use Prim.Native.Nat.{ℕ, _+_, _≤_, _<_}
 use native.Mathlib.Omega.{arith}
 use borrow.Author.Needs.{needs}
-use Rattle.collector.proofs.Goes.{Given, end-none, going-in, end-kept, end-dropped, end-over, whole-in, end-whole}
+use Rattle.collector.proofs.StretchInHand.{Given, end-none, going-in, end-kept, end-dropped, end-over, whole-in, end-whole}
 use Rattle.collector.proofs.stretch.go_on.Statement.{statement}
 use Rattle.collector.proofs.stretch.go_on.Tie as tie
 

@@ -5,8 +5,8 @@ use Prim.Native.Nat.{ℕ, _+_, _*_, _%_}
 use lib.ListN.{length, getD}
 use native.Mathlib.Omega.{arith}
 use borrow.Author.Needs.{needs}
-use Rattle.collector.specs.Rules.{totalOf}
-use Rattle.collector.proofs.Seam.{seam, seam-length}
+use Rattle.wire.specs.Sections.{totalOf}
+use Rattle.collector.proofs.HoldThenPacket.{seam, seam-length}
 use Rattle.collector.proofs.stretch.looked.Statement.{statement}
 use Rattle.collector.proofs.stretch.looked.Tie as tie
 

@@ -3,7 +3,7 @@ use Prim.Native.Nat.{ℕ, _-_, _≤_}
 use native.Mathlib.Omega.{arith}
 use borrow.Author.Needs.{needs}
 use lib.ListN.{length}
-use Rattle.collector.proofs.Turns.{Turn, none-yet, end-all, end-filler, end-going, end-over, whole-in, again}
+use Rattle.collector.proofs.SectionLoop.{Turn, none-yet, end-all, end-filler, end-going, end-over, whole-in, again}
 use Rattle.collector.proofs.stretch.sections.Statement.{statement}
 use Rattle.collector.proofs.stretch.sections.Tie as tie
 

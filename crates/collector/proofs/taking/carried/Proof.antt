@@ -4,21 +4,21 @@ use mathlib.Core.Bool.{Bool}
 use borrow.Author.Needs.{needs}
 use lib.ListN.{take, drop}
 use Rattle.wire.specs.If.{if_then_else_}
-use Rattle.collector.specs.Rules.{holding, joined, plain, payload}
-use Rattle.collector.specs.Refusals.{repeated, takes, carriedIn}
+use Rattle.collector.specs.Rules.{holding, joined, plain, payload, delivers}
+use Rattle.packet.specs.Ruling.{repeated, takes, loadOf}
 use Rattle.collector.specs.Answer.{Outcome}
-use Rattle.collector.specs.Collected.{takenTo, outcomeOf}
+use Rattle.collector.specs.Collected.{outcomeAfter, outcomeOf}
 use Rattle.collector.proofs.taking.carried.Statement.{statement}
 use Rattle.collector.proofs.taking.carried.Tie as tie
 
 module _ (s : tie.Start) where
   -- the outcome, as the counter repeats the last one or not
   abbrev ruled : Bool → Outcome
-  ruled again = outcomeOf (s .args .rec) (s .args .hold .now) (s .args .out .now) (if again then repeated else takes (carriedIn (s .args .packet .now) (s .args .from) (s .args .start) (s .args .counter)))
+  ruled again = outcomeOf (s .args .rec) (s .args .hold .now) (s .args .out .now) (if again then repeated else takes (loadOf (s .args .packet .now) (s .args .from) (s .args .start) (s .args .counter)))
 
   -- and as it follows the last one or not
   abbrev outcome : Bool → Outcome
-  outcome next = takenTo (s .args .rec) (s .args .hold .now) (s .args .out .now) (s .args .counter) (payload plain (s .args .start) (joined next (holding (take (s .args .rec .in_hand) (s .args .hold .now)))) (drop (s .args .from) (s .args .packet .now)))
+  outcome next = outcomeAfter (s .args .rec) (s .args .hold .now) (s .args .out .now) (s .args .counter) (payload delivers plain (s .args .start) (joined next (holding (take (s .args .rec .in_hand) (s .args .hold .now)))) (drop (s .args .from) (s .args .packet .now)))
 
 is-repeat-requires : tie.Need-is-repeat-requires
 is-repeat-requires c κs = search needs

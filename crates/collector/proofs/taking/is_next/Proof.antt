@@ -3,7 +3,7 @@ use mathlib.Core.Path.{sym, ap, _∙_}
 use Prim.Native.Nat.{ℕ, _+_, _%_}
 use lib.Dec.{eqb}
 use borrow.Author.Needs.{needs}
-use Rattle.collector.specs.Rules.{follows}
+use Rattle.packet.specs.Ruling.{follows}
 use Rattle.collector.specs.Refusals.{lastBefore}
 use Rattle.collector.specs.declared.Last.{Last}
 use Rattle.collector.proofs.taking.is_next.Statement.{statement}

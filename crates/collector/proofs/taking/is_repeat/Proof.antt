@@ -1,7 +1,8 @@
 -- `collector::taking::is_repeat` meets its contract.
 use mathlib.Core.Path.{sym, ap}
 use borrow.Author.Needs.{needs}
-use Rattle.collector.specs.Refusals.{lastBefore, repeats}
+use Rattle.packet.specs.Ruling.{repeats}
+use Rattle.collector.specs.Refusals.{lastBefore}
 use Rattle.collector.specs.declared.Last.{Last}
 use Rattle.collector.proofs.taking.is_repeat.Statement.{statement}
 use Rattle.collector.proofs.taking.is_repeat.Tie as tie

@@ -19,8 +19,4 @@ returns c = refl
 pub across-spec : {M : Type 1} → statement M
 across-spec =
     tie.close
-    (tie.spec
-    shl-result
-    sub-result
-    shr-result
-    returns)
+    (tie.spec shl-result sub-result shr-result returns)

@@ -15,8 +15,10 @@ across-requires-3 c κs = omega arith
 
 returns : tie.Need-returns
 returns c =
-    let k = c .before .before .before .args in
-    cc (in-pairs (k .m) (k .p) (k .q) (k .r) (k .t))
+    let first = c .before .before in
+    let args = first .before .args in
+    rw (first .across .ensures, c .before .across2 .ensures, c .across3 .ensures)
+    (in-pairs (args .m) (args .p) (args .q) (args .r) (args .t))
 
 pub added-spec : {M : Type 1} → statement M
 added-spec = tie.close (tie.spec across-requires across-requires-2 across-requires-3 returns)

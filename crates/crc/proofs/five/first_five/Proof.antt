@@ -28,20 +28,14 @@ add-t9 c = omega arith
 returns : tie.Need-returns
 returns c =
     let d = c .before in
+    let long = d .before .long in
     let v = d .before .before .first-two in
     let known = d .before .before .before .shared-slice-known in
-    three-come (λ j. known .given j .fits) (v .result .a) (v .result .b) (d .before .long .result) (d .long2 .result) (c .long3 .result) (v .result .at)
-    (v .ensures .0) (omega arith) (d .before .long .ensures) (d .long2 .ensures) (c .long3 .ensures)
+    three-come (λ j. known .given j .fits) (v .result .a) (v .result .b) (long .result) (d .long2 .result)
+    (c .long3 .result) (v .result .at)
+    (v .ensures .0) (omega arith) (long .ensures) (d .long2 .ensures) (c .long3 .ensures)
 
 pub first-five-spec : {M : Type 1} → statement M
 first-five-spec =
     tie.close
-    (tie.spec
-    first-two-requires
-    long-requires
-    add-long
-    long-requires-2
-    add-long-2
-    long-requires-3
-    add-t9
-    returns)
+    (tie.spec first-two-requires long-requires add-long long-requires-2 add-long-2 long-requires-3 add-t9 returns)

@@ -37,9 +37,11 @@ add-t12 c = omega arith
 returns : tie.Need-returns
 returns c =
     let third = c .before .before in
+    let long2 = third .before .long2 in
+    let long = third .before .before .long in
     record {
-      first = third .before .before .long .ensures;
-      second = third .before .long2 .ensures;
+      first = long .ensures;
+      second = long2 .ensures;
       third = third .long3 .ensures;
       fourth = c .before .long4 .ensures;
       fifth = c .long5 .ensures;
@@ -49,15 +51,5 @@ returns c =
 pub five-at-spec : {M : Type 1} → statement M
 five-at-spec =
     tie.close
-    (tie.spec
-    long-requires
-    add-long
-    long-requires-2
-    add-long-2
-    long-requires-3
-    add-long-3
-    long-requires-4
-    add-long-4
-    long-requires-5
-    add-t12
-    returns)
+    (tie.spec long-requires add-long long-requires-2 add-long-2 long-requires-3 add-long-3 long-requires-4 add-long-4
+    long-requires-5 add-t12 returns)

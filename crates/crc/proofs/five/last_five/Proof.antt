@@ -20,12 +20,14 @@ last-two-requires c κs = tt
 returns : tie.Need-returns
 unfolding feedWords
 returns c =
-    let q = c .before .before in
-    let v = q .before .before .args .v in
+    let leave2 = c .before .before .leave2 in
+    let after-leave = c .before .before .before in
+    let args = after-leave .before .args in
+    let v = args .v in
     c .last-two .ensures
     ∙ c .before .leave3 .ensures
-    ∙ ap (feedWords (v .e ∷ [])) (q .leave2 .ensures)
-    ∙ ap (feedWords (v .d ∷ v .e ∷ [])) (q .before .leave .ensures)
+    ∙ ap (feedWords (v .e ∷ [])) (leave2 .ensures)
+    ∙ ap (feedWords (v .d ∷ v .e ∷ [])) (after-leave .leave .ensures)
 
 pub last-five-spec : {M : Type 1} → statement M
 last-five-spec = tie.close (tie.spec leave-requires leave-requires-2 leave-requires-3 last-two-requires returns)

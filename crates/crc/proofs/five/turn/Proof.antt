@@ -27,32 +27,28 @@ added-requires-5 c κs = tt
 
 returns : tie.Need-returns
 returns c =
-    let a = c .before .before .before .before in
+    let added4 = c .before .added4 in
+    let added3 = c .before .before .added3 in
+    let after-added2 = c .before .before .before in
+    let a = after-added2 .before in
     let n = a .before .five-at in
     let f = a .before .before .fronts in
-    let known = a .before .before .before .shared-slice-known in
-    let k = a .before .before .before .before in
+    let entered = a .before .before .before in
+    let k = entered .before in
     let v = k .args .v in (
-      five-turn (λ j. known .given j .fits) (v .a) (v .b) (v .c) (v .d) (v .e)
+      five-turn (λ j. entered .shared-slice-known .given j .fits) (v .a) (v .b) (v .c) (v .d) (v .e)
           (f .result .a) (f .result .b) (f .result .c) (f .result .d) (f .result .e)
           (n .result .a) (n .result .b) (n .result .c) (n .result .d) (n .result .e)
-          (a .added .result) (c .before .before .before .added2 .result) (c .before .before .added3 .result) (c .before .added4 .result) (c .added5 .result)
+          (a .added .result) (after-added2 .added2 .result) (added3 .result) (added4 .result) (c .added5 .result)
           (v .at) (n .result .at) (k .pre .0) (omega (arith, n .ensures .behind, k .pre .1))
           (omega (arith, k .good)) (omega (arith, k .good)) (omega (arith, k .good)) (omega (arith, k .good)) (omega (arith, k .good))
-          (f .ensures) (n .ensures) (a .added .ensures) (c .before .before .before .added2 .ensures) (c .before .before .added3 .ensures)
-          (c .before .added4 .ensures) (c .added5 .ensures),
+          (f .ensures) (n .ensures) (a .added .ensures) (after-added2 .added2 .ensures) (added3 .ensures)
+          (added4 .ensures) (c .added5 .ensures),
       n .ensures .behind,
     )
 
 pub turn-spec : {M : Type 1} → statement M
 turn-spec =
     tie.close
-    (tie.spec
-    fronts-requires
-    five-at-requires
-    added-requires
-    added-requires-2
-    added-requires-3
-    added-requires-4
-    added-requires-5
-    returns)
+    (tie.spec fronts-requires five-at-requires added-requires added-requires-2 added-requires-3 added-requires-4
+    added-requires-5 returns)

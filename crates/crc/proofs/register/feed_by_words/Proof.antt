@@ -35,13 +35,15 @@ loop-less c = omega arith
 loop-again : tie.Need-loop-again Inv-loop μ-loop
 loop-again c =
     let at = c .before .before .before in
-    let l = at .loop in
-    let s = at .before .before .args .s .now in
-    let h : l .k + 4 ≤ length s = omega arith in (
+    let shared-slice-known = at .before .shared-slice-known in
+    let args = at .before .before .args in
+    let s = args .s .now in
+    let h : at .loop .k + 4 ≤ length s = omega arith in (
       h,
-      ap (feedBytes (drop (l .k + 4) s)) (c .feed-word .ensures ∙ ap (λ (w : ℕ). feedBits 32 w (l .v)) (c .before .word .ensures))
-          ∙ sym (word-front s (λ k. at .before .shared-slice-known .given k .fits) (l .k) (l .v) h)
-          ∙ l .inv .1,
+      ap (feedBytes (drop (at .loop .k + 4) s))
+          (c .feed-word .ensures ∙ ap (λ (w : ℕ). feedBits 32 w (at .loop .v)) (c .before .word .ensures))
+          ∙ sym (word-front s (λ k. shared-slice-known .given k .fits) (at .loop .k) (at .loop .v) h)
+          ∙ at .loop .inv .1,
     )
 
 feed-singly-requires : tie.Need-feed-singly-requires Inv-loop μ-loop
@@ -53,15 +55,5 @@ returns c = c .feed-singly .ensures ∙ c .before .before .loop .inv .1
 pub feed-by-words-spec : {M : Type 1} → statement M
 feed-by-words-spec =
     tie.close
-    (tie.spec
-    Inv-loop
-    μ-loop
-    loop-holds
-    sub-loop
-    word-requires
-    feed-word-requires
-    add-k
-    loop-less
-    loop-again
-    feed-singly-requires
-    returns)
+    (tie.spec Inv-loop μ-loop loop-holds sub-loop word-requires feed-word-requires add-k loop-less loop-again
+    feed-singly-requires returns)

@@ -31,9 +31,10 @@ loop-less c = omega arith
 
 loop-again : tie.Need-loop-again Inv-loop μ-loop
 loop-again c =
+    let loop-test = c .before .before .loop-test in
     let l = c .before .before .before .loop in (
       omega arith,
-      ap (feedBytes (drop (l .k + 1) _)) (c .feed-byte .ensures) ∙ sym (byte-front _ (l .k) (l .v) (c .before .before .loop-test .taken)) ∙ l .inv .1,
+      ap (feedBytes (drop (l .k + 1) _)) (c .feed-byte .ensures) ∙ sym (byte-front _ (l .k) (l .v) (loop-test .taken)) ∙ l .inv .1,
     )
 
 returns : tie.Need-returns Inv-loop μ-loop
@@ -44,13 +45,5 @@ returns c =
 pub feed-singly-spec : {M : Type 1} → statement M
 feed-singly-spec =
     tie.close
-    (tie.spec
-    Inv-loop
-    μ-loop
-    loop-holds
-    shared-slice-read-feed-byte
-    feed-byte-requires
-    add-k
-    loop-less
-    loop-again
+    (tie.spec Inv-loop μ-loop loop-holds shared-slice-read-feed-byte feed-byte-requires add-k loop-less loop-again
     returns)

@@ -1,6 +1,6 @@
 -- The moves that serve several places make up the quotient.
-use Rattle.crc.specs.Inner.Moves.{rights}
-use Rattle.crc.proofs.Shared.{quotient-shared}
+use Rattle.moves.specs.Moves.{rights}
+use Rattle.moves.proofs.Shared.{quotient-shared}
 use Rattle.crc.proofs.register.quotient.Statement.{statement}
 use Rattle.crc.proofs.register.quotient.Tie as tie
 

@@ -1,6 +1,6 @@
 -- The moves that serve several exponents make up the product.
-use Rattle.crc.specs.Inner.Moves.{lefts}
-use Rattle.crc.proofs.Shared.{times-shared}
+use Rattle.moves.specs.Moves.{lefts}
+use Rattle.moves.proofs.Shared.{times-shared}
 use Rattle.crc.proofs.register.times_poly.Statement.{statement}
 use Rattle.crc.proofs.register.times_poly.Tie as tie
 

@@ -38,10 +38,13 @@ loop-less c = omega arith
 
 loop-again : tie.Need-loop-again Inv-loop μ-loop
 loop-again c =
-    let l = c .before .before .before .loop in
-    let known = c .before .before .before .before .before .shared-slice-known in
     let m = c .before .long in
-    instead (comes (λ j. known .given j .fits) (l .a ∷ l .b ∷ []) (l .at) (l .at + 8) (m .result) (l .inv) refl (omega arith) (m .ensures)) (c .leave .ensures)
+    let at-loop = c .before .before .before in
+    let known = at-loop .before .before .shared-slice-known in
+    instead
+    (comes (λ j. known .given j .fits) (at-loop .loop .a ∷ at-loop .loop .b ∷ []) (at-loop .loop .at)
+    (at-loop .loop .at + 8) (m .result) (at-loop .loop .inv) refl (omega arith) (m .ensures))
+    (c .leave .ensures)
 
 last-two-requires : tie.Need-last-two-requires Inv-loop μ-loop
 last-two-requires c κs = tt
@@ -54,16 +57,5 @@ returns c =
 pub crc-by-two-spec : {M : Type 1} → statement M
 crc-by-two-spec =
     tie.close
-    (tie.spec
-    Inv-loop
-    μ-loop
-    first-two-requires
-    loop-holds
-    sub-loop
-    long-requires
-    leave-requires
-    add-at
-    loop-less
-    loop-again
-    last-two-requires
-    returns)
+    (tie.spec Inv-loop μ-loop first-two-requires loop-holds sub-loop long-requires leave-requires add-at loop-less
+    loop-again last-two-requires returns)

@@ -1,7 +1,6 @@
 -- The products and the one division are the law of the last two words.
 use native.Mathlib.Nat.{mod-lt}
 use native.Mathlib.Omega.{arith}
-use Prim.Native.Nat.{_*_, _^_}
 use lib.Pow.{pow-pos, shr-lt}
 use lib.Bits.{xor-lt}
 use Rattle.crc.proofs.Ending.{last-two}
@@ -35,18 +34,21 @@ cast-result c = omega arith
 
 returns : tie.Need-returns
 returns c =
-    let k = c .before .before .before .before .before in
-    cc (last-two (k .args .d) (k .args .e) (k .fits .d .fits) (k .fits .e .fits))
+    let t64 = c .before .before in
+    let t96 = t64 .before in
+    let times-128 = t96 .before .times-128 in
+    let start = t96 .before .before in
+    rw (
+      c .times-poly .ensures,
+      c .before .quotient .ensures,
+      t64 .times-64 .ensures,
+      t96 .times-96 .ensures,
+      times-128 .ensures,
+    )
+    (last-two (start .args .d) (start .args .e) (start .fits .d .fits) (start .fits .e .fits))
 
 pub last-two-spec : {M : Type 1} → statement M
 last-two-spec =
     tie.close
-    (tie.spec
-    times-128-requires
-    times-96-requires
-    times-64-requires
-    cast-quotient
-    quotient-requires
-    times-poly-requires
-    cast-result
-    returns)
+    (tie.spec times-128-requires times-96-requires times-64-requires cast-quotient quotient-requires times-poly-requires
+    cast-result returns)

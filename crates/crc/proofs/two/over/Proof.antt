@@ -1,6 +1,6 @@
 -- The moves that serve several places make up the sum.
-use Rattle.crc.specs.Inner.Moves.{rights}
-use Rattle.crc.proofs.Shared.{over-shared}
+use Rattle.moves.specs.Moves.{rights}
+use Rattle.moves.proofs.Shared.{over-shared}
 use Rattle.crc.proofs.two.over.Statement.{statement}
 use Rattle.crc.proofs.two.over.Tie as tie
 

@@ -1,6 +1,6 @@
 -- The moves that serve several places make up the sum.
-use Rattle.crc.specs.Inner.Moves.{lefts}
-use Rattle.crc.proofs.Shared.{times64-shared}
+use Rattle.moves.specs.Moves.{lefts}
+use Rattle.moves.proofs.Shared.{times64-shared}
 use Rattle.crc.proofs.two.times_64.Statement.{statement}
 use Rattle.crc.proofs.two.times_64.Tie as tie
 

@@ -1,6 +1,6 @@
 -- The moves that serve several places make up the sum.
-use Rattle.crc.specs.Inner.Moves.{lefts}
-use Rattle.crc.proofs.Shared.{times96-shared}
+use Rattle.moves.specs.Moves.{lefts}
+use Rattle.moves.proofs.Shared.{times96-shared}
 use Rattle.crc.proofs.two.times_96.Statement.{statement}
 use Rattle.crc.proofs.two.times_96.Tie as tie
 

@@ -41,7 +41,8 @@ returns c =
     let first = c .before in
     let known = first .before .shared-slice-known in
     let s = first .before .before .args .s .now in (
-      begins s (λ j. known .given j .fits) ((length s - 1) % 8) (omega arith) (first .long .result) (c .long2 .result) (first .long .ensures) (c .long2 .ensures)
+      begins s (λ j. known .given j .fits) ((length s - 1) % 8) (omega arith) (first .long .result) (c .long2 .result)
+          (first .long .ensures) (c .long2 .ensures)
           (omega arith) (omega arith),
       omega arith,
     )
@@ -49,15 +50,4 @@ returns c =
 pub first-two-spec : {M : Type 1} → statement M
 first-two-spec =
     tie.close
-    (tie.spec
-    sub-j
-    long-requires
-    mul-t3
-    sub-t4
-    shr-t8
-    add-long
-    long-requires-2
-    mul-t11
-    shl-t13
-    add-t16
-    returns)
+    (tie.spec sub-j long-requires mul-t3 sub-t4 shr-t8 add-long long-requires-2 mul-t11 shl-t13 add-t16 returns)

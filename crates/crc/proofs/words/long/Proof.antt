@@ -32,12 +32,4 @@ returns c = ap₂ (λ (x y : ℕ). x * 2 ^ 32 + y) (c .before .word .ensures) (c
 pub long-spec : {M : Type 1} → statement M
 long-spec =
     tie.close
-    (tie.spec
-    word-requires
-    cast-result
-    mul-result
-    add-word
-    word-requires-2
-    cast-result-2
-    add-result
-    returns)
+    (tie.spec word-requires cast-result mul-result add-word word-requires-2 cast-result-2 add-result returns)

@@ -28,11 +28,4 @@ returns c = refl
 pub number-spec : {M : Type 1} → statement M
 number-spec =
     tie.close
-    (tie.spec
-    mul-result
-    mul-result-2
-    add-result
-    mul-result-3
-    add-result-2
-    add-result-3
-    returns)
+    (tie.spec mul-result mul-result-2 add-result mul-result-3 add-result-2 add-result-3 returns)

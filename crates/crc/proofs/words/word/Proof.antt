@@ -33,13 +33,5 @@ returns c = c .number .ensures
 pub word-spec : {M : Type 1} → statement M
 word-spec =
     tie.close
-    (tie.spec
-    shared-slice-read-number
-    add-number
-    shared-slice-read-number-2
-    add-number-2
-    shared-slice-read-number-3
-    add-number-3
-    shared-slice-read-number-4
-    number-requires
-    returns)
+    (tie.spec shared-slice-read-number add-number shared-slice-read-number-2 add-number-2 shared-slice-read-number-3
+    add-number-3 shared-slice-read-number-4 number-requires returns)

@@ -33,25 +33,39 @@ bits-at-requires-2 c κs = search needs
 
 returns : tie.Need-returns
 unfolding fields
-returns c = rw (← c .before .before .before .before .digits-at .ensures, c .before .frequency .given .1)
+returns c =
+    let after-frequency = c .before in
+    let digits-at = after-frequency .before .before .before .digits-at in
+    rw (← digits-at .ensures, after-frequency .frequency .given .1)
 
 returns-2 : tie.Need-returns-2
 unfolding fields
 returns-2 c =
-    let f = c .before .before .before .before in
-    rw (← f .before .before .before .digits-at .ensures, f .frequency2 .given .1, ← f .before .before .digits-at2 .ensures, c .before .rate .given .1)
+    let after-rate = c .before in
+    let f = after-rate .before .before .before in
+    let digits-at2 = f .before .before .digits-at2 in
+    let digits-at = f .before .before .before .digits-at in
+    rw (
+      ← digits-at .ensures,
+      f .frequency2 .given .1,
+      ← digits-at2 .ensures,
+      after-rate .rate .given .1,
+    )
 
 returns-3 : tie.Need-returns-3
 unfolding fields
 returns-3 c =
-    let r = c .before .before .before .before in
+    let after-bits-at = c .before .before in
+    let r = after-bits-at .before .before in
     let f = r .before .before .before in
+    let digits-at2 = f .before .before .digits-at2 in
+    let digits-at = f .before .before .before .digits-at in
     rw (
-      ← f .before .before .before .digits-at .ensures,
+      ← digits-at .ensures,
       f .frequency2 .given .1,
-      ← f .before .before .digits-at2 .ensures,
+      ← digits-at2 .ensures,
       r .rate2 .given .1,
-      c .before .before .bits-at .ensures,
+      after-bits-at .bits-at .ensures,
       c .before .byte-at .ensures,
       c .bits-at2 .ensures,
     )
@@ -59,16 +73,5 @@ returns-3 c =
 pub fields-of-spec : {M : Type 1} → statement M
 fields-of-spec =
     tie.close
-    (tie.spec
-    digits-at-requires
-    digits-at-requires-2
-    enum-known-frequency
-    enum-known-frequency-2
-    enum-known-rate
-    enum-known-rate-2
-    bits-at-requires
-    byte-at-requires
-    bits-at-requires-2
-    returns
-    returns-2
-    returns-3)
+    (tie.spec digits-at-requires digits-at-requires-2 enum-known-frequency enum-known-frequency-2 enum-known-rate
+    enum-known-rate-2 bits-at-requires byte-at-requires bits-at-requires-2 returns returns-2 returns-3)

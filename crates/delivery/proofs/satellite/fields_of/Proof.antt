@@ -36,28 +36,41 @@ satellite-of-requires c κs = search needs
 
 returns : tie.Need-returns
 unfolding fields
-returns c = rw (← c .before .before .before .before .before .digits-at .ensures, c .before .frequency .given .1)
+returns c =
+    let after-digits-at3 = c .before .before .before in
+    let digits-at = after-digits-at3 .before .before .digits-at in
+    rw (← digits-at .ensures, c .before .frequency .given .1)
 
 returns-2 : tie.Need-returns-2
 unfolding fields
 returns-2 c =
-    let f = c .before .before .before .before in
-    let calls = f .before .before in
-    rw (← calls .before .before .digits-at .ensures, f .frequency2 .given .1, ← calls .before .digits-at2 .ensures, c .before .orbital .given .1)
+    let after-orbital = c .before in
+    let f = after-orbital .before .before .before in
+    let after-digits-at2 = f .before .before .before in
+    let digits-at = after-digits-at2 .before .digits-at in
+    rw (
+      ← digits-at .ensures,
+      f .frequency2 .given .1,
+      ← after-digits-at2 .digits-at2 .ensures,
+      after-orbital .orbital .given .1,
+    )
 
 returns-3 : tie.Need-returns-3
 unfolding fields
 returns-3 c =
-    let o = c .before .before .before .before in
+    let after-rate = c .before in
+    let o = after-rate .before .before .before in
     let f = o .before .before .before in
     let calls = f .before .before in
+    let digits-at2 = calls .before .digits-at2 in
+    let digits-at = calls .before .before .digits-at in
     rw (
-      ← calls .before .before .digits-at .ensures,
+      ← digits-at .ensures,
       f .frequency2 .given .1,
-      ← calls .before .digits-at2 .ensures,
+      ← digits-at2 .ensures,
       o .orbital2 .given .1,
       ← calls .digits-at3 .ensures,
-      c .before .rate .given .1,
+      after-rate .rate .given .1,
     )
 
 returns-4 : tie.Need-returns-4
@@ -67,10 +80,12 @@ returns-4 c =
     let o = r .before .before .before in
     let f = o .before .before .before in
     let calls = f .before .before in
+    let digits-at2 = calls .before .digits-at2 in
+    let digits-at = calls .before .before .digits-at in
     rw (
-      ← calls .before .before .digits-at .ensures,
+      ← digits-at .ensures,
       f .frequency2 .given .1,
-      ← calls .before .digits-at2 .ensures,
+      ← digits-at2 .ensures,
       o .orbital2 .given .1,
       ← calls .digits-at3 .ensures,
       r .rate2 .given .1,
@@ -80,18 +95,6 @@ returns-4 c =
 pub fields-of-spec : {M : Type 1} → statement M
 fields-of-spec =
     tie.close
-    (tie.spec
-    digits-at-requires
-    digits-at-requires-2
-    digits-at-requires-3
-    enum-known-frequency
-    enum-known-frequency-2
-    enum-known-orbital
-    enum-known-orbital-2
-    enum-known-rate
-    enum-known-rate-2
-    satellite-of-requires
-    returns
-    returns-2
-    returns-3
-    returns-4)
+    (tie.spec digits-at-requires digits-at-requires-2 digits-at-requires-3 enum-known-frequency enum-known-frequency-2
+    enum-known-orbital enum-known-orbital-2 enum-known-rate enum-known-rate-2 satellite-of-requires returns returns-2
+    returns-3 returns-4)

@@ -41,20 +41,27 @@ bits-at-requires-11 c κs = search needs
 
 returns : tie.Need-returns
 returns c =
-    let five = c .before .before .before .before in
+    let bits-at9 = c .before .before .bits-at9 in
+    let after-bits-at8 = c .before .before .before in
+    let five = after-bits-at8 .before in
+    let bits-at6 = five .before .bits-at6 in
+    let bits-at5 = five .before .before .bits-at5 in
     let four = five .before .before .before in
+    let bits-at3 = four .before .bits-at3 in
+    let bits-at2 = four .before .before .bits-at2 in
     let front = four .before .before .before in
+    let number32-at = front .before .number32-at in
     rw (
-      front .before .number32-at .ensures,
+      number32-at .ensures,
       front .bits-at .ensures,
-      four .before .before .bits-at2 .ensures,
-      four .before .bits-at3 .ensures,
+      bits-at2 .ensures,
+      bits-at3 .ensures,
       four .bits-at4 .ensures,
-      five .before .before .bits-at5 .ensures,
-      five .before .bits-at6 .ensures,
+      bits-at5 .ensures,
+      bits-at6 .ensures,
       five .bits-at7 .ensures,
-      c .before .before .before .bits-at8 .ensures,
-      c .before .before .bits-at9 .ensures,
+      after-bits-at8 .bits-at8 .ensures,
+      bits-at9 .ensures,
       c .before .bits-at10 .ensures,
       c .bits-at11 .ensures,
     )
@@ -62,17 +69,6 @@ returns c =
 pub fields-of-spec : {M : Type 1} → statement M
 fields-of-spec =
     tie.close
-    (tie.spec
-    number32-at-requires
-    bits-at-requires
-    bits-at-requires-2
-    bits-at-requires-3
-    bits-at-requires-4
-    bits-at-requires-5
-    bits-at-requires-6
-    bits-at-requires-7
-    bits-at-requires-8
-    bits-at-requires-9
-    bits-at-requires-10
-    bits-at-requires-11
-    returns)
+    (tie.spec number32-at-requires bits-at-requires bits-at-requires-2 bits-at-requires-3 bits-at-requires-4
+    bits-at-requires-5 bits-at-requires-6 bits-at-requires-7 bits-at-requires-8 bits-at-requires-9 bits-at-requires-10
+    bits-at-requires-11 returns)

@@ -25,16 +25,17 @@ returns c = rw (← c .before .before .before .sized .ensures, c .before .why .g
 
 returns-2 : tie.Need-returns-2
 unfolding terrestrial
-returns-2 c = rw (← c .before .before .before .before .sized .ensures, c .before .before .enum-told .given .1, c .fields-of .ensures, c .before .after .ensures)
+returns-2 c =
+    let after-enum-told = c .before .before in
+    let sized = after-enum-told .before .before .sized in
+    rw (
+      ← sized .ensures,
+      after-enum-told .enum-told .given .1,
+      c .fields-of .ensures,
+      c .before .after .ensures,
+    )
 
 pub read-spec : {M : Type 1} → statement M
 read-spec =
     tie.close
-    (tie.spec
-    sized-requires
-    enum-known-why
-    enum-told
-    after-requires
-    fields-of-requires
-    returns
-    returns-2)
+    (tie.spec sized-requires enum-known-why enum-told after-requires fields-of-requires returns returns-2)

@@ -21,15 +21,20 @@ ids-that-count-requires c κs = search needs
 
 returns : tie.Need-returns
 unfolding subTableOf
-returns c = cc
+returns c =
+    let byte = c .before in
+    let network = byte .before in
+    let transport = network .before in
+    rw (
+      ← byte .byte-at .ensures,
+      ← network .network-in .ensures,
+      ← transport .number16-at .ensures,
+      ← transport .before .extension-of .ensures,
+    )
+    (c .ids-that-count .ensures)
 
 pub sub-table-of-spec : {M : Type 1} → statement M
 sub-table-of-spec =
     tie.close
-    (tie.spec
-    extension-of-requires
-    number16-at-requires
-    network-in-requires
-    byte-at-requires
-    ids-that-count-requires
+    (tie.spec extension-of-requires number16-at-requires network-in-requires byte-at-requires ids-that-count-requires
     returns)

@@ -23,11 +23,17 @@ returns c = rw (← c .before .before .before .any .ensures, c .before .why .giv
 
 returns-2 : tie.Need-returns-2
 unfolding fixed
-returns-2 c = rw (← c .before .before .before .before .any .ensures, c .before .before .enum-told .given .1, ← c .before .size .ensures, eq-eqb _ _ (c .if1 .taken))
+returns-2 c =
+    let after-enum-told = c .before .before in
+    let any = after-enum-told .before .before .any in
+    rw (← any .ensures, after-enum-told .enum-told .given .1, ← c .before .size .ensures, eq-eqb _ _ (c .if1 .taken))
 
 returns-3 : tie.Need-returns-3
 unfolding fixed
-returns-3 c = rw (← c .before .before .before .before .any .ensures, c .before .before .enum-told .given .1, ← c .before .size .ensures, ne-eqb _ _ (c .if1 .left))
+returns-3 c =
+    let after-enum-told = c .before .before in
+    let any = after-enum-told .before .before .any in
+    rw (← any .ensures, after-enum-told .enum-told .given .1, ← c .before .size .ensures, ne-eqb _ _ (c .if1 .left))
 
 pub sized-spec : {M : Type 1} → statement M
 sized-spec =

@@ -39,25 +39,22 @@ enum-known-a c = search needs
 
 returns : tie.Need-returns
 unfolding digitsAt
-returns c = rw (← c .before .before .before .before .number32-at .ensures, ← c .before .before .before .left-over .ensures, ← c .before .before .bcd .ensures, c .enum-told .given .1)
+returns c =
+    let bcd = c .before .before .bcd in
+    let after-left-over = c .before .before .before in
+    let number32-at = after-left-over .before .number32-at in
+    rw (← number32-at .ensures, ← after-left-over .left-over .ensures, ← bcd .ensures, c .enum-told .given .1)
 
 returns-2 : tie.Need-returns-2
 unfolding digitsAt
-returns-2 c = rw (← c .before .before .before .before .before .number32-at .ensures, ← c .before .before .before .before .left-over .ensures, ← c .before .before .before .bcd .ensures, c .before .a .given .1)
+returns-2 c =
+    let after-bcd = c .before .before .before in
+    let left-over = after-bcd .before .left-over in
+    let number32-at = after-bcd .before .before .number32-at in
+    rw (← number32-at .ensures, ← left-over .ensures, ← after-bcd .bcd .ensures, c .before .a .given .1)
 
 pub digits-at-spec : {M : Type 1} → statement M
 digits-at-spec =
     tie.close
-    (tie.spec
-    number32-at-requires
-    cast-v
-    left-over-requires
-    mul-v
-    cast-v-2
-    shr-v
-    cast-bcd
-    bcd-requires
-    enum-told
-    enum-known-a
-    returns
-    returns-2)
+    (tie.spec number32-at-requires cast-v left-over-requires mul-v cast-v-2 shr-v cast-bcd bcd-requires enum-told
+    enum-known-a returns returns-2)

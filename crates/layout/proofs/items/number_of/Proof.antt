@@ -25,16 +25,12 @@ returns c = rw (← c .before .before .before .whole .ensures, c .before .why .g
 
 returns-2 : tie.Need-returns-2
 unfolding count
-returns-2 c = rw (← c .before .before .before .before .whole .ensures, c .before .before .enum-told .given .1, ← c .before .size .ensures, ← c .quotient .ensures)
+returns-2 c =
+    let after-enum-told = c .before .before in
+    let whole = after-enum-told .before .before .whole in
+    rw (← whole .ensures, after-enum-told .enum-told .given .1, ← c .before .size .ensures, ← c .quotient .ensures)
 
 pub number-of-spec : {M : Type 1} → statement M
 number-of-spec =
     tie.close
-    (tie.spec
-    whole-requires
-    enum-known-why
-    enum-told
-    size-requires
-    quotient-requires
-    returns
-    returns-2)
+    (tie.spec whole-requires enum-known-why enum-told size-requires quotient-requires returns returns-2)

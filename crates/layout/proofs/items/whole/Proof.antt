@@ -26,21 +26,21 @@ returns c = rw (← c .before .before .before .any .ensures, c .before .why .giv
 
 returns-2 : tie.Need-returns-2
 unfolding items
-returns-2 c = rw (← c .before .before .before .before .before .any .ensures, c .before .before .before .enum-told .given .1, ← c .before .before .size .ensures, ← c .before .remainder .ensures, eq-eqb _ _ (c .if1 .taken))
+returns-2 c =
+    let size = c .before .before .size in
+    let after-enum-told = c .before .before .before in
+    let any = after-enum-told .before .before .any in
+    rw (← any .ensures, after-enum-told .enum-told .given .1, ← size .ensures, ← c .before .remainder .ensures, eq-eqb _ _ (c .if1 .taken))
 
 returns-3 : tie.Need-returns-3
 unfolding items
-returns-3 c = rw (← c .before .before .before .before .before .any .ensures, c .before .before .before .enum-told .given .1, ← c .before .before .size .ensures, ← c .before .remainder .ensures, ne-eqb _ _ (c .if1 .left))
+returns-3 c =
+    let size = c .before .before .size in
+    let after-enum-told = c .before .before .before in
+    let any = after-enum-told .before .before .any in
+    rw (← any .ensures, after-enum-told .enum-told .given .1, ← size .ensures, ← c .before .remainder .ensures, ne-eqb _ _ (c .if1 .left))
 
 pub whole-spec : {M : Type 1} → statement M
 whole-spec =
     tie.close
-    (tie.spec
-    any-requires
-    enum-known-why
-    enum-told
-    size-requires
-    remainder-requires
-    returns
-    returns-2
-    returns-3)
+    (tie.spec any-requires enum-known-why enum-told size-requires remainder-requires returns returns-2 returns-3)

@@ -54,11 +54,13 @@ returns : tie.Need-returns
 unfolding twoTexts
 returns c =
     let second = c .before .before in
+    let wide2 = second .before .wide2 in
     let first = second .before .before in
+    let wide = first .before .wide in
     rw (
-      ← first .before .wide .ensures .same,
+      ← wide .ensures .same,
       ← first .byte-at .ensures,
-      ← second .before .wide2 .ensures .same,
+      ← wide2 .ensures .same,
       ← second .byte-at2 .ensures,
       ← c .before .wide3 .ensures .same,
       eq-eqb _ _ (c .if1 .taken),
@@ -68,11 +70,13 @@ returns-2 : tie.Need-returns-2
 unfolding twoTexts
 returns-2 c =
     let second = c .before .before in
+    let wide2 = second .before .wide2 in
     let first = second .before .before in
+    let wide = first .before .wide in
     rw (
-      ← first .before .wide .ensures .same,
+      ← wide .ensures .same,
       ← first .byte-at .ensures,
-      ← second .before .wide2 .ensures .same,
+      ← wide2 .ensures .same,
       ← second .byte-at2 .ensures,
       ← c .before .wide3 .ensures .same,
       ne-eqb _ _ (c .if1 .left),
@@ -81,21 +85,5 @@ returns-2 c =
 pub two-texts-spec : {M : Type 1} → statement M
 two-texts-spec =
     tie.close
-    (tie.spec
-    wide-requires
-    byte-at-requires
-    wide-requires-2
-    add-byte-at
-    add-byte-at-2
-    byte-at-requires-2
-    wide-requires-3
-    add-if1
-    add-if1-2
-    add-if1-3
-    add-t15
-    add-t16
-    add-t15-2
-    add-t16-2
-    add-t17
-    returns
-    returns-2)
+    (tie.spec wide-requires byte-at-requires wide-requires-2 add-byte-at add-byte-at-2 byte-at-requires-2
+    wide-requires-3 add-if1 add-if1-2 add-if1-3 add-t15 add-t16 add-t15-2 add-t16-2 add-t17 returns returns-2)

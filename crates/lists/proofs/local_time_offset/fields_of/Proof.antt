@@ -42,28 +42,36 @@ enum-known-next-2 c = search needs
 
 returns : tie.Need-returns
 unfolding fields
-returns c = rw (← c .before .before .before .before .before .offset-at .ensures, c .before .local .given .1)
+returns c =
+    let after-offset-at2 = c .before .before .before in
+    let offset-at = after-offset-at2 .before .before .offset-at in
+    rw (← offset-at .ensures, c .before .local .given .1)
 
 returns-2 : tie.Need-returns-2
 unfolding fields
 returns-2 c =
-    let l = c .before .before .before .before in
-    let calls = l .before .before in
-    rw (← calls .before .before .offset-at .ensures, l .local2 .given .1, ← calls .before .time-at .ensures, c .before .change .given .1)
+    let after-change = c .before in
+    let l = after-change .before .before .before in
+    let after-time-at = l .before .before .before in
+    let offset-at = after-time-at .before .offset-at in
+    rw (← offset-at .ensures, l .local2 .given .1, ← after-time-at .time-at .ensures, after-change .change .given .1)
 
 returns-3 : tie.Need-returns-3
 unfolding fields
 returns-3 c =
-    let t = c .before .before .before .before in
+    let after-next = c .before in
+    let t = after-next .before .before .before in
     let l = t .before .before .before in
     let calls = l .before .before in
+    let time-at = calls .before .time-at in
+    let offset-at = calls .before .before .offset-at in
     rw (
-      ← calls .before .before .offset-at .ensures,
+      ← offset-at .ensures,
       l .local2 .given .1,
-      ← calls .before .time-at .ensures,
+      ← time-at .ensures,
       t .change2 .given .1,
       ← calls .offset-at2 .ensures,
-      c .before .next .given .1,
+      after-next .next .given .1,
     )
 
 returns-4 : tie.Need-returns-4
@@ -72,9 +80,10 @@ returns-4 c =
     let n = c .before in
     let t = n .before .before .before in
     let l = t .before .before .before in
-    let calls = l .before .before in
     let local : SFits w16 (l .local2 .given .0 .0) = search needs in
     let next : SFits w16 (n .next2 .given .0 .0) = search needs in
+    let calls = l .before .before in
+    let bits = calls .before .before .before in
     rw (
       ← calls .before .before .offset-at .ensures,
       l .local2 .given .1,
@@ -82,8 +91,8 @@ returns-4 c =
       t .change2 .given .1,
       ← calls .offset-at2 .ensures,
       n .next2 .given .1,
-      calls .before .before .before .bits-at .ensures,
-      calls .before .before .before .before .number24-at .ensures,
+      bits .bits-at .ensures,
+      bits .before .number24-at .ensures,
       toZ-ofZ local,
       toZ-ofZ next,
     )
@@ -91,19 +100,6 @@ returns-4 c =
 pub fields-of-spec : {M : Type 1} → statement M
 fields-of-spec =
     tie.close
-    (tie.spec
-    number24-at-requires
-    bits-at-requires
-    offset-at-requires
-    time-at-requires
-    offset-at-requires-2
-    enum-known-local
-    enum-known-local-2
-    enum-known-change
-    enum-known-change-2
-    enum-known-next
-    enum-known-next-2
-    returns
-    returns-2
-    returns-3
-    returns-4)
+    (tie.spec number24-at-requires bits-at-requires offset-at-requires time-at-requires offset-at-requires-2
+    enum-known-local enum-known-local-2 enum-known-change enum-known-change-2 enum-known-next enum-known-next-2 returns
+    returns-2 returns-3 returns-4)

@@ -21,15 +21,15 @@ read-requires c κs = search needs
 
 returns : tie.Need-returns
 unfolding offsetAt
-returns c = rw (← c .before .before .before .bits-at .ensures, ← c .before .before .byte-at .ensures, ← c .before .byte-at2 .ensures) (c .read .ensures)
+returns c =
+    rw (
+      ← c .before .before .before .bits-at .ensures,
+      ← c .before .before .byte-at .ensures,
+      ← c .before .byte-at2 .ensures,
+    )
+    (c .read .ensures)
 
 pub offset-at-spec : {M : Type 1} → statement M
 offset-at-spec =
     tie.close
-    (tie.spec
-    bits-at-requires
-    byte-at-requires
-    add-byte-at
-    byte-at-requires-2
-    read-requires
-    returns)
+    (tie.spec bits-at-requires byte-at-requires add-byte-at byte-at-requires-2 read-requires returns)

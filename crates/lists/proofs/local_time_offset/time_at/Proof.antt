@@ -30,18 +30,14 @@ read-requires c κs = search needs
 
 returns : tie.Need-returns
 unfolding timeAt
-returns c = rw (← c .before .before .before .before .number16-at .ensures, ← c .before .before .before .byte-at .ensures, ← c .before .before .byte-at2 .ensures, ← c .before .byte-at3 .ensures) (c .read .ensures)
+returns c =
+    let byte-at2 = c .before .before .byte-at2 in
+    let after-byte-at = c .before .before .before in
+    let number16-at = after-byte-at .before .number16-at in
+    rw (← number16-at .ensures, ← after-byte-at .byte-at .ensures, ← byte-at2 .ensures, ← c .before .byte-at3 .ensures) (c .read .ensures)
 
 pub time-at-spec : {M : Type 1} → statement M
 time-at-spec =
     tie.close
-    (tie.spec
-    number16-at-requires
-    add-byte-at
-    byte-at-requires
-    add-byte-at-2
-    byte-at-requires-2
-    add-byte-at-3
-    byte-at-requires-3
-    read-requires
-    returns)
+    (tie.spec number16-at-requires add-byte-at byte-at-requires add-byte-at-2 byte-at-requires-2 add-byte-at-3
+    byte-at-requires-3 read-requires returns)

@@ -26,16 +26,12 @@ returns c = rw (← c .before .before .before .item-at .ensures, c .before .why 
 
 returns-2 : tie.Need-returns-2
 unfolding serviceList item
-returns-2 c = rw (← c .before .before .before .before .before .item-at .ensures, c .before .before .before .at .given .1, c .fields-of .ensures, c .before .part .ensures)
+returns-2 c =
+    let after-at = c .before .before .before in
+    let item-at = after-at .before .before .item-at in
+    rw (← item-at .ensures, after-at .at .given .1, c .fields-of .ensures, c .before .part .ensures)
 
 pub read-spec : {M : Type 1} → statement M
 read-spec =
     tie.close
-    (tie.spec
-    item-at-requires
-    enum-known-why
-    enum-known-at
-    part-requires
-    fields-of-requires
-    returns
-    returns-2)
+    (tie.spec item-at-requires enum-known-why enum-known-at part-requires fields-of-requires returns returns-2)

@@ -28,9 +28,12 @@ part-requires c κs = search needs
 
 returns : tie.Need-returns
 returns c =
+    let after-less = c .before .before in
+    let after-step = after-less .before .before in
+    let args = after-step .before .before .before .args in
     c .part .ensures
-    ∙ to-the-end (c .before .before .before .before .before .before .before .args .bytes .now) (c .before .before .less .result) _ _ (c .before .before .less .ensures) (c .before .if1 .taken)
-    ∙ sym (ap (λ x. descriptorOf (c .before .before .before .before .before .before .before .args .bytes .now) (toldStep x)) (c .before .before .before .before .step .given .1))
+    ∙ to-the-end (args .bytes .now) (after-less .less .result) _ _ (after-less .less .ensures) (c .before .if1 .taken)
+    ∙ sym (ap (λ x. descriptorOf (args .bytes .now) (toldStep x)) (after-step .step .given .1))
 
 add-part : tie.Need-add-part
 add-part c = search needs
@@ -52,9 +55,12 @@ slice-aggregate-result-2 c = search needs
 
 returns-2 : tie.Need-returns-2
 returns-2 c =
+    let after-less = c .before .before in
+    let after-step = after-less .before .before in
+    let args = after-step .before .before .before .args in
     c .part2 .ensures
-    ∙ ap (λ (k : ℕ). take (c .before .before .before .before .step .given .0 .1 .1 .0 + 2) (drop k (c .before .before .before .before .before .before .before .args .bytes .now))) (c .before .before .less .ensures)
-    ∙ sym (ap (λ x. descriptorOf (c .before .before .before .before .before .before .before .args .bytes .now) (toldStep x)) (c .before .before .before .before .step .given .1))
+    ∙ ap (λ (k : ℕ). take (after-step .step .given .0 .1 .1 .0 + 2) (drop k (args .bytes .now))) (after-less .less .ensures)
+    ∙ sym (ap (λ x. descriptorOf (args .bytes .now) (toldStep x)) (after-step .step .given .1))
 
 returns-3 : tie.Need-returns-3
 returns-3 c = search needs
@@ -65,17 +71,5 @@ returns-4 c = search needs
 pub descriptor-spec : {M : Type 1} → statement M
 descriptor-spec =
     tie.close
-    (tie.spec
-    enum-known-step
-    less-requires
-    part-requires
-    returns
-    add-part
-    part-requires-2
-    enum-told
-    slice-aggregate-result
-    enum-told-2
-    slice-aggregate-result-2
-    returns-2
-    returns-3
-    returns-4)
+    (tie.spec enum-known-step less-requires part-requires returns add-part part-requires-2 enum-told
+    slice-aggregate-result enum-told-2 slice-aggregate-result-2 returns-2 returns-3 returns-4)

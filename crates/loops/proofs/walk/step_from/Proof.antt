@@ -14,7 +14,10 @@ enum-known-step : tie.Need-enum-known-step
 enum-known-step c = search needs
 
 add-t7 : tie.Need-add-t7
-add-t7 c = omega (arith, told-on (c .before .before .before .before .before .args .bytes .now) (c .before .before .before .before .before .args .at) _ _ (c .before .before .before .step-at .ensures) (c .before .step .given .1) _ _ _ refl)
+add-t7 c =
+    let after-step-at = c .before .before .before in
+    let args = after-step-at .before .before .args in
+    omega (arith, told-on (args .bytes .now) (args .at) _ _ (after-step-at .step-at .ensures) (c .before .step .given .1) _ _ _ refl)
 
 enum-told : tie.Need-enum-told
 enum-told c = search needs
@@ -24,24 +27,32 @@ enum-told-2 c = search needs
 
 returns : tie.Need-returns
 returns c =
-    let e = sym (ap toldStep (c .before .step .given .1)) ∙ c .before .before .before .step-at .ensures in
-    record { gives = e; moves = ap (placeAfter (c .before .before .before .before .before .args .at)) e }
+    let after-step-at = c .before .before .before in
+    let args = after-step-at .before .before .args in
+    let e = sym (ap toldStep (c .before .step .given .1)) ∙ after-step-at .step-at .ensures in
+    record { gives = e; moves = ap (placeAfter (args .at)) e }
 
 returns-2 : tie.Need-returns-2
-returns-2 c = record { gives = c .before .before .step-at .ensures; moves = ap (placeAfter (c .before .before .before .before .args .at)) (sym (ap toldStep (c .enum-told .given .1)) ∙ c .before .before .step-at .ensures) }
+returns-2 c =
+    let after-step-at = c .before .before in
+    let args = after-step-at .before .before .args in
+    record {
+      gives = after-step-at .step-at .ensures;
+      moves = ap (placeAfter (args .at))
+          (sym (ap toldStep (c .enum-told .given .1)) ∙ after-step-at .step-at .ensures);
+    }
 
 returns-3 : tie.Need-returns-3
-returns-3 c = record { gives = c .before .before .step-at .ensures; moves = ap (placeAfter (c .before .before .before .before .args .at)) (sym (ap toldStep (c .enum-told2 .given .1)) ∙ c .before .before .step-at .ensures) }
+returns-3 c =
+    let after-step-at = c .before .before in
+    let args = after-step-at .before .before .args in
+    record {
+      gives = after-step-at .step-at .ensures;
+      moves = ap (placeAfter (args .at))
+          (sym (ap toldStep (c .enum-told2 .given .1)) ∙ after-step-at .step-at .ensures);
+    }
 
 pub step-from-spec : {M : Type 1} → statement M
 step-from-spec =
     tie.close
-    (tie.spec
-    step-at-requires
-    enum-known-step
-    add-t7
-    enum-told
-    enum-told-2
-    returns
-    returns-2
-    returns-3)
+    (tie.spec step-at-requires enum-known-step add-t7 enum-told enum-told-2 returns returns-2 returns-3)

@@ -45,14 +45,4 @@ returns-2 c = sym (smallest-end _ _ _ (omega arith)) ∙ c .before .loop .inv .1
 pub missing-spec : {M : Type 1} → statement M
 missing-spec =
     tie.close
-    (tie.spec
-    Inv-loop
-    μ-loop
-    loop-holds
-    array-read-if1
-    add-n
-    loop-less
-    loop-again
-    cast-t10
-    returns
-    returns-2)
+    (tie.spec Inv-loop μ-loop loop-holds array-read-if1 add-n loop-less loop-again cast-t10 returns returns-2)

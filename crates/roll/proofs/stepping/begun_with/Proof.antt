@@ -24,16 +24,22 @@ mark-requires c κs = search needs
 
 returns : tie.Need-returns
 unfolding begunWith
-returns c = cc
+returns c =
+    let number = c .before in
+    let marks = number .before in
+    let last = marks .before in
+    let version = last .before in
+    rw (
+      version .before .sub-table-of .ensures,
+      version .version-of .ensures,
+      last .last-of .ensures,
+      c .mark .ensures,
+      marks .no-marks .ensures,
+      number .number-of .ensures,
+    )
 
 pub begun-with-spec : {M : Type 1} → statement M
 begun-with-spec =
     tie.close
-    (tie.spec
-    sub-table-of-requires
-    version-of-requires
-    last-of-requires
-    no-marks-requires
-    number-of-requires
-    mark-requires
-    returns)
+    (tie.spec sub-table-of-requires version-of-requires last-of-requires no-marks-requires number-of-requires
+    mark-requires returns)

@@ -19,8 +19,9 @@ same-ids-requires c κs = search needs
 returns : tie.Need-returns
 unfolding another
 returns c =
-    rw (c .before .before .before .before .if1 .taken)
-    (ap not (c .same-ids .ensures ∙ ap₂ sameIds (c .before .before .as-compared .ensures) (c .before .sub-table-of .ensures)))
+    let kept = c .before .before in
+    rw (kept .before .before .if1 .taken)
+    (ap not (c .same-ids .ensures ∙ ap₂ sameIds (kept .as-compared .ensures) (c .before .sub-table-of .ensures)))
 
 returns-2 : tie.Need-returns-2
 unfolding another

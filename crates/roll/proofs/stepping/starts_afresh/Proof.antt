@@ -20,7 +20,11 @@ returns c =
     let version = c .before .before in
     let begun = version .before in
     let args = begun .before .before .args in
-    rw (begun .if1 .taken, ne-eqb (args .roll .version) (versionIn (args .section .now)) (λ e. omega (arith, version .version-of .ensures, c .if2 .taken)))
+    rw (
+      begun .if1 .taken,
+      ne-eqb (args .roll .version) (versionIn (args .section .now))
+          (λ e. omega (arith, version .version-of .ensures, c .if2 .taken)),
+    )
 
 last-of-requires : tie.Need-last-of-requires
 last-of-requires c κs = search needs

@@ -35,12 +35,15 @@ returns-3 : tie.Need-returns-3
 unfolding takingAccepted
 returns-3 c =
     let third = c .before .before in
+    let is-current = third .before .is-current in
     let second = third .before .before in
+    let is-another = second .before .is-another in
     let first = second .before .before in
+    let has-no-sub-table = first .before .has-no-sub-table in
     rw (
-      sym (first .before .has-no-sub-table .ensures) ∙ first .if1 .left,
-      sym (second .before .is-another .ensures) ∙ second .if2 .left,
-      sym (third .before .is-current .ensures) ∙ third .if3 .taken,
+      sym (has-no-sub-table .ensures) ∙ first .if1 .left,
+      sym (is-another .ensures) ∙ second .if2 .left,
+      sym (is-current .ensures) ∙ third .if3 .taken,
     )
     (told-and-asked _ _ (c .ask .result) (c .before .with-section .ensures) (c .ask .ensures))
 
@@ -48,23 +51,17 @@ returns-4 : tie.Need-returns-4
 unfolding takingAccepted
 returns-4 c =
     let second = c .before .before in
+    let is-another = second .before .is-another in
     let first = second .before .before in
+    let has-no-sub-table = first .before .has-no-sub-table in
     rw (
-      sym (first .before .has-no-sub-table .ensures) ∙ first .if1 .left,
-      sym (second .before .is-another .ensures) ∙ second .if2 .left,
+      sym (has-no-sub-table .ensures) ∙ first .if1 .left,
+      sym (is-another .ensures) ∙ second .if2 .left,
       sym (c .before .is-current .ensures) ∙ c .if3 .left,
     )
 
 pub take-accepted-spec : {M : Type 1} → statement M
 take-accepted-spec =
     tie.close
-    (tie.spec
-    has-no-sub-table-requires
-    returns
-    is-another-requires
-    returns-2
-    is-current-requires
-    with-section-requires
-    ask-requires
-    returns-3
-    returns-4)
+    (tie.spec has-no-sub-table-requires returns is-another-requires returns-2 is-current-requires with-section-requires
+    ask-requires returns-3 returns-4)

@@ -24,16 +24,12 @@ mark-requires c κs = search needs
 returns-2 : tie.Need-returns-2
 unfolding rollAfter continued
 returns-2 c =
-    let test = c .before .before .before .before in
-    rw (sym (test .before .starts-afresh .ensures) ∙ test .if1 .left) (cc (c .before .mark .ensures, c .before .before .number-of .ensures))
+    let after-number-of = c .before .before in
+    let test = after-number-of .before .before in
+    let starts-afresh = test .before .starts-afresh in
+    rw (sym (starts-afresh .ensures) ∙ test .if1 .left) (cc (c .before .mark .ensures, after-number-of .number-of .ensures))
 
 pub with-section-spec : {M : Type 1} → statement M
 with-section-spec =
     tie.close
-    (tie.spec
-    starts-afresh-requires
-    begun-with-requires
-    returns
-    number-of-requires
-    mark-requires
-    returns-2)
+    (tie.spec starts-afresh-requires begun-with-requires returns number-of-requires mark-requires returns-2)

@@ -1,5 +1,5 @@
 -- `section::entries::judge_entries` meets its contract: reading on from p says what reading from the start says.
-use Prim.Native.Nat.{ℕ, _+_, _-_}
+use Prim.Native.Nat.{ℕ, _+_, _-_, _≤_}
 use mathlib.Core.Path.{_≡_, refl, sym, ap, _∙_}
 use native.Mathlib.Omega.{arith}
 use lib.ListN.{length, drop}
@@ -19,10 +19,34 @@ Inv-loop bytes fixed at end p₀ p = entries fixed at (drop at bytes) .ends ≡ 
 abbrev μ-loop : tie.MeasureT-loop
 μ-loop bytes fixed at end p₀ p = length bytes - p
 
--- an entry begins at p
-begins : (c : tie.In-loop Inv-loop μ-loop) (n : ℕ) → n ≡ len12At (c .before .before .before .args .bytes .now) (c .before .loop .p + (c .before .before .before .args .fixed - 2))
-    → At (c .before .before .before .args .bytes .now) (c .before .before .before .args .fixed) (c .before .loop .p) n
-begins c n e = record { two = c .before .before .before .pre; here = c .loop-test .taken; same = e }
+-- An entry begins at p.
+module _ (c : tie.In-loop Inv-loop μ-loop) where
+  abbrev start : tie.Start Inv-loop μ-loop
+  start = c .before .before .before
+
+  abbrev p : ℕ
+  p = c .before .loop .p
+
+  begins : (n : ℕ) → n ≡ len12At (start .args .bytes .now) (p + (start .args .fixed - 2))
+      → At (start .args .bytes .now) (start .args .fixed) p n
+  begins n e = record { two = start .pre; here = c .loop-test .taken; same = e }
+
+-- Its fixed part and its loop fit.
+module _ (c : tie.Else2 Inv-loop μ-loop) where
+  abbrev here : tie.In-loop Inv-loop μ-loop
+  here = c .before .before .before
+
+  abbrev end : ℕ
+  end = p here + start here .args .fixed + c .before .length12-at .result
+
+  head-fits : p here + start here .args .fixed ≤ length (start here .args .bytes .now)
+  head-fits = omega arith
+
+  loop-fits : end ≤ length (start here .args .bytes .now)
+  loop-fits = omega arith
+
+  entry : At (start here .args .bytes .now) (start here .args .fixed) (p here) (c .before .length12-at .result)
+  entry = begins here _ (c .before .length12-at .ensures .same)
 
 loop-holds : tie.Need-loop-holds Inv-loop μ-loop
 loop-holds c = refl
@@ -49,7 +73,11 @@ sub-if2 : tie.Need-sub-if2 Inv-loop μ-loop
 sub-if2 c = omega arith
 
 returns-2 : tie.Need-returns-2 Inv-loop μ-loop
-returns-2 c = sym (c .before .before .before .before .loop .inv ∙ ap answer (at-past (begins (c .before .before .before) _ (c .before .length12-at .ensures .same)) (omega arith) (omega arith)))
+returns-2 c =
+    let turn = c .before .before .before in
+    sym
+    (turn .before .loop .inv
+    ∙ ap answer (at-past (begins turn _ (c .before .length12-at .ensures .same)) (omega arith) (omega arith)))
 
 add-next : tie.Need-add-next Inv-loop μ-loop
 add-next c = omega arith
@@ -67,36 +95,34 @@ loop-less : tie.Need-loop-less Inv-loop μ-loop
 loop-less c = omega arith
 
 loop-again : tie.Need-loop-again Inv-loop μ-loop
-loop-again c = c .before .before .before .before .before .before .before .before .loop .inv ∙ ap answer (at-on (begins (c .before .before .before .before .before .before .before) _ (c .before .before .before .before .before .length12-at .ensures .same)) (omega arith) (omega arith) (ap isAccepted (sym (c .before .before .judge-descriptors .ensures)) ∙ sym (c .before .is-accepted .ensures) ∙ c .if3 .taken))
+loop-again c =
+    let judged = c .before .before in
+    let fits = judged .before .before in
+    here fits .before .loop .inv
+    ∙ ap answer
+    (at-on (entry fits) (head-fits fits) (loop-fits fits)
+    (ap isAccepted (sym (judged .judge-descriptors .ensures)) ∙ sym (c .before .is-accepted .ensures) ∙ c .if3 .taken))
 
 returns-3 : tie.Need-returns-3 Inv-loop μ-loop
-returns-3 c = c .before .before .judge-descriptors .ensures ∙ sym (c .before .before .before .before .before .before .before .before .loop .inv ∙ ap answer (at-fault (begins (c .before .before .before .before .before .before .before) _ (c .before .before .before .before .before .length12-at .ensures .same)) (omega arith) (omega arith) (ap isAccepted (sym (c .before .before .judge-descriptors .ensures)) ∙ sym (c .before .is-accepted .ensures) ∙ c .if3 .left)))
+returns-3 c =
+    let judged = c .before .before in
+    let fits = judged .before .before in
+    judged .judge-descriptors .ensures
+    ∙ sym
+    (here fits .before .loop .inv
+    ∙ ap answer
+    (at-fault (entry fits) (head-fits fits) (loop-fits fits)
+    (ap isAccepted (sym (judged .judge-descriptors .ensures)) ∙ sym (c .before .is-accepted .ensures) ∙ c .if3 .left)))
 
 returns-4 : tie.Need-returns-4 Inv-loop μ-loop
 returns-4 c =
-    let l = c .before .loop in
-    sym (l .inv ∙ ap answer (at-end (c .before .before .before .args .bytes .now) (c .before .before .before .args .fixed) (l .p) (c .before .before .before .pre) (c .loop-test .left)))
+    let loop = c .before .loop in
+    let start = c .before .before .before in
+    sym (loop .inv ∙ ap answer (at-end (start .args .bytes .now) (start .args .fixed) (loop .p) (start .pre) (c .loop-test .left)))
 
 pub judge-entries-spec : {M : Type 1} → statement M
 judge-entries-spec =
     tie.close
-    (tie.spec
-    Inv-loop
-    μ-loop
-    loop-holds
-    sub-if1
-    returns
-    add-start
-    sub-length-place
-    add-length-place
-    length12-at-requires
-    sub-if2
-    returns-2
-    add-next
-    slice-aggregate-judge-descriptors
-    judge-descriptors-requires
-    is-accepted-requires
-    loop-less
-    loop-again
-    returns-3
-    returns-4)
+    (tie.spec Inv-loop μ-loop loop-holds sub-if1 returns add-start sub-length-place add-length-place
+    length12-at-requires sub-if2 returns-2 add-next slice-aggregate-judge-descriptors judge-descriptors-requires
+    is-accepted-requires loop-less loop-again returns-3 returns-4)

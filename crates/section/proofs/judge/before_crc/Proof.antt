@@ -21,9 +21,10 @@ slice-aggregate-result c = sym (length-take-le _ _ (omega (arith, c .before .les
 
 returns-2 : tie.Need-returns-2
 returns-2 c =
-    let args = c .before .before .before .before .before .args in
+    let else1 = c .before .before in
+    let args = else1 .before .before .before .args in
     ap (λ n. take n (args .section .now)) (c .before .less .ensures)
-    ∙ sym (body-crc (args .row) (args .section .now) (c .before .before .if1 .left))
+    ∙ sym (body-crc (args .row) (args .section .now) (else1 .if1 .left))
 
 pub before-crc-spec : {M : Type 1} → statement M
 before-crc-spec = tie.close (tie.spec returns less-requires slice-aggregate-result returns-2)

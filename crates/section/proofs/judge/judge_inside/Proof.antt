@@ -10,31 +10,46 @@ judge-one-loop-requires : tie.Need-judge-one-loop-requires
 judge-one-loop-requires c κs = search needs
 
 returns : tie.Need-returns
-returns c = c .judge-one-loop .ensures ∙ sym (ap answer (inside-topped (c .before .before .before .before .before .args .row) _ _ (c .before .before .if1 .taken) ∙ topped-one _ _ _ (c .before .if2 .taken)))
+returns c =
+    let then1 = c .before .before in
+    let args = then1 .before .before .before .args in
+    c .judge-one-loop .ensures
+    ∙ sym (ap answer (inside-topped (args .row) _ _ (then1 .if1 .taken) ∙ topped-one _ _ _ (c .before .if2 .taken)))
 
 judge-two-loops-requires : tie.Need-judge-two-loops-requires
-judge-two-loops-requires c κs = c .before .before .before .before .pre (c .if2 .left)
+judge-two-loops-requires c κs =
+    let after-struct-known = c .before .before in
+    let pre = after-struct-known .before .before .pre in
+    pre (c .if2 .left)
 
 returns-2 : tie.Need-returns-2
-returns-2 c = c .judge-two-loops .ensures ∙ sym (ap answer (inside-topped (c .before .before .before .before .before .args .row) _ _ (c .before .before .if1 .taken) ∙ topped-two _ _ _ (c .before .if2 .left)))
+returns-2 c =
+    let then1 = c .before .before in
+    let args = then1 .before .before .before .args in
+    c .judge-two-loops .ensures
+    ∙ sym (ap answer (inside-topped (args .row) _ _ (then1 .if1 .taken) ∙ topped-two _ _ _ (c .before .if2 .left)))
 
 returns-3 : tie.Need-returns-3
-returns-3 c = sym (ap answer (inside-plain (c .before .before .before .before .args .row) _ _ (c .before .if1 .left) ∙ plain-none _ _ _ (c .if3 .taken)))
+returns-3 c =
+    let else1 = c .before in
+    let args = else1 .before .before .before .args in
+    sym (ap answer (inside-plain (args .row) _ _ (else1 .if1 .left) ∙ plain-none _ _ _ (c .if3 .taken)))
 
 judge-entries-requires : tie.Need-judge-entries-requires
-judge-entries-requires c κs = c .before .before .before .before .pre (c .if3 .left)
+judge-entries-requires c κs =
+    let after-struct-known = c .before .before in
+    let pre = after-struct-known .before .before .pre in
+    pre (c .if3 .left)
 
 returns-4 : tie.Need-returns-4
-returns-4 c = c .judge-entries .ensures ∙ sym (ap answer (inside-plain (c .before .before .before .before .before .args .row) _ _ (c .before .before .if1 .left) ∙ plain-entries _ _ _ (c .before .if3 .left)))
+returns-4 c =
+    let else1 = c .before .before in
+    let args = else1 .before .before .before .args in
+    c .judge-entries .ensures
+    ∙ sym (ap answer (inside-plain (args .row) _ _ (else1 .if1 .left) ∙ plain-entries _ _ _ (c .before .if3 .left)))
 
 pub judge-inside-spec : {M : Type 1} → statement M
 judge-inside-spec =
     tie.close
-    (tie.spec
-    judge-one-loop-requires
-    returns
-    judge-two-loops-requires
-    returns-2
-    returns-3
-    judge-entries-requires
+    (tie.spec judge-one-loop-requires returns judge-two-loops-requires returns-2 returns-3 judge-entries-requires
     returns-4)

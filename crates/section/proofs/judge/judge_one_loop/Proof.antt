@@ -16,26 +16,37 @@ is-accepted-requires : tie.Need-is-accepted-requires
 is-accepted-requires c κs = search needs
 
 add-judge-descriptors : tie.Need-add-judge-descriptors
-add-judge-descriptors c = omega (arith, fills-tells (c .before .before .before .before .args .bytes .now) (c .before .before .before .before .args .at) _ refl (held _ _ _ (ended accepted) (c .before .before .judge-fills .ensures) (c .before .is-accepted .ensures) (c .if1 .taken)))
+add-judge-descriptors c =
+    let after-judge-fills = c .before .before in
+    let args = after-judge-fills .before .before .args in
+    omega (
+      arith,
+      fills-tells (args .bytes .now) (args .at) _ refl
+          (held _ _ _ (ended accepted) (after-judge-fills .judge-fills .ensures) (c .before .is-accepted .ensures)
+          (c .if1 .taken)),
+    )
 
 judge-descriptors-requires : tie.Need-judge-descriptors-requires
 judge-descriptors-requires c κs = search needs
 
 returns : tie.Need-returns
 returns c =
-    went-on _ _ _ _ (c .before .before .before .judge-fills .ensures) (c .before .before .is-accepted .ensures) _ (c .before .if1 .taken) (c .judge-descriptors .ensures ∙ sym (loop-alone _))
-    ∙ sym (ap answer (one-loop (c .before .before .before .before .before .args .bytes .now) (c .before .before .before .before .before .args .at)))
+    let is-accepted = c .before .before .is-accepted in
+    let after-judge-fills = c .before .before .before in
+    let args = after-judge-fills .before .before .args in
+    went-on _ _ _ _ (after-judge-fills .judge-fills .ensures) (is-accepted .ensures) _ (c .before .if1 .taken)
+    (c .judge-descriptors .ensures ∙ sym (loop-alone _))
+    ∙ sym (ap answer (one-loop (args .bytes .now) (args .at)))
 
 returns-2 : tie.Need-returns-2
-returns-2 c = stopped _ _ _ _ (c .before .before .judge-fills .ensures) (c .before .is-accepted .ensures) (c .if1 .left) ∙ sym (ap answer (one-loop (c .before .before .before .before .args .bytes .now) (c .before .before .before .before .args .at)))
+returns-2 c =
+    let after-judge-fills = c .before .before in
+    let args = after-judge-fills .before .before .args in
+    stopped _ _ _ _ (after-judge-fills .judge-fills .ensures) (c .before .is-accepted .ensures) (c .if1 .left)
+    ∙ sym (ap answer (one-loop (args .bytes .now) (args .at)))
 
 pub judge-one-loop-spec : {M : Type 1} → statement M
 judge-one-loop-spec =
     tie.close
-    (tie.spec
-    judge-fills-requires
-    is-accepted-requires
-    add-judge-descriptors
-    judge-descriptors-requires
-    returns
+    (tie.spec judge-fills-requires is-accepted-requires add-judge-descriptors judge-descriptors-requires returns
     returns-2)

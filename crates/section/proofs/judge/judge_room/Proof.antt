@@ -19,10 +19,16 @@ add-if1-2 : tie.Need-add-if1-2
 add-if1-2 c = search needs
 
 returns : tie.Need-returns
-returns c = sym (room-past (c .before .before .before .before .args .bytes .now) (c .before .before .before .before .args .at) _ (c .before .length12-at .ensures .same) (omega arith))
+returns c =
+    let after-length12-at = c .before in
+    let args = after-length12-at .before .before .before .args in
+    sym (room-past (args .bytes .now) (args .at) _ (after-length12-at .length12-at .ensures .same) (omega arith))
 
 returns-2 : tie.Need-returns-2
-returns-2 c = sym (room-just (c .before .before .before .before .args .bytes .now) (c .before .before .before .before .args .at) _ (c .before .length12-at .ensures .same) (omega arith))
+returns-2 c =
+    let after-length12-at = c .before in
+    let args = after-length12-at .before .before .before .args in
+    sym (room-just (args .bytes .now) (args .at) _ (after-length12-at .length12-at .ensures .same) (omega arith))
 
 pub judge-room-spec : {M : Type 1} → statement M
 judge-room-spec =

@@ -1,14 +1,48 @@
 -- `section::judge::judge_two_loops` meets its contract: room for the second length, then the top loop, then the second.
-use Rattle.section.proofs.Readings.{stopped, held, went-on, room-tells, two-loops}
-use Rattle.section.specs.Reading.{twoLoops}
-use Rattle.verdict.specs.Verdict.{accepted}
-use Rattle.wire.specs.Trail.{answer, ended}
-use lib.Seq.{length-take-le}
+use Prim.Native.Nat.{ℕ, _+_, _≤_}
+use mathlib.Core.Path.{_≡_, sym, ap, _∙_}
+use mathlib.Core.List.{List}
 use native.Mathlib.Omega.{arith}
-use mathlib.Core.Path.{sym, ap, _∙_}
+use lib.ListN.{length, take, drop}
+use lib.Seq.{length-take-le}
+use Rattle.wire.specs.Trail.{answer, ended}
+use Rattle.verdict.specs.Verdict.{Said, accepted}
+use Rattle.loops.specs.Descriptors.{descriptors}
+use Rattle.section.specs.Reading.{loopThen, secondLoop, twoLoops}
+use Rattle.section.proofs.Readings.{stopped, held, went-on, room-tells, two-loops}
 use borrow.Author.Needs.{needs}
 use Rattle.section.proofs.judge.judge_two_loops.Statement.{statement}
 use Rattle.section.proofs.judge.judge_two_loops.Tie as tie
+
+-- There is room for the second length, and the top loop's length has been read.
+module _ (c : tie.After-length12-at) where
+  abbrev roomy : tie.After-is-accepted
+  roomy = c .before .before
+
+  abbrev start : tie.Start
+  start = roomy .before .before .before
+
+  abbrev bytes : List ℕ
+  bytes = start .args .bytes .now
+
+  abbrev at : ℕ
+  at = start .args .at
+
+  abbrev end : ℕ
+  end = at + (2 + c .length12-at .result)
+
+  fits : end + 2 ≤ length bytes
+  fits =
+      room-tells bytes at _ (c .length12-at .ensures .same)
+      (held _ _ _ (ended accepted) (roomy .before .judge-room .ensures) (roomy .is-accepted .ensures) (c .before .if1 .taken))
+
+  -- what the top loop says, and what stands behind it, is what the two loops say
+  both : (v : Said)
+      → v ≡ loopThen (descriptors (at + 2) (drop (at + 2) (take end bytes))) (secondLoop (start .args .fixed) end (drop end bytes)) .ends
+      → v ≡ twoLoops (start .args .fixed) at (drop at bytes) .ends
+  both v e =
+      went-on _ _ _ _ (roomy .before .judge-room .ensures) (roomy .is-accepted .ensures) v (c .before .if1 .taken) e
+      ∙ sym (ap answer (two-loops bytes at (start .args .fixed) _ (c .length12-at .ensures .same) (omega (arith, fits))))
 
 judge-room-requires : tie.Need-judge-room-requires
 judge-room-requires c κs = search needs
@@ -23,15 +57,13 @@ add-end : tie.Need-add-end
 add-end c = search needs
 
 add-end-2 : tie.Need-add-end-2
-add-end-2 c = omega (arith, room-tells (c .before .before .before .before .before .args .bytes .now) (c .before .before .before .before .before .args .at) _ (c .length12-at .ensures .same) (held _ _ _ (ended accepted) (c .before .before .before .judge-room .ensures) (c .before .before .is-accepted .ensures) (c .before .if1 .taken)))
+add-end-2 c = omega (arith, fits c)
 
 slice-aggregate-judge-descriptors : tie.Need-slice-aggregate-judge-descriptors
-slice-aggregate-judge-descriptors c =
-    let f = room-tells (c .before .before .before .before .before .before .args .bytes .now) (c .before .before .before .before .before .before .args .at) _ (c .before .length12-at .ensures .same) (held _ _ _ (ended accepted) (c .before .before .before .before .judge-room .ensures) (c .before .before .before .is-accepted .ensures) (c .before .before .if1 .taken)) in
-    sym (length-take-le _ _ (omega arith))
+slice-aggregate-judge-descriptors c = sym (length-take-le _ _ (omega (arith, fits (c .before))))
 
 add-judge-descriptors : tie.Need-add-judge-descriptors
-add-judge-descriptors c = omega (arith, room-tells (c .before .before .before .before .before .before .args .bytes .now) (c .before .before .before .before .before .before .args .at) _ (c .before .length12-at .ensures .same) (held _ _ _ (ended accepted) (c .before .before .before .before .judge-room .ensures) (c .before .before .before .is-accepted .ensures) (c .before .before .if1 .taken)))
+add-judge-descriptors c = omega (arith, fits (c .before))
 
 judge-descriptors-requires : tie.Need-judge-descriptors-requires
 judge-descriptors-requires c κs = search needs
@@ -44,16 +76,16 @@ judge-second-requires c κs = search needs
 
 returns : tie.Need-returns
 returns c =
-    let f = room-tells (c .before .before .before .before .before .before .before .before .before .before .args .bytes .now) (c .before .before .before .before .before .before .before .before .before .before .args .at) _ (c .before .before .before .before .before .length12-at .ensures .same) (held _ _ _ (ended accepted) (c .before .before .before .before .before .before .before .before .judge-room .ensures) (c .before .before .before .before .before .before .before .is-accepted .ensures) (c .before .before .before .before .before .before .if1 .taken)) in
-    went-on _ _ _ _ (c .before .before .before .before .before .before .before .before .judge-room .ensures) (c .before .before .before .before .before .before .before .is-accepted .ensures) _ (c .before .before .before .before .before .before .if1 .taken)
-    (went-on _ _ _ _ (c .before .before .before .judge-descriptors .ensures) (c .before .before .is-accepted2 .ensures) _ (c .before .if2 .taken) (c .judge-second .ensures))
-    ∙ sym (ap answer (two-loops (c .before .before .before .before .before .before .before .before .before .before .args .bytes .now) (c .before .before .before .before .before .before .before .before .before .before .args .at) (c .before .before .before .before .before .before .before .before .before .before .args .fixed) _ (c .before .before .before .before .before .length12-at .ensures .same) (omega arith)))
+    let top = c .before .before in
+    both (top .before .before .before) _
+    (went-on _ _ _ _ (top .before .judge-descriptors .ensures) (top .is-accepted2 .ensures) _ (c .before .if2 .taken)
+    (c .judge-second .ensures))
 
 returns-2 : tie.Need-returns-2
 returns-2 c =
-    let f = room-tells (c .before .before .before .before .before .before .before .before .before .args .bytes .now) (c .before .before .before .before .before .before .before .before .before .args .at) _ (c .before .before .before .before .length12-at .ensures .same) (held _ _ _ (ended accepted) (c .before .before .before .before .before .before .before .judge-room .ensures) (c .before .before .before .before .before .before .is-accepted .ensures) (c .before .before .before .before .before .if1 .taken)) in
-    went-on _ _ _ _ (c .before .before .before .before .before .before .before .judge-room .ensures) (c .before .before .before .before .before .before .is-accepted .ensures) _ (c .before .before .before .before .before .if1 .taken) (stopped _ _ _ _ (c .before .before .judge-descriptors .ensures) (c .before .is-accepted2 .ensures) (c .if2 .left))
-    ∙ sym (ap answer (two-loops (c .before .before .before .before .before .before .before .before .before .args .bytes .now) (c .before .before .before .before .before .before .before .before .before .args .at) (c .before .before .before .before .before .before .before .before .before .args .fixed) _ (c .before .before .before .before .length12-at .ensures .same) (omega arith)))
+    let top = c .before in
+    both (top .before .before .before) _
+    (stopped _ _ _ _ (top .before .judge-descriptors .ensures) (top .is-accepted2 .ensures) (c .if2 .left))
 
 returns-3 : tie.Need-returns-3
 unfolding twoLoops
@@ -62,17 +94,6 @@ returns-3 c = stopped _ _ _ _ (c .before .before .judge-room .ensures) (c .befor
 pub judge-two-loops-spec : {M : Type 1} → statement M
 judge-two-loops-spec =
     tie.close
-    (tie.spec
-    judge-room-requires
-    is-accepted-requires
-    length12-at-requires
-    add-end
-    add-end-2
-    slice-aggregate-judge-descriptors
-    add-judge-descriptors
-    judge-descriptors-requires
-    is-accepted-requires-2
-    judge-second-requires
-    returns
-    returns-2
-    returns-3)
+    (tie.spec judge-room-requires is-accepted-requires length12-at-requires add-end add-end-2
+    slice-aggregate-judge-descriptors add-judge-descriptors judge-descriptors-requires is-accepted-requires-2
+    judge-second-requires returns returns-2 returns-3)

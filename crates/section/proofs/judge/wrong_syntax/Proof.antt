@@ -16,7 +16,10 @@ wide-requires c κs = search needs
 
 returns : tie.Need-returns
 unfolding wrongSyntax
-returns c = ap (λ (x : ℕ). not (eqb (x / 128) (c .before .before .before .before .args .row .syntax))) (c .before .wide .ensures .same ∙ c .before .before .byte-at .ensures)
+returns c =
+    let after-byte-at = c .before .before in
+    let args = after-byte-at .before .before .args in
+    ap (λ (x : ℕ). not (eqb (x / 128) (args .row .syntax))) (c .before .wide .ensures .same ∙ after-byte-at .byte-at .ensures)
 
 pub wrong-syntax-spec : {M : Type 1} → statement M
 wrong-syntax-spec = tie.close (tie.spec byte-at-requires wide-requires returns)

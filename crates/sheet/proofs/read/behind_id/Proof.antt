@@ -14,7 +14,12 @@ entries-of-requires : tie.Need-entries-of-requires
 entries-of-requires c κs = search needs
 
 returns : tie.Need-returns
-returns c = follows-then frame-none (follows-then (c .before .before .head .ensures) (follows-then (top-of (c .before .before .before .before .args .row) (c .before .before .before .before .pre .1) (c .before .top-loop .ensures)) (c .entries-of .ensures)))
+returns c =
+    let head = c .before .before in
+    let start = head .before .before in
+    follows-then frame-none
+    (follows-then (head .head .ensures)
+    (follows-then (top-of (start .args .row) (start .pre .1) (c .before .top-loop .ensures)) (c .entries-of .ensures)))
 
 pub behind-id-spec : {M : Type 1} → statement M
 behind-id-spec = tie.close (tie.spec head-requires top-loop-requires entries-of-requires returns)

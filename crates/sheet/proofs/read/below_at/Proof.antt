@@ -12,13 +12,17 @@ shared-slice-read-if2 : tie.Need-shared-slice-read-if2
 shared-slice-read-if2 c = search needs
 
 returns-2 : tie.Need-returns-2
-returns-2 c = wide-below (c .before .before .before .args .s .now) (c .before .before .before .args .at) (c .before .before .before .args .n) (omega (arith, c .before .before .if1)) (c .if2 .taken)
+returns-2 c =
+    let args = c .before .before .before .args in
+    wide-below (args .s .now) (args .at) (args .n) (omega (arith, c .before .before .if1)) (c .if2 .taken)
 
 add-t4 : tie.Need-add-t4
 add-t4 c = search needs
 
 returns-3 : tie.Need-returns-3
-returns-3 c = reads-below (c .before .before .before .args .s .now) (c .before .before .before .args .at) (c .before .before .before .args .n) (omega (arith, c .before .before .if1)) (omega (arith, c .if2))
+returns-3 c =
+    let args = c .before .before .before .args in
+    reads-below (args .s .now) (args .at) (args .n) (omega (arith, c .before .before .if1)) (omega (arith, c .if2))
 
 pub below-at-spec : {M : Type 1} → statement M
 below-at-spec = tie.close (tie.spec returns shared-slice-read-if2 returns-2 add-t4 returns-3)

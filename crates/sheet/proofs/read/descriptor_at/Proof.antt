@@ -13,7 +13,9 @@ less-requires : tie.Need-less-requires
 less-requires c κs = search needs
 
 returns : tie.Need-returns
-returns c = early-descriptor (c .before .before .before .args .s .now) (c .before .before .before .args .at) (omega (arith, c .before .less .ensures))
+returns c =
+    let args = c .before .before .before .args in
+    early-descriptor (args .s .now) (args .at) (omega (arith, c .before .less .ensures))
 
 add-wide : tie.Need-add-wide
 add-wide c = search needs
@@ -25,7 +27,12 @@ wide-requires : tie.Need-wide-requires
 wide-requires c κs = search needs
 
 returns-2 : tie.Need-returns-2
-returns-2 c = early-body (c .before .before .before .before .before .before .args .s .now) (c .before .before .before .before .before .before .args .at) (omega (arith, c .before .before .before .before .less .ensures)) (omega (arith, c .before .before .before .before .less .ensures, c .before .wide .ensures))
+returns-2 c =
+    let read = c .before .before in
+    let measured = read .before .before in
+    let less = measured .less in
+    let args = measured .before .before .args in
+    early-body (args .s .now) (args .at) (omega (arith, less .ensures)) (omega (arith, less .ensures, c .before .wide .ensures))
 
 add-t5 : tie.Need-add-t5
 add-t5 c = search needs
@@ -34,7 +41,13 @@ add-t9 : tie.Need-add-t9
 add-t9 c = search needs
 
 returns-3 : tie.Need-returns-3
-returns-3 c = follows-told descriptor (ap (λ k. At (c .before .before .before .before .before .before .args .at + 2 + k)) (sym (c .before .wide .ensures .same))) (reads-descriptor (c .before .before .before .before .before .before .args .s .now) (c .before .before .before .before .before .before .args .at) (omega (arith, c .before .before .before .before .less .ensures, c .before .wide .ensures)))
+returns-3 c =
+    let read = c .before .before in
+    let measured = read .before .before in
+    let less = measured .less in
+    let args = measured .before .before .args in
+    follows-told descriptor (ap (λ k. At (args .at + 2 + k)) (sym (c .before .wide .ensures .same)))
+    (reads-descriptor (args .s .now) (args .at) (omega (arith, less .ensures, c .before .wide .ensures)))
 
 pub descriptor-at-spec : {M : Type 1} → statement M
 descriptor-at-spec =

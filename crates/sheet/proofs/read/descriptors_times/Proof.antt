@@ -25,13 +25,21 @@ enum-told : tie.Need-enum-told Inv-loop μ-loop
 enum-told c = search needs
 
 returns : tie.Need-returns Inv-loop μ-loop
-returns c = item-early descriptor (c .before .before .before .before .loop .inv) (c .before .before .before .loop-test .taken) (c .enum-told .given .1) (c .before .before .descriptor-at .ensures)
+returns c =
+    let item = c .before .before in
+    let test = item .before in
+    item-early descriptor (test .before .loop .inv) (test .loop-test .taken) (c .enum-told .given .1)
+    (item .descriptor-at .ensures)
 
 enum-told-2 : tie.Need-enum-told-2 Inv-loop μ-loop
 enum-told-2 c = search needs
 
 returns-2 : tie.Need-returns-2 Inv-loop μ-loop
-returns-2 c = item-wide descriptor (c .before .before .before .before .loop .inv) (c .before .before .before .loop-test .taken) (c .enum-told2 .given .1) (c .before .before .descriptor-at .ensures)
+returns-2 c =
+    let item = c .before .before in
+    let test = item .before in
+    item-wide descriptor (test .before .loop .inv) (test .loop-test .taken) (c .enum-told2 .given .1)
+    (item .descriptor-at .ensures)
 
 sub-left : tie.Need-sub-left Inv-loop μ-loop
 sub-left c = search needs
@@ -40,7 +48,11 @@ loop-less : tie.Need-loop-less Inv-loop μ-loop
 loop-less c = search needs
 
 loop-again : tie.Need-loop-again Inv-loop μ-loop
-loop-again c = item-on descriptor (c .before .before .before .before .before .loop .inv) (c .before .before .before .before .loop-test .taken) (c .before .end .given .1) (c .before .before .before .descriptor-at .ensures)
+loop-again c =
+    let item = c .before .before .before in
+    let test = item .before in
+    item-on descriptor (test .before .loop .inv) (test .loop-test .taken) (c .before .end .given .1)
+    (item .descriptor-at .ensures)
 
 returns-3 : tie.Need-returns-3 Inv-loop μ-loop
 returns-3 c = items-done descriptor (c .before .loop .inv) (omega (arith, c .loop-test .left))

@@ -9,7 +9,9 @@ less-requires : tie.Need-less-requires
 less-requires c κs = search needs
 
 returns : tie.Need-returns
-returns c = follows-early _ (c .before .before .before .args .s .now) (c .before .before .before .args .at) (omega (arith, c .before .less .ensures))
+returns c =
+    let args = c .before .before .before .args in
+    follows-early _ (args .s .now) (args .at) (omega (arith, c .before .less .ensures))
 
 number16-at-requires : tie.Need-number16-at-requires
 number16-at-requires c κs = search needs
@@ -24,7 +26,11 @@ entries-times-requires : tie.Need-entries-times-requires
 entries-times-requires c κs = search needs
 
 returns-2 : tie.Need-returns-2
-returns-2 c = follows-counted _ (c .before .before .before .before .before .args .s .now) (c .before .before .before .before .before .args .at) (omega (arith, c .before .before .before .less .ensures)) (c .before .number16-at .ensures) (c .entries-times .ensures)
+returns-2 c =
+    let measured = c .before .before .before in
+    let less = measured .less in
+    let args = measured .before .before .args in
+    follows-counted _ (args .s .now) (args .at) (omega (arith, less .ensures)) (c .before .number16-at .ensures) (c .entries-times .ensures)
 
 pub entries-at-spec : {M : Type 1} → statement M
 entries-at-spec =

@@ -37,7 +37,8 @@ returns-4 : tie.Need-returns-4
 returns-4 c =
     let test = c .before .before .before in
     let row = test .before .before .before .args .row in
-    entries-stream row (numbered-below row (test .before .is-numbered .ensures) (not-false _ (test .if1 .left))) (c .before .before .if2 .left) (c .before .if3 .left) (c .entries3 .ensures)
+    entries-stream row (numbered-below row (test .before .is-numbered .ensures) (not-false _ (test .if1 .left)))
+    (c .before .before .if2 .left) (c .before .if3 .left) (c .entries3 .ensures)
 
 pub entries-of-spec : {M : Type 1} → statement M
 entries-of-spec =

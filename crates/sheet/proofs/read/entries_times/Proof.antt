@@ -25,13 +25,19 @@ enum-told : tie.Need-enum-told Inv-loop μ-loop
 enum-told c = search needs
 
 returns : tie.Need-returns Inv-loop μ-loop
-returns c = item-early _ (c .before .before .before .before .loop .inv) (c .before .before .before .loop-test .taken) (c .enum-told .given .1) (c .before .before .entry .ensures)
+returns c =
+    let entry = c .before .before in
+    let test = entry .before in
+    item-early _ (test .before .loop .inv) (test .loop-test .taken) (c .enum-told .given .1) (entry .entry .ensures)
 
 enum-told-2 : tie.Need-enum-told-2 Inv-loop μ-loop
 enum-told-2 c = search needs
 
 returns-2 : tie.Need-returns-2 Inv-loop μ-loop
-returns-2 c = item-wide _ (c .before .before .before .before .loop .inv) (c .before .before .before .loop-test .taken) (c .enum-told2 .given .1) (c .before .before .entry .ensures)
+returns-2 c =
+    let entry = c .before .before in
+    let test = entry .before in
+    item-wide _ (test .before .loop .inv) (test .loop-test .taken) (c .enum-told2 .given .1) (entry .entry .ensures)
 
 sub-k : tie.Need-sub-k Inv-loop μ-loop
 sub-k c = search needs
@@ -40,7 +46,10 @@ loop-less : tie.Need-loop-less Inv-loop μ-loop
 loop-less c = search needs
 
 loop-again : tie.Need-loop-again Inv-loop μ-loop
-loop-again c = item-on _ (c .before .before .before .before .before .loop .inv) (c .before .before .before .before .loop-test .taken) (c .before .end .given .1) (c .before .before .before .entry .ensures)
+loop-again c =
+    let entry = c .before .before .before in
+    let test = entry .before in
+    item-on _ (test .before .loop .inv) (test .loop-test .taken) (c .before .end .given .1) (entry .entry .ensures)
 
 returns-3 : tie.Need-returns-3 Inv-loop μ-loop
 returns-3 c = items-done _ (c .before .loop .inv) (omega (arith, c .loop-test .left))

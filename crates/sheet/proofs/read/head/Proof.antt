@@ -17,7 +17,8 @@ returns c =
     let numbered = c .before .before in
     let start = numbered .before .before in
     let row = start .args .row in
-    head-time row (unnumbered-from row (numbered .is-numbered .ensures) (not-true _ (c .before .if1 .taken))) (start .pre) (c .plain .ensures)
+    head-time row (unnumbered-from row (numbered .is-numbered .ensures) (not-true _ (c .before .if1 .taken)))
+    (start .pre) (c .plain .ensures)
 
 common-requires : tie.Need-common-requires
 common-requires c κs = search needs
@@ -28,7 +29,8 @@ plain-requires-2 c κs = search needs
 returns-2 : tie.Need-returns-2
 returns-2 c =
     let common = c .before .before in
-    let start = common .before .before .before .before in
+    let test = common .before .before in
+    let start = test .before .before in
     head-service (start .args .row) (c .before .if2 .taken) (common .common .ensures) (c .plain2 .ensures)
 
 plain-requires-3 : tie.Need-plain-requires-3
@@ -37,7 +39,8 @@ plain-requires-3 c κs = search needs
 returns-3 : tie.Need-returns-3
 returns-3 c =
     let common = c .before .before .before in
-    let start = common .before .before .before .before in
+    let test = common .before .before in
+    let start = test .before .before in
     head-event (start .args .row) (c .before .if3 .taken) (common .common .ensures) (c .plain3 .ensures)
 
 returns-4 : tie.Need-returns-4
@@ -45,7 +48,8 @@ returns-4 c =
     let common = c .before .before in
     let numbered = common .before .before in
     let row = numbered .before .before .args .row in
-    head-alone row (numbered-below row (numbered .is-numbered .ensures) (not-false _ (common .before .if1 .left))) (c .before .if2 .left) (c .if3 .left) (common .common .ensures)
+    head-alone row (numbered-below row (numbered .is-numbered .ensures) (not-false _ (common .before .if1 .left)))
+    (c .before .if2 .left) (c .if3 .left) (common .common .ensures)
 
 pub head-spec : {M : Type 1} → statement M
 head-spec =

@@ -18,7 +18,9 @@ enum-told-2 : tie.Need-enum-told-2
 enum-told-2 c = search needs
 
 returns : tie.Need-returns
-returns c = follows-on (below (c .before .before .before .before .before .args .n)) (c .before .before .from .given .1) (c .below-at .ensures)
+returns c =
+    let matched = c .before .before in
+    follows-on (below (matched .before .before .before .args .n)) (matched .from .given .1) (c .below-at .ensures)
 
 returns-2 : tie.Need-returns-2
 returns-2 c = still-early (below (c .before .before .before .args .n)) (c .enum-told .given .1)

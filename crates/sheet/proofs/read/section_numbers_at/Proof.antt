@@ -9,7 +9,9 @@ less-requires : tie.Need-less-requires
 less-requires c κs = search needs
 
 returns : tie.Need-returns
-returns c = early-numbers (c .before .before .before .args .s .now) (c .before .before .before .args .at) (omega (arith, c .before .less .ensures))
+returns c =
+    let args = c .before .before .before .args in
+    early-numbers (args .s .now) (args .at) (omega (arith, c .before .less .ensures))
 
 shared-slice-read-first : tie.Need-shared-slice-read-first
 shared-slice-read-first c = search needs
@@ -21,13 +23,23 @@ shared-slice-read-last : tie.Need-shared-slice-read-last
 shared-slice-read-last c = search needs
 
 returns-2 : tie.Need-returns-2
-returns-2 c = wide-numbers (c .before .before .before .before .before .before .args .s .now) (c .before .before .before .before .before .before .args .at) (omega (arith, c .before .before .before .before .less .ensures)) (c .if2 .taken)
+returns-2 c =
+    let read = c .before .before in
+    let measured = read .before .before in
+    let less = measured .less in
+    let args = measured .before .before .args in
+    wide-numbers (args .s .now) (args .at) (omega (arith, less .ensures)) (c .if2 .taken)
 
 add-t6 : tie.Need-add-t6
 add-t6 c = search needs
 
 returns-3 : tie.Need-returns-3
-returns-3 c = reads-numbers (c .before .before .before .before .before .before .args .s .now) (c .before .before .before .before .before .before .args .at) (omega (arith, c .before .before .before .before .less .ensures)) (omega (arith, c .if2))
+returns-3 c =
+    let read = c .before .before in
+    let measured = read .before .before in
+    let less = measured .less in
+    let args = measured .before .before .args in
+    reads-numbers (args .s .now) (args .at) (omega (arith, less .ensures)) (omega (arith, c .if2))
 
 pub section-numbers-at-spec : {M : Type 1} → statement M
 section-numbers-at-spec =

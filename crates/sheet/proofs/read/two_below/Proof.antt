@@ -13,7 +13,9 @@ one-below-requires-2 : tie.Need-one-below-requires-2
 one-below-requires-2 c κs = search needs
 
 returns : tie.Need-returns
-returns c = follows-cons below (c .before .before .before .args .m) (c .before .before .before .args .n ∷ []) (c .before .one-below .ensures) (follows-one below (c .before .before .before .args .n) (c .one-below2 .ensures))
+returns c =
+    let args = c .before .before .before .args in
+    follows-cons below (args .m) (args .n ∷ []) (c .before .one-below .ensures) (follows-one below (args .n) (c .one-below2 .ensures))
 
 pub two-below-spec : {M : Type 1} → statement M
 two-below-spec = tie.close (tie.spec one-below-requires one-below-requires-2 returns)

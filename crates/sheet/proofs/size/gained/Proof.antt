@@ -33,7 +33,8 @@ returns-5 : tie.Need-returns-5
 returns-5 c =
     let test = c .before .before .before in
     let row = test .before .before .args .row in
-    sym (gain-loops row (numbered-below row (c .before .is-numbered .ensures) (not-false _ (c .if4 .left))) (test .before .if1 .left) (test .if2 .left))
+    sym (gain-loops row (numbered-below row (c .before .is-numbered .ensures) (not-false _ (c .if4 .left)))
+    (test .before .if1 .left) (test .if2 .left))
 
 pub gained-spec : {M : Type 1} → statement M
 gained-spec = tie.close (tie.spec returns returns-2 returns-3 is-numbered-requires returns-4 returns-5)

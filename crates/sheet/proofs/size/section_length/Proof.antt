@@ -22,7 +22,11 @@ less-requires c κs = search needs
 
 returns : tie.Need-returns
 unfolding lengthBy
-returns c = c .less .ensures ∙ ap₂ (λ m n. m - n) (c .before .before .past .ensures ∙ ap (sum (length (c .before .before .before .before .before .args .s .now))) (c .before .before .before .gained .ensures)) (c .before .spared .ensures)
+returns c =
+    let past = c .before .before in
+    let total = past .past .ensures
+    ∙ ap (sum (length (past .before .before .before .args .s .now))) (past .before .gained .ensures) in
+    c .less .ensures ∙ ap₂ (λ m n. m - n) total (c .before .spared .ensures)
 
 pub section-length-spec : {M : Type 1} → statement M
 section-length-spec =

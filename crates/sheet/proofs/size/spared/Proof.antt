@@ -21,7 +21,9 @@ add-result c = search needs
 
 returns : tie.Need-returns
 unfolding spare cut countAt
-returns c = ap (λ n. 3 * n + 1) (c .number16-at .ensures) ∙ sym (ap (λ i. spare i (c .before .before .before .args .s .now)) (c .before .if1 .taken))
+returns c =
+    ap (λ n. 3 * n + 1) (c .number16-at .ensures)
+    ∙ sym (ap (λ i. spare i (c .before .before .before .args .s .now)) (c .before .if1 .taken))
 
 number16-at-requires-2 : tie.Need-number16-at-requires-2
 number16-at-requires-2 c κs = search needs
@@ -37,10 +39,15 @@ add-result-2 c = search needs
 
 returns-2 : tie.Need-returns-2
 unfolding spare cut countAt
-returns-2 c = ap (λ n. 2 * n + 1) (c .number16-at2 .ensures) ∙ sym (ap (λ i. spare i (c .before .before .before .before .args .s .now)) (c .before .if2 .taken))
+returns-2 c =
+    let test = c .before in
+    ap (λ n. 2 * n + 1) (c .number16-at2 .ensures)
+    ∙ sym (ap (λ i. spare i (test .before .before .before .args .s .now)) (test .if2 .taken))
 
 returns-3 : tie.Need-returns-3
-returns-3 c = sym (spare-one (c .before .before .before .args .row) (c .before .before .before .args .s .now) (c .before .if1 .left) (c .if2 .left))
+returns-3 c =
+    let args = c .before .before .before .args in
+    sym (spare-one (args .row) (args .s .now) (c .before .if1 .left) (c .if2 .left))
 
 pub spared-spec : {M : Type 1} → statement M
 spared-spec =

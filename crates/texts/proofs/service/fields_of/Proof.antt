@@ -22,7 +22,15 @@ returns c = rw (← c .before .before .two-texts .ensures, c .enum-told .given .
 
 returns-2 : tie.Need-returns-2
 unfolding fields
-returns-2 c = rw (← c .before .before .before .before .before .two-texts .ensures, c .before .before .before .texts .given .1, c .before .before .before .before .before .before .byte-at .ensures)
+returns-2 c =
+    let after-texts = c .before .before .before in
+    let two-texts = after-texts .before .before .two-texts in
+    let byte-at = after-texts .before .before .before .byte-at in
+    rw (
+      ← two-texts .ensures,
+      after-texts .texts .given .1,
+      byte-at .ensures,
+    )
 
 pub fields-of-spec : {M : Type 1} → statement M
 fields-of-spec =

@@ -25,16 +25,17 @@ returns c = rw (← c .before .before .before .any .ensures, c .before .why .giv
 
 returns-2 : tie.Need-returns-2
 unfolding service
-returns-2 c = rw (← c .before .before .before .before .any .ensures, c .before .before .enum-told .given .1, ← c .before .after .ensures) (c .fields-of .ensures)
+returns-2 c =
+    let after-enum-told = c .before .before in
+    let any = after-enum-told .before .before .any in
+    rw (
+      ← any .ensures,
+      after-enum-told .enum-told .given .1,
+      ← c .before .after .ensures,
+    )
+    (c .fields-of .ensures)
 
 pub read-spec : {M : Type 1} → statement M
 read-spec =
     tie.close
-    (tie.spec
-    any-requires
-    enum-known-why
-    enum-told
-    after-requires
-    fields-of-requires
-    returns
-    returns-2)
+    (tie.spec any-requires enum-known-why enum-told after-requires fields-of-requires returns returns-2)

@@ -1,41 +1,33 @@
 -- `turn::bodies::body_back` meets its contract.
-use mathlib.Core.Path.{_≡_, ap, sym, _∙_}
-use mathlib.Core.Bool.{true, false}
-use borrow.Author.Tests.{eq-eqb, ne-eqb}
-use lib.Dec.{eqb}
-use Rattle.tables.specs.Tables.{rowAt}
-use Rattle.tables.specs.declared.Row.{Row}
-use Rattle.turn.proofs.BodyLaws.{with-entries, body-back, body-back-none}
+use Rattle.turn.proofs.BodyLaws.{entries-known, body-back, body-back-none}
 use borrow.Author.Needs.{needs}
 use Rattle.turn.proofs.bodies.body_back.Statement.{statement}
 use Rattle.turn.proofs.bodies.body_back.Tie as tie
 
-row-at-requires : tie.Need-row-at-requires
-row-at-requires c κs = search needs
-
-is-one-requires : tie.Need-is-one-requires
-is-one-requires c κs = search needs
-
-head-requires : tie.Need-head-requires
-head-requires c κs = search needs
-
-top-loop-requires : tie.Need-top-loop-requires
-top-loop-requires c κs = search needs
-
-same-length : tie.Need-same-length
-same-length c = search needs
-
 returns : tie.Need-returns
-returns c = body-back-none (c .before .before .before .before .before .before .before .before .before .before .before .before .before .args .number) (c .before .before .before .before .before .before .before .before .before .is-one .result) (c .before .before .before .before .before .before .before .before .before .is-one .ensures ∙ ap (λ (r : Row). eqb (r .top) 1) (c .before .before .before .before .before .before .before .before .before .before .row-at .ensures)) (c .before .before .before .before .before .before .before .before .before .before .before .before .before .args .end) (eq-eqb (rowAt (c .before .before .before .before .before .before .before .before .before .before .before .before .before .args .number) .fixed) 0 (ap (λ (r : Row). r .fixed) (sym (c .before .before .before .before .before .before .before .before .before .before .row-at .ensures)) ∙ c .if1 .taken)) (c .before .before .before .before .before .before .before .head .ensures) (c .before .before .before .top-loop .ensures)
+returns c =
+    let topped = c .before .before .before in let room = topped .before .before .before in
+    let headed = room .before in let found = headed .before .before in
+    let shared-slice-known = found .before .before .before in let start = shared-slice-known .before in
+    body-back-none (start .args .number) (found .before .row-at .ensures) (found .is-one .ensures) (c .if1 .taken)
+    (headed .head .ensures) (topped .top-loop .ensures)
 
 entries-back-requires : tie.Need-entries-back-requires
-entries-back-requires c κs = record { has = ap (λ (r : Row). r .fixed) (c .before .before .before .before .before .before .before .before .before .before .before .row-at .ensures); known = with-entries (c .before .before .before .before .before .before .before .before .before .before .before .before .before .before .args .number) (c .before .before .before .before .before .before .before .before .before .before .before .before .before .before .pre) (λ e. c .before .if1 .left (ap (λ (r : Row). r .fixed) (c .before .before .before .before .before .before .before .before .before .before .before .row-at .ensures) ∙ e)) }
-
-same-length-2 : tie.Need-same-length-2
-same-length-2 c = search needs
+entries-back-requires c κs =
+    let room2 = c .before .before .before in let slice-known2 = room2 .before .before .before in
+    let head-arg = slice-known2 .before .before .before in let found = head-arg .before in
+    let shared-slice-known = found .before .before .before in let start = shared-slice-known .before in
+    entries-known (start .args .number) (found .before .row-at .ensures) (c .before .if1 .left) (start .pre)
 
 returns-2 : tie.Need-returns-2
-returns-2 c = body-back (c .before .before .before .before .before .before .before .before .before .before .before .before .before .before .before .before .before .args .number) (c .before .before .before .before .before .before .before .before .before .before .before .before .before .is-one .result) (c .before .before .before .before .before .before .before .before .before .before .before .before .before .is-one .ensures ∙ ap (λ (r : Row). eqb (r .top) 1) (c .before .before .before .before .before .before .before .before .before .before .before .before .before .before .row-at .ensures)) (c .before .before .before .before .before .before .before .before .before .before .before .before .before .before .before .before .before .args .end) (ne-eqb (rowAt (c .before .before .before .before .before .before .before .before .before .before .before .before .before .before .before .before .before .args .number) .fixed) 0 (λ e. c .before .before .before .before .if1 .left (ap (λ (r : Row). r .fixed) (c .before .before .before .before .before .before .before .before .before .before .before .before .before .before .row-at .ensures) ∙ e))) (c .before .before .before .before .before .before .before .before .before .before .before .head .ensures) (c .before .before .before .before .before .before .before .top-loop .ensures) (c .before .before .entries-back .ensures)
+returns-2 c =
+    let made = c .before .before in let test = made .before .before in let topped = test .before .before .before in
+    let room = topped .before .before .before in let headed = room .before in let found = headed .before .before in
+    let shared-slice-known = found .before .before .before in let start = shared-slice-known .before in
+    body-back (start .args .number) (found .before .row-at .ensures) (found .is-one .ensures) (test .if1 .left)
+    (headed .head .ensures) (topped .top-loop .ensures) (made .entries-back .ensures)
 
 pub body-back-spec : {M : Type 1} → statement M
-body-back-spec = tie.close (tie.spec row-at-requires is-one-requires head-requires top-loop-requires same-length returns entries-back-requires same-length-2 returns-2)
+body-back-spec =
+    tie.close (tie.spec (λ c κs. search needs) (λ c κs. search needs) (λ c κs. search needs) (λ c κs. search needs)
+    (λ c. search needs) returns entries-back-requires (λ c. search needs) returns-2)

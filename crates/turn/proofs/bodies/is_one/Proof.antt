@@ -1,7 +1,6 @@
 -- `turn::bodies::is_one` meets its contract.
 use mathlib.Core.Path.{sym}
 use borrow.Author.Tests.{eq-eqb, ne-eqb}
-use borrow.Author.Needs.{needs}
 use Rattle.turn.proofs.bodies.is_one.Statement.{statement}
 use Rattle.turn.proofs.bodies.is_one.Tie as tie
 

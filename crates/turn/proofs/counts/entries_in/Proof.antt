@@ -1,80 +1,70 @@
 -- `turn::counts::entries_in` meets its contract.
-use mathlib.Core.Path.{_≡_, sym, ap, ap₂, _∙_}
-use Prim.Native.Nat.{ℕ, _+_, _-_, _≤_, _<_}
+use mathlib.Core.Path.{ap, _∙_}
+use Prim.Native.Nat.{_+_, _-_}
 use native.Mathlib.Omega.{arith}
 use lib.ListN.{length}
 use Rattle.wire.specs.Bytes.{len12At}
-use Rattle.forms.specs.Room.{sum}
 use Rattle.sheet.specs.Section.{sectionEntry}
-use Rattle.turn.specs.Inner.Ways.{EntrySizes}
-use borrow.Author.Needs.{needs}
-use Rattle.turn.proofs.SectionLaws.{entry-full}
-use Rattle.turn.proofs.CountLaws.{sum-more, Counting, count-begins, count-on, count-ends}
+use Rattle.contents.proofs.SectionLaws.{entry-full}
+use Rattle.turn.proofs.CountLaws.{Counting, count-begins, count-on, count-less, count-ends}
 use Rattle.turn.proofs.EntryLaws.{fixed-small, entry-size}
+use borrow.Author.Needs.{needs}
 use Rattle.turn.proofs.counts.entries_in.Statement.{statement}
 use Rattle.turn.proofs.counts.entries_in.Tie as tie
 
-some : (fixed row : ℕ) → EntrySizes fixed row → (n : ℕ) → 0 < fixed + n
-some fixed row h n = omega (arith, fixed-small fixed row h)
-
 abbrev Inv-loop : tie.InvT-loop
-Inv-loop bytes fixed row p₀ k₀ p k = (k ≤ p) × Counting (sectionEntry row) (entry-full row) bytes p k
+Inv-loop bytes fixed row p₀ k₀ p k = Counting (sectionEntry row) (entry-full row) bytes p k
 
 abbrev μ-loop : tie.MeasureT-loop
 μ-loop bytes fixed row p₀ k₀ p k = length bytes - p
 
 loop-holds : tie.Need-loop-holds Inv-loop μ-loop
-loop-holds c = (omega arith, count-begins (sectionEntry (c .before .args .row)) (entry-full (c .before .args .row)) (c .before .args .bytes .now))
+loop-holds c =
+    let row = c .before .args .row in
+    count-begins (sectionEntry row) (entry-full row) (c .before .args .bytes .now)
 
 sub-past : tie.Need-sub-past Inv-loop μ-loop
-sub-past c = omega (arith, fixed-small (c .before .before .before .args .fixed) (c .before .before .before .args .row) (c .before .before .before .pre))
-
-past-requires : tie.Need-past-requires Inv-loop μ-loop
-past-requires c κs = search needs
-
-length12-at-requires : tie.Need-length12-at-requires Inv-loop μ-loop
-length12-at-requires c κs = search needs
+sub-past c =
+    let start = c .before .before .before in
+    omega (arith, fixed-small (start .args .fixed) (start .args .row) (start .pre))
 
 add-size : tie.Need-add-size Inv-loop μ-loop
-add-size c = omega (arith, c .length12-at .ensures .small, fixed-small (c .before .before .before .before .before .args .fixed) (c .before .before .before .before .before .args .row) (c .before .before .before .before .before .pre))
-
-past-requires-2 : tie.Need-past-requires-2 Inv-loop μ-loop
-past-requires-2 c κs = search needs
+add-size c =
+    let loop = c .before .before .before in let start = loop .before .before in
+    omega (arith, c .length12-at .ensures .small, fixed-small (start .args .fixed) (start .args .row) (start .pre))
 
 add-k : tie.Need-add-k Inv-loop μ-loop
-add-k c = omega (arith, c .before .before .before .before .loop .inv .0, c .before .before .before .loop-test .taken, c .before .before .before .before .before .before .good .0 .0)
+add-k c =
+    let test = c .before .before .before in let start = test .before .before .before in
+    omega (arith, test .before .loop .inv .few, test .loop-test .taken, start .good .0 .0)
 
 loop-less : tie.Need-loop-less Inv-loop μ-loop
-loop-less c = omega (arith, c .past2 .ensures, sum-more (c .before .before .before .before .loop .p) _ (length (c .before .before .before .before .before .before .args .bytes .now)) (c .before .before .before .loop-test .taken) (c .before .before .before .before .before .before .good .0 .0) (some (c .before .before .before .before .before .before .args .fixed) (c .before .before .before .before .before .before .args .row) (c .before .before .before .before .before .before .pre) (c .before .length12-at .result)), c .before .before .before .loop-test .taken)
+loop-less c =
+    let test = c .before .before .before in let start = test .before .before .before in
+    let a = start .args in
+    count-less (sectionEntry (a .row)) (entry-full (a .row)) (a .bytes .now) (c .past2 .ensures)
+    (omega (arith, fixed-small (a .fixed) (a .row) (start .pre))) (test .loop-test .taken) (start .good .0 .0)
 
 loop-again : tie.Need-loop-again Inv-loop μ-loop
 loop-again c =
-    let l = c .before .before .before .before .before .before .args .bytes .now in
-    let q = c .before .before .before .before .loop .p in
-    let m = sum-more q (c .before .before .before .before .before .before .args .fixed + c .before .length12-at .result) (length l) (c .before .before .before .loop-test .taken) (c .before .before .before .before .before .before .good .0 .0) (some (c .before .before .before .before .before .before .args .fixed) (c .before .before .before .before .before .before .args .row) (c .before .before .before .before .before .before .pre) (c .before .length12-at .result)) in
-    let e = c .past2 .ensures in
-    let n : c .before .before .before .before .before .before .args .fixed + c .before .length12-at .result ≡ c .before .before .before .before .before .before .args .fixed + len12At l (sum q (c .before .before .before .before .before .before .args .fixed - 2)) = ap (λ x. c .before .before .before .before .before .before .args .fixed + x) (c .before .length12-at .ensures .same ∙ ap (len12At l) (c .before .before .past .ensures)) in (
-      omega (arith, c .before .before .before .before .loop .inv .0),
-      count-on (sectionEntry (c .before .before .before .before .before .before .args .row)) (entry-full (c .before .before .before .before .before .before .args .row)) l q (c .before .before .before .before .loop .k) (c .past2 .result)
-          (λ a r o z. e ∙ ap (sum q) (n ∙ entry-size (c .before .before .before .before .before .before .args .fixed) (c .before .before .before .before .before .before .args .row) (c .before .before .before .before .before .before .pre) a r l q (c .before .before .before .before .before .before .good .0 .0) o z)) (c .before .before .before .loop-test .taken) (c .before .before .before .before .before .before .good .0 .0) (c .before .before .before .before .loop .inv .1),
-    )
+    let test = c .before .before .before in let start = test .before .before .before in
+    let a = start .args in
+    let l = a .bytes .now in
+    let q = test .before .loop .p in
+    count-on (sectionEntry (a .row)) (entry-full (a .row)) l (c .past2 .ensures)
+    (omega (arith, fixed-small (a .fixed) (a .row) (start .pre)))
+    (λ e r o z.
+    ap (λ x. a .fixed + x) (c .before .length12-at .ensures .same ∙ ap (len12At l) (c .before .before .past .ensures))
+    ∙ entry-size (a .fixed) (a .row) (start .pre) e r l q (start .good .0 .0) o z)
+    (test .loop-test .taken) (start .good .0 .0) (test .before .loop .inv)
 
 returns : tie.Need-returns Inv-loop μ-loop
-returns c = count-ends (sectionEntry (c .before .before .before .args .row)) (entry-full (c .before .before .before .args .row)) (c .before .before .before .args .bytes .now) (c .before .loop .p) (c .before .loop .k) (omega arith) (c .before .loop .inv .1)
+returns c =
+    let turn = c .before in let start = turn .before .before in
+    let row = start .args .row in
+    count-ends (sectionEntry row) (entry-full row) (start .args .bytes .now) (omega arith) (turn .loop .inv)
 
 pub entries-in-spec : {M : Type 1} → statement M
 entries-in-spec =
-    tie.close
-    (tie.spec
-    Inv-loop
-    μ-loop
-    loop-holds
-    sub-past
-    past-requires
-    length12-at-requires
-    add-size
-    past-requires-2
-    add-k
-    loop-less
-    loop-again
-    returns)
+    tie.close (tie.spec Inv-loop μ-loop loop-holds sub-past (λ c κs. search needs) (λ c κs. search needs) add-size
+    (λ c κs. search needs) add-k loop-less loop-again returns)

@@ -1,29 +1,20 @@
 -- `turn::descriptors::turn_loop` meets its contract.
-use Rattle.turn.specs.Inner.Ways.{loopFrom, sideIf}
-use Rattle.turn.proofs.PieceLaws.{forth, back}
+use Rattle.turn.proofs.PieceLaws.{loop-as}
 use borrow.Author.Needs.{needs}
 use Rattle.turn.proofs.descriptors.turn_loop.Statement.{statement}
 use Rattle.turn.proofs.descriptors.turn_loop.Tie as tie
 
-loop-forth-requires : tie.Need-loop-forth-requires
-loop-forth-requires c κs = search needs
-
-same-length : tie.Need-same-length
-same-length c = search needs
-
 returns : tie.Need-returns
-returns c = forth (λ b. loopFrom b (sideIf (c .before .before .before .before .before .before .before .args .status))) (c .before .before .before .before .before .before .before .args .forth) (c .before .before .before .before .if1 .taken) (c .before .before .loop-forth .ensures)
-
-loop-back-requires : tie.Need-loop-back-requires
-loop-back-requires c κs = search needs
-
-same-length-2 : tie.Need-same-length-2
-same-length-2 c = search needs
+returns c =
+    let made = c .before .before in let test = made .before .before in let start = test .before .before .before in
+    loop-as (start .args .forth) (test .if1 .taken) (made .loop-forth .ensures)
 
 returns-2 : tie.Need-returns-2
-returns-2 c = back (λ b. loopFrom b (sideIf (c .before .before .before .before .before .before .before .args .status))) (c .before .before .before .before .before .before .before .args .forth) (c .before .before .before .before .if1 .left) (c .before .before .loop-back .ensures)
+returns-2 c =
+    let made = c .before .before in let test = made .before .before in let start = test .before .before .before in
+    loop-as (start .args .forth) (test .if1 .left) (made .loop-back .ensures)
 
 pub turn-loop-spec : {M : Type 1} → statement M
 turn-loop-spec =
-    tie.close
-    (tie.spec loop-forth-requires same-length returns loop-back-requires same-length-2 returns-2)
+    tie.close (tie.spec (λ c κs. search needs) (λ c. search needs) returns (λ c κs. search needs) (λ c. search needs)
+    returns-2)

@@ -1,46 +1,47 @@
 -- `turn::entries::entries` meets its contract.
-use mathlib.Core.Path.{_≡_, refl}
-use mathlib.Core.List.{List}
-use Prim.Native.Nat.{ℕ, suc, _-_, _<_}
 use native.Mathlib.Omega.{arith}
-use lib.ListN.{length}
-use Rattle.turn.proofs.EntriesLaws.{Turning, turning-on, turning-ends}
+use Rattle.turn.proofs.EntriesLaws.{Turning, turning-begins, turning-on, turning-ends}
 use borrow.Author.Needs.{needs}
 use Rattle.turn.proofs.entries.entries.Statement.{statement}
 use Rattle.turn.proofs.entries.entries.Tie as tie
 
 abbrev Inv-loop : tie.InvT-loop
-Inv-loop forth row number s room₀ q₀ left₀ room q left = Turning forth row number s room₀ q₀ room q left × (length room ≡ length room₀)
+Inv-loop forth row number s room₀ q₀ left₀ room q left = Turning forth row number s room₀ q₀ room q left
 
 abbrev μ-loop : tie.MeasureT-loop
 μ-loop forth row number s room₀ q₀ left₀ room q left = left
 
 loop-holds : tie.Need-loop-holds Inv-loop μ-loop
-loop-holds c = ((λ r o t. t), refl)
-
-entry-requires : tie.Need-entry-requires Inv-loop μ-loop
-entry-requires c κs = search needs
+loop-holds c =
+    let start = c .before .before in
+    let a = start .args in
+    turning-begins (a .forth) (a .row) (a .number) (a .s .now) (a .room .now) (a .p)
 
 sub-left : tie.Need-sub-left Inv-loop μ-loop
-sub-left c = omega (arith, c .before .before .before .before .loop-test .taken)
+sub-left c =
+    let entry-arg = c .before .before .before in let test = entry-arg .before in
+    omega (arith, test .loop-test .taken)
 
 loop-less : tie.Need-loop-less Inv-loop μ-loop
-loop-less c = omega (arith, c .before .before .before .before .loop-test .taken)
+loop-less c =
+    let entry-arg = c .before .before .before in let test = entry-arg .before in
+    omega (arith, test .loop-test .taken)
 
 loop-again : tie.Need-loop-again Inv-loop μ-loop
 loop-again c =
-    let t = c .before .before .before .before .loop-test .taken in
-    let e : c .before .before .before .before .before .loop .left ≡ suc (c .before .before .before .before .before .loop .left - 1) = omega arith in
-    (turning-on (c .before .before .before .before .before .before .before .before .args .forth) (c .before .before .before .before .before .before .before .before .args .row) (c .before .before .before .before .before .before .before .before .args .number) (c .before .before .before .before .before .before .before .before .args .s .now) (c .before .before .before .before .before .before .before .before .args .room .now) (c .before .before .before .before .before .before .before .before .args .p) (c .before .before .before .before .before .loop .left) (c .before .before .before .before .before .loop .left - 1) e (c .before .before .entry .ensures) (c .before .before .before .before .before .loop .inv .0), search needs)
-
-same-length : tie.Need-same-length Inv-loop μ-loop
-same-length c = search needs
+    let made = c .before .before in let test = made .before .before in let turn = test .before in
+    let start = turn .before .before .before in
+    let a = start .args in
+    turning-on (a .forth) (a .row) (a .number) (a .s .now) (a .room .now) (a .p) (test .loop-test .taken) (search needs)
+    (made .entry .ensures) (turn .loop .inv)
 
 returns : tie.Need-returns Inv-loop μ-loop
 returns c =
-    let t = c .loop-test .left in
-    let e : c .before .loop .left ≡ 0 = omega arith in
-    turning-ends (c .before .before .before .before .args .forth) (c .before .before .before .before .args .row) (c .before .before .before .before .args .number) (c .before .before .before .before .args .s .now) (c .before .before .before .before .args .room .now) (c .before .before .before .before .args .p) (c .before .loop .left) e (c .before .loop .inv .0)
+    let turn = c .before in let start = turn .before .before .before in
+    let a = start .args in
+    turning-ends (a .forth) (a .row) (a .number) (a .s .now) (a .room .now) (a .p) (omega arith) (turn .loop .inv)
 
 pub entries-spec : {M : Type 1} → statement M
-entries-spec = tie.close (tie.spec Inv-loop μ-loop loop-holds entry-requires sub-left loop-less loop-again same-length returns)
+entries-spec =
+    tie.close (tie.spec Inv-loop μ-loop loop-holds (λ c κs. search needs) sub-left loop-less loop-again
+    (λ c. search needs) returns)

@@ -1,23 +1,15 @@
 -- `turn::entries::entry` meets its contract.
-use Rattle.turn.proofs.EntriesLaws.{turned-entry}
+use Rattle.forms.proofs.Turns.{turned-then}
 use borrow.Author.Needs.{needs}
 use Rattle.turn.proofs.entries.entry.Statement.{statement}
 use Rattle.turn.proofs.entries.entry.Tie as tie
 
-entry-fields-requires : tie.Need-entry-fields-requires
-entry-fields-requires c κs = search needs
-
-has-status-requires : tie.Need-has-status-requires
-has-status-requires c κs = search needs
-
-turn-loop-requires : tie.Need-turn-loop-requires
-turn-loop-requires c κs = search needs
-
-same-length : tie.Need-same-length
-same-length c = search needs
-
 returns : tie.Need-returns
-returns c = turned-entry (c .before .before .before .before .before .before .before .before .before .before .before .args .forth) (c .before .before .before .before .has-status .result) (c .before .before .before .before .before .before .before .before .before .before .before .args .row) (c .before .before .before .before .has-status .ensures) (c .before .before .before .before .before .before .before .entry-fields .ensures) (c .before .before .turn-loop .ensures)
+returns c =
+    let made = c .before .before in let beside = made .before .before in let begun = beside .before .before .before in
+    turned-then (begun .entry-fields .ensures) (made .turn-loop .ensures .turned (beside .side .ensures))
 
 pub entry-spec : {M : Type 1} → statement M
-entry-spec = tie.close (tie.spec entry-fields-requires has-status-requires turn-loop-requires same-length returns)
+entry-spec =
+    tie.close (tie.spec (λ c κs. search needs) (λ c κs. search needs) (λ c κs. search needs) (λ c. search needs)
+    returns)

@@ -1,20 +1,23 @@
 -- `turn::entries::top_loop` meets its contract.
-use Rattle.turn.proofs.EntriesLaws.{top-turned, no-top-turned}
+use mathlib.Core.Path.{refl}
+use mathlib.Core.List.{[]}
+use Rattle.forms.specs.Form.{mute}
+use Rattle.forms.proofs.Turns.{turned-nothing}
+use Rattle.turn.specs.Inner.Fields.{bared}
 use borrow.Author.Needs.{needs}
 use Rattle.turn.proofs.entries.top_loop.Statement.{statement}
 use Rattle.turn.proofs.entries.top_loop.Tie as tie
 
-entries-requires : tie.Need-entries-requires
-entries-requires c κs = search needs
-
-same-length : tie.Need-same-length
-same-length c = search needs
-
 returns : tie.Need-returns
-returns c = top-turned (c .before .before .before .before .before .before .before .args .forth) (c .before .before .before .before .before .before .before .args .top) (c .before .before .before .before .if1 .taken) (c .before .before .entries .ensures)
+returns c =
+    let made = c .before .before in let test = made .before .before in
+    rw (test .if1 .taken) (made .turn-loop .ensures .turned bared)
 
 returns-2 : tie.Need-returns-2
-returns-2 c = no-top-turned (c .before .before .before .args .forth) (c .before .before .before .args .top) (c .if1 .left)
+returns-2 c =
+    let start = c .before .before .before in
+    let a = start .args in
+    rw (c .if1 .left) (turned-nothing (mute ([], [])) (mute ([], [])) (a .s .now) (a .p) (a .room .now) (λ l k. (refl, refl)))
 
 pub top-loop-spec : {M : Type 1} → statement M
-top-loop-spec = tie.close (tie.spec entries-requires same-length returns returns-2)
+top-loop-spec = tie.close (tie.spec (λ c κs. search needs) (λ c. search needs) returns returns-2)

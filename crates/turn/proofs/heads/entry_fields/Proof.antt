@@ -2,74 +2,49 @@
 use mathlib.Core.List.{[], _∷_}
 use Rattle.tables.proofs.RowLaws.{numbered-below, unnumbered-from}
 use Rattle.sheet.specs.Content.{plain, flags}
+use Rattle.turn.specs.Inner.Fields.{flagged}
 use Rattle.turn.proofs.HeadLaws.{sdt-entry, eit-entry, nit-entry, no-entry, no-items, an-item, last-item, plain-item, as-items}
 use borrow.Author.Needs.{needs}
 use Rattle.turn.proofs.heads.entry_fields.Statement.{statement}
 use Rattle.turn.proofs.heads.entry_fields.Tie as tie
 
-plain-requires : tie.Need-plain-requires
-plain-requires c κs = search needs
-
-packed-requires : tie.Need-packed-requires
-packed-requires c κs = search needs
-
-same-length : tie.Need-same-length
-same-length c = search needs
-
 returns : tie.Need-returns
-returns c = as-items (c .before .before .before .before .before .before .before .before .before .before .before .args .forth) (sdt-entry (c .before .before .before .before .before .before .before .before .before .before .before .args .row) (c .before .before .before .before .before .before .before .before .if1 .taken)) (an-item (c .before .before .before .before .before .before .before .before .before .before .before .args .forth) (plain 2) (flags ∷ []) (plain-item (c .before .before .before .before .before .before .before .before .before .before .before .args .forth) 2 (c .before .before .before .before .before .before .plain .ensures)) (last-item (c .before .before .before .before .before .before .before .before .before .before .before .args .forth) flags (c .before .before .packed .ensures)))
-
-plain-requires-2 : tie.Need-plain-requires-2
-plain-requires-2 c κs = search needs
-
-same-length-2 : tie.Need-same-length-2
-same-length-2 c = search needs
+returns c =
+    let last = c .before .before in let room = last .before .before .before in let first = room .before in
+    let test = first .before .before in let start = test .before .before .before in
+    let forth = start .args .forth in
+    as-items forth (sdt-entry (start .args .row) (test .if1 .taken))
+    (an-item forth (plain 2) (flags ∷ []) (plain-item forth 2 (first .plain .ensures))
+    (last-item forth flags (last .packed .ensures .turned flagged)))
 
 returns-2 : tie.Need-returns-2
-returns-2 c = as-items (c .before .before .before .before .before .before .before .before .args .forth) (eit-entry (c .before .before .before .before .before .before .before .before .args .row) (c .before .before .before .before .if2 .taken)) (last-item (c .before .before .before .before .before .before .before .before .args .forth) (plain 10) (plain-item (c .before .before .before .before .before .before .before .before .args .forth) 10 (c .before .before .plain2 .ensures)))
-
-is-numbered-requires : tie.Need-is-numbered-requires
-is-numbered-requires c κs = search needs
-
-plain-requires-3 : tie.Need-plain-requires-3
-plain-requires-3 c κs = search needs
-
-same-length-3 : tie.Need-same-length-3
-same-length-3 c = search needs
+returns-2 c =
+    let last = c .before .before in let test = last .before .before in
+    let shared-slice-known = test .before .before .before in let start = shared-slice-known .before in
+    let forth = start .args .forth in
+    as-items forth (eit-entry (start .args .row) (test .if2 .taken))
+    (last-item forth (plain 10) (plain-item forth 10 (last .plain2 .ensures)))
 
 returns-3 : tie.Need-returns-3
 returns-3 c =
-    let test = c .before .before .before .before in
-    let numbered = test .before in
-    let event = numbered .before in
-    let start = event .before .before .before .before in
+    let last = c .before .before in let test = last .before .before in let event = test .before .before in
+    let shared-slice-known = event .before .before .before in let start = shared-slice-known .before in
     let forth = start .args .forth in
     let row = start .args .row in
-    let known = numbered-below row (numbered .is-numbered .ensures) (test .if3 .taken) in
+    let known = numbered-below row (test .before .is-numbered .ensures) (test .if3 .taken) in
     as-items forth (nit-entry row known (event .before .if1 .left) (event .if2 .left))
-    (last-item forth (plain 4) (plain-item forth 4 (c .before .before .plain3 .ensures)))
+    (last-item forth (plain 4) (plain-item forth 4 (last .plain3 .ensures)))
 
 returns-4 : tie.Need-returns-4
 returns-4 c =
-    let numbered = c .before in
-    let start = numbered .before .before .before .before .before in
+    let numbered = c .before in let slice-known = numbered .before .before .before in
+    let start = slice-known .before .before in
     let forth = start .args .forth in
     let row = start .args .row in
     as-items forth (no-entry row (unnumbered-from row (numbered .is-numbered .ensures) (c .if3 .left))) (no-items forth)
 
 pub entry-fields-spec : {M : Type 1} → statement M
 entry-fields-spec =
-    tie.close
-    (tie.spec
-    plain-requires
-    packed-requires
-    same-length
-    returns
-    plain-requires-2
-    same-length-2
-    returns-2
-    is-numbered-requires
-    plain-requires-3
-    same-length-3
-    returns-3
-    returns-4)
+    tie.close (tie.spec (λ c κs. search needs) (λ c κs. search needs) (λ c. search needs) returns
+    (λ c κs. search needs) (λ c. search needs) returns-2 (λ c κs. search needs) (λ c κs. search needs)
+    (λ c. search needs) returns-3 returns-4)

@@ -6,36 +6,21 @@ use borrow.Author.Needs.{needs}
 use Rattle.turn.proofs.heads.head.Statement.{statement}
 use Rattle.turn.proofs.heads.head.Tie as tie
 
-is-numbered-requires : tie.Need-is-numbered-requires
-is-numbered-requires c κs = search needs
-
 common-requires : tie.Need-common-requires
 common-requires c κs =
-    let numbered = c .before .before in
-    numbered-below (numbered .before .before .before .args .row) (numbered .is-numbered .ensures) (c .before .if1 .taken)
-
-same-length : tie.Need-same-length
-same-length c = search needs
-
-returns : tie.Need-returns
-returns c = search needs
-
-plain-requires : tie.Need-plain-requires
-plain-requires c κs = search needs
-
-same-length-2 : tie.Need-same-length-2
-same-length-2 c = search needs
+    let numbered = c .before .before in let start = numbered .before .before .before in
+    numbered-below (start .args .row) (numbered .is-numbered .ensures) (c .before .if1 .taken)
 
 returns-2 : tie.Need-returns-2
 returns-2 c =
-    let plain-behind = c .before .before in
-    let test = plain-behind .before .before in
-    let start = test .before .before .before .before in
+    let last = c .before .before in let test = last .before .before in let numbered = test .before in
+    let start = numbered .before .before .before in
     let forth = start .args .forth in
     let row = start .args .row in
-    as-items forth (time-items row (start .pre) (unnumbered-from row (test .before .is-numbered .ensures) (test .if1 .left)))
-    (last-item forth (plain 5) (plain-item forth 5 (plain-behind .plain .ensures)))
+    as-items forth (time-items row (start .pre) (unnumbered-from row (numbered .is-numbered .ensures) (test .if1 .left)))
+    (last-item forth (plain 5) (plain-item forth 5 (last .plain .ensures)))
 
 pub head-spec : {M : Type 1} → statement M
 head-spec =
-    tie.close (tie.spec is-numbered-requires common-requires same-length returns plain-requires same-length-2 returns-2)
+    tie.close (tie.spec (λ c κs. search needs) common-requires (λ c. search needs) (λ c. search needs)
+    (λ c κs. search needs) (λ c. search needs) returns-2)

@@ -1,44 +1,35 @@
 -- `turn::heads::ids` meets its contract.
 use mathlib.Core.List.{[], _∷_}
 use Rattle.sheet.specs.Content.{plain, filler}
+use Rattle.turn.specs.Inner.Fields.{filled}
 use Rattle.turn.proofs.HeadLaws.{sdt-ids, eit-ids, no-ids, no-items, an-item, last-item, plain-item, as-items}
 use borrow.Author.Needs.{needs}
 use Rattle.turn.proofs.heads.ids.Statement.{statement}
 use Rattle.turn.proofs.heads.ids.Tie as tie
 
-plain-requires : tie.Need-plain-requires
-plain-requires c κs = search needs
-
-filler-requires : tie.Need-filler-requires
-filler-requires c κs = search needs
-
-same-length : tie.Need-same-length
-same-length c = search needs
-
 returns : tie.Need-returns
-returns c = as-items (c .before .before .before .before .before .before .before .before .before .before .before .args .forth) (sdt-ids (c .before .before .before .before .before .before .before .before .before .before .before .args .row) (c .before .before .before .before .before .before .before .before .if1 .taken)) (an-item (c .before .before .before .before .before .before .before .before .before .before .before .args .forth) (plain 2) (filler ∷ []) (plain-item (c .before .before .before .before .before .before .before .before .before .before .before .args .forth) 2 (c .before .before .before .before .before .before .plain .ensures)) (last-item (c .before .before .before .before .before .before .before .before .before .before .before .args .forth) filler (c .before .before .filler .ensures)))
-
-plain-requires-2 : tie.Need-plain-requires-2
-plain-requires-2 c κs = search needs
-
-same-length-2 : tie.Need-same-length-2
-same-length-2 c = search needs
+returns c =
+    let last = c .before .before in let room = last .before .before .before in let first = room .before in
+    let test = first .before .before in let start = test .before .before .before in
+    let forth = start .args .forth in
+    as-items forth (sdt-ids (start .args .row) (test .if1 .taken))
+    (an-item forth (plain 2) (filler ∷ []) (plain-item forth 2 (first .plain .ensures))
+    (last-item forth filler (last .packed .ensures .turned filled)))
 
 returns-2 : tie.Need-returns-2
-returns-2 c = as-items (c .before .before .before .before .before .before .before .before .args .forth) (eit-ids (c .before .before .before .before .before .before .before .before .args .row) (c .before .before .before .before .if2 .taken)) (last-item (c .before .before .before .before .before .before .before .before .args .forth) (plain 6) (plain-item (c .before .before .before .before .before .before .before .before .args .forth) 6 (c .before .before .plain2 .ensures)))
+returns-2 c =
+    let last = c .before .before in let test = last .before .before in
+    let shared-slice-known = test .before .before .before in let start = shared-slice-known .before in
+    let forth = start .args .forth in
+    as-items forth (eit-ids (start .args .row) (test .if2 .taken)) (last-item forth (plain 6) (plain-item forth 6 (last .plain2 .ensures)))
 
 returns-3 : tie.Need-returns-3
-returns-3 c = as-items (c .before .before .before .before .args .forth) (no-ids (c .before .before .before .before .args .row) (c .before .before .before .before .pre) (c .before .if1 .left) (c .if2 .left)) (no-items (c .before .before .before .before .args .forth))
+returns-3 c =
+    let shared-slice-known = c .before .before .before in let start = shared-slice-known .before in
+    let forth = start .args .forth in
+    as-items forth (no-ids (start .args .row) (start .pre) (c .before .if1 .left) (c .if2 .left)) (no-items forth)
 
 pub ids-spec : {M : Type 1} → statement M
 ids-spec =
-    tie.close
-    (tie.spec
-    plain-requires
-    filler-requires
-    same-length
-    returns
-    plain-requires-2
-    same-length-2
-    returns-2
-    returns-3)
+    tie.close (tie.spec (λ c κs. search needs) (λ c κs. search needs) (λ c. search needs) returns
+    (λ c κs. search needs) (λ c. search needs) returns-2 returns-3)

@@ -1,40 +1,17 @@
 -- `turn::pieces::plain` meets its contract.
-use native.Mathlib.Omega.{arith}
-use mathlib.Core.Path.{refl}
+use Rattle.turn.proofs.PieceLaws.{turned-raw}
 use borrow.Author.Needs.{needs}
-use Rattle.copy.proofs.Copies.{copies-fits}
-use Rattle.turn.proofs.PieceLaws.{turned-raw, raw-not-there}
 use Rattle.turn.proofs.pieces.plain.Statement.{statement}
 use Rattle.turn.proofs.pieces.plain.Tie as tie
 
-copy-few-requires : tie.Need-copy-few-requires
-copy-few-requires c κs = search needs
-
-add-t8 : tie.Need-add-t8
-add-t8 c =
-    let e = c .before .before .before .before .before .before .before .before .args in
-    omega (arith, copies-fits (e .s .now) (e .p .at) (e .n) (e .room .now) (e .p .to) (c .before .before .before .before .copy-few .ensures .0) (c .before .if1 .taken), c .before .before .before .before .before .before .before .before .good .0 .0)
-
-add-t9 : tie.Need-add-t9
-add-t9 c =
-    let e = c .before .before .before .before .before .before .before .before .before .args in
-    omega (arith, copies-fits (e .s .now) (e .p .at) (e .n) (e .room .now) (e .p .to) (c .before .before .before .before .before .copy-few .ensures .0) (c .before .before .if1 .taken), c .before .before .before .before .before .before .before .before .before .good .1 .1 .1 .0 .0)
-
-same-length : tie.Need-same-length
-same-length c = search needs
-
 returns : tie.Need-returns
 returns c =
-    let e = c .before .before .before .before .before .before .before .before .before .args in
-    turned-raw (e .s .now) (e .room .now) (c .before .before .before .before .before .before .before .before .before .good .0 .0) (c .before .before .before .before .before .before .before .before .before .good .1 .1 .1 .0 .0) (e .p) (e .n) (c .before .before .before .before .before .copy-few .ensures .1) refl refl
-
-same-length-2 : tie.Need-same-length-2
-same-length-2 c = search needs
-
-returns-2 : tie.Need-returns-2
-returns-2 c =
-    let e = c .before .before .before .before .before .before .before .args in
-    raw-not-there (e .s .now) (e .room .now) (c .before .before .before .before .before .before .before .good .0 .0) (c .before .before .before .before .before .before .before .good .1 .1 .1 .0 .0) (e .p) (e .n) (c .before .before .before .copy-few .ensures .0) (c .if1 .left)
+    let room = c .before .before .before in let made = room .before in
+    let shared-slice-known = made .before .before .before in let start = shared-slice-known .before in
+    turned-raw (start .good .0 .0) (start .good .1 .1 .1 .0 .0) (made .copy-few .ensures .1) (c .before .past .ensures)
+    (c .past2 .ensures)
 
 pub plain-spec : {M : Type 1} → statement M
-plain-spec = tie.close (tie.spec copy-few-requires add-t8 add-t9 same-length returns same-length-2 returns-2)
+plain-spec =
+    tie.close (tie.spec (λ c κs. search needs) (λ c κs. search needs) (λ c κs. search needs) (λ c. search needs)
+    returns)

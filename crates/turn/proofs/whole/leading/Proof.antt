@@ -5,9 +5,6 @@ use borrow.Author.Needs.{needs}
 use Rattle.turn.proofs.whole.leading.Statement.{statement}
 use Rattle.turn.proofs.whole.leading.Tie as tie
 
-is-one-requires : tie.Need-is-one-requires
-is-one-requires c κs = search needs
-
 returns : tie.Need-returns
 returns c = ap (λ b. if b then 0xF000 else 0x7000) (sym (c .if1 .taken) ∙ c .before .is-one .ensures)
 
@@ -15,4 +12,4 @@ returns-2 : tie.Need-returns-2
 returns-2 c = ap (λ b. if b then 0xF000 else 0x7000) (sym (c .if1 .left) ∙ c .before .is-one .ensures)
 
 pub leading-spec : {M : Type 1} → statement M
-leading-spec = tie.close (tie.spec is-one-requires returns returns-2)
+leading-spec = tie.close (tie.spec (λ c κs. search needs) returns returns-2)

@@ -1,32 +1,31 @@
 -- `turn::whole::seal` meets its contract.
-use mathlib.Core.Path.{_≡_, refl, sym, ap, ap₂, _∙_}
+use mathlib.Core.Path.{refl, sym, _∙_}
 use borrow.Author.Needs.{needs}
 use Rattle.turn.proofs.whole.seal.Statement.{statement}
 use Rattle.turn.proofs.whole.seal.Tie as tie
 
-part-requires : tie.Need-part-requires
-part-requires c κs = search needs
-
-crc32-requires : tie.Need-crc32-requires
-crc32-requires c κs = search needs
-
-cast-register : tie.Need-cast-register
-cast-register c = search needs
-
-put-number-requires : tie.Need-put-number-requires
-put-number-requires c κs = search needs
-
-past-requires : tie.Need-past-requires
-past-requires c κs = search needs
-
-put-number-requires-2 : tie.Need-put-number-requires-2
-put-number-requires-2 c κs = search needs
-
-same-length : tie.Need-same-length
-same-length c = search needs
-
 returns : tie.Need-returns
-returns c = cc (c .before .before .put-number2 .ensures, c .before .before .before .before .before .before .before .put-number .ensures, c .before .before .before .past .ensures, c .before .before .before .before .before .before .before .before .before .crc32 .ensures, c .before .before .before .before .before .before .before .before .before .before .part .ensures)
+returns c =
+    let low = c .before .before in let slice-known2 = low .before .before .before in
+    let high = slice-known2 .before .before in let summed = high .before .before in
+    let if1 = summed .before .before .before in let tested = if1 .before in
+    let e = sym (tested .is-one .ensures) ∙ summed .before .before .before .if1 .taken in
+    rw e
+    (cc (
+      low .put-number2 .ensures,
+      high .put-number .ensures,
+      low .before .past .ensures,
+      summed .crc32 .ensures,
+      summed .before .part .ensures,
+    ))
+
+returns-2 : tie.Need-returns-2
+returns-2 c =
+    let tested = c .before in
+    let e = sym (tested .is-one .ensures) ∙ c .if1 .left in
+    rw e refl
 
 pub seal-spec : {M : Type 1} → statement M
-seal-spec = tie.close (tie.spec part-requires crc32-requires cast-register put-number-requires past-requires put-number-requires-2 same-length returns)
+seal-spec =
+    tie.close (tie.spec (λ c κs. search needs) (λ c κs. search needs) (λ c κs. search needs) (λ c. search needs)
+    (λ c κs. search needs) (λ c κs. search needs) (λ c κs. search needs) (λ c. search needs) returns returns-2)

@@ -6,23 +6,19 @@ use borrow.Author.Needs.{needs}
 use Rattle.turn.proofs.whole.write_accepted.Statement.{statement}
 use Rattle.turn.proofs.whole.write_accepted.Tie as tie
 
-byte-at-requires : tie.Need-byte-at-requires
-byte-at-requires c κs = search needs
-
-row-of-requires : tie.Need-row-of-requires
-row-of-requires c κs = search needs
-
-write-sheet-requires : tie.Need-write-sheet-requires
-write-sheet-requires c κs = search needs
-
-same-length : tie.Need-same-length
-same-length c = search needs
-
 returns : tie.Need-returns
-returns c = accepted-written (c .before .before .before .before .before .before .before .before .before .args .accepted) (c .before .before .before .before .before .before .before .before .before .args .section .now) (c .before .before .before .before .before .before .if1 .taken) (c .before .before .before .before .row-of .ensures ∙ ap rowOf (c .before .before .before .before .before .byte-at .ensures)) (c .before .before .write-sheet .ensures)
+returns c =
+    let made = c .before .before in let first = made .before .before .before in let test = first .before in
+    let start = test .before .before .before in
+    accepted-written (start .args .accepted) (start .args .section .now) (test .if1 .taken)
+    (made .before .before .row-of .ensures ∙ ap rowOf (first .byte-at .ensures)) (made .write-sheet .ensures)
 
 returns-2 : tie.Need-returns-2
-returns-2 c = refused-kept (c .before .before .before .args .accepted) (c .before .before .before .args .section .now) (c .if1 .left)
+returns-2 c =
+    let start = c .before .before .before in
+    refused-kept (start .args .accepted) (start .args .section .now) (c .if1 .left)
 
 pub write-accepted-spec : {M : Type 1} → statement M
-write-accepted-spec = tie.close (tie.spec byte-at-requires row-of-requires write-sheet-requires same-length returns returns-2)
+write-accepted-spec =
+    tie.close (tie.spec (λ c κs. search needs) (λ c κs. search needs) (λ c κs. search needs) (λ c. search needs)
+    returns returns-2)

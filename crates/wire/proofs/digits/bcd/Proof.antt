@@ -10,7 +10,7 @@ use Rattle.wire.proofs.digits.bcd.Statement.{statement}
 use Rattle.wire.proofs.digits.bcd.Tie as tie
 
 abbrev Inv-loop : tie.InvT-loop
-Inv-loop v n a₀ k₀ a k = (k ≤ 8) × (a ≤ v / 2 ^ (4 * k)) × (bcdAfter a k v ≡ bcdOf n v)
+Inv-loop v n a₀ k₀ a k = (k ≤ 8) × (a ≤ v / 2 ^ (4 * k)) × (bcdAfter a k v ≡ bcdOf v n)
 
 abbrev μ-loop : tie.MeasureT-loop
 μ-loop v n a₀ k₀ a k = k
@@ -35,28 +35,38 @@ shr-d c = omega arith
 
 returns : tie.Need-returns Inv-loop μ-loop
 returns c =
+    let loop-test = c .before .before .loop-test in
     let l = c .before .before .before .loop in
-    sym (digit-bad (l .k) _ (c .before .before .loop-test .taken) (l .a) (c .if2 .taken)) ∙ l .inv .2
+    sym (digit-bad (l .k) _ (loop-test .taken) (l .a) (c .if2 .taken)) ∙ l .inv .2
 
 mul-a : tie.Need-mul-a Inv-loop μ-loop
 mul-a c =
-    let l = c .before .before .before .loop in
-    omega (arith, fits (l .k) (c .before .before .before .before .before .args .v) (c .before .before .loop-test .taken) (l .a) (l .inv .1))
+    let loop-test = c .before .before .loop-test in
+    let at-loop = c .before .before .before in
+    let args = at-loop .before .before .args in
+    omega (arith, fits (at-loop .loop .k) (args .v) (loop-test .taken) (at-loop .loop .a) (at-loop .loop .inv .1))
 
 add-a : tie.Need-add-a Inv-loop μ-loop
 add-a c =
-    let l = c .before .before .before .loop in
-    omega (arith, fits (l .k) (c .before .before .before .before .before .args .v) (c .before .before .loop-test .taken) (l .a) (l .inv .1))
+    let loop-test = c .before .before .loop-test in
+    let at-loop = c .before .before .before in
+    let args = at-loop .before .before .args in
+    omega (arith, fits (at-loop .loop .k) (args .v) (loop-test .taken) (at-loop .loop .a) (at-loop .loop .inv .1))
 
 loop-less : tie.Need-loop-less Inv-loop μ-loop
 loop-less c = omega arith
 
 loop-again : tie.Need-loop-again Inv-loop μ-loop
 loop-again c =
-    let l = c .before .before .before .loop in
-    let v : ℕ = c .before .before .before .before .before .args .v in
-    let h = c .before .before .loop-test .taken in
-    (omega arith, small (l .k) v h (l .a) (l .inv .1), sym (digit-next (l .k) v h (l .a) (c .if2 .left)) ∙ l .inv .2)
+    let loop-test = c .before .before .loop-test in
+    let at-loop = c .before .before .before in
+    let args = at-loop .before .before .args in
+    let v : ℕ = args .v in
+    let h = loop-test .taken in (
+      omega arith,
+      small (at-loop .loop .k) v h (at-loop .loop .a) (at-loop .loop .inv .1),
+      sym (digit-next (at-loop .loop .k) v h (at-loop .loop .a) (c .if2 .left)) ∙ at-loop .loop .inv .2,
+    )
 
 returns-2 : tie.Need-returns-2 Inv-loop μ-loop
 unfolding bcdAfter
@@ -68,16 +78,4 @@ returns-2 c =
 pub bcd-spec : {M : Type 1} → statement M
 bcd-spec =
     tie.close
-    (tie.spec
-    Inv-loop
-    μ-loop
-    loop-holds
-    sub-k
-    mul-d
-    shr-d
-    returns
-    mul-a
-    add-a
-    loop-less
-    loop-again
-    returns-2)
+    (tie.spec Inv-loop μ-loop loop-holds sub-k mul-d shr-d returns mul-a add-a loop-less loop-again returns-2)

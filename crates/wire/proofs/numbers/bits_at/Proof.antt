@@ -53,36 +53,25 @@ shl-result c = search needs
 
 rem-result : tie.Need-rem-result
 rem-result c =
-    let a = c .before .before .before .before .before .args in
+    let after-byte-at = c .before .before .before in
+    let a = after-byte-at .before .before .args in
     rw (power (a .high + 1 - a .low) (omega arith)) (pow-pos (a .high + 1 - a .low))
 
 cast-result-3 : tie.Need-cast-result-3
 cast-result-3 c =
-    let a = c .before .before .before .before .before .args in
-    let b = c .before .before .before .byte-at in
-    omega (arith, bits-le (b .result) (a .low) (1 * 2 ^ (a .high + 1 - a .low) % 2 ^ 32), b .ok)
+    let after-byte-at = c .before .before .before in
+    let a = after-byte-at .before .before .args in
+    omega (arith, bits-le (after-byte-at .byte-at .result) (a .low) (1 * 2 ^ (a .high + 1 - a .low) % 2 ^ 32), after-byte-at .byte-at .ok)
 
 returns-4 : tie.Need-returns-4
 unfolding bitsAt
 returns-4 c =
-    let a = c .before .before .before .before .before .args in
-    rw (power (a .high + 1 - a .low) (omega arith), c .before .before .before .byte-at .ensures)
+    let after-byte-at = c .before .before .before in
+    let a = after-byte-at .before .before .args in
+    rw (power (a .high + 1 - a .low) (omega arith), after-byte-at .byte-at .ensures)
 
 pub bits-at-spec : {M : Type 1} → statement M
 bits-at-spec =
     tie.close
-    (tie.spec
-    byte-at-requires
-    returns
-    cast-result
-    shr-result
-    returns-2
-    returns-3
-    cast-result-2
-    shr-result-2
-    add-result
-    sub-result
-    shl-result
-    rem-result
-    cast-result-3
-    returns-4)
+    (tie.spec byte-at-requires returns cast-result shr-result returns-2 returns-3 cast-result-2 shr-result-2 add-result
+    sub-result shl-result rem-result cast-result-3 returns-4)

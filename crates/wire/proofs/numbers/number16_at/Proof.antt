@@ -1,9 +1,11 @@
 -- The number in two bytes from a place on.
-use denote.Ref.{now}
+use mathlib.Core.Path.{ap, ap₂}
+use mathlib.Core.List.{[], _∷_}
+use Prim.Native.Nat.{ℕ}
 use borrow.Author.Needs.{needs}
 use Rattle.wire.proofs.numbers.number16_at.Statement.{statement}
 use Rattle.wire.proofs.numbers.number16_at.Tie as tie
-use Rattle.wire.proofs.NumberLaws.{number-after}
+use Rattle.wire.proofs.NumberLaws.{read-after}
 
 after-requires : tie.Need-after-requires
 after-requires c κs = search needs
@@ -18,7 +20,11 @@ number16-requires : tie.Need-number16-requires
 number16-requires c κs = search needs
 
 returns : tie.Need-returns
-returns c = cc (number-after 2 (now (c .before .before .before .before .before .args .s)) (c .before .before .before .before .before .args .i))
+returns c =
+    let second = c .before in
+    let first = second .before in
+    let bytes = ap₂ _∷_ (first .byte-at .ensures) (ap (λ (b : ℕ). b ∷ []) (second .byte-at2 .ensures)) in
+    read-after 2 _ _ (first .before .after .ensures) bytes (c .number16 .ensures)
 
 pub number16-at-spec : {M : Type 1} → statement M
 number16-at-spec =

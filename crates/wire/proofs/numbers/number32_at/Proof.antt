@@ -1,9 +1,11 @@
 -- The number in four bytes from a place on.
-use denote.Ref.{now}
+use mathlib.Core.Path.{ap, ap₂}
+use mathlib.Core.List.{[], _∷_}
+use Prim.Native.Nat.{ℕ}
 use borrow.Author.Needs.{needs}
 use Rattle.wire.proofs.numbers.number32_at.Statement.{statement}
 use Rattle.wire.proofs.numbers.number32_at.Tie as tie
-use Rattle.wire.proofs.NumberLaws.{number-after}
+use Rattle.wire.proofs.NumberLaws.{read-after}
 
 after-requires : tie.Need-after-requires
 after-requires c κs = search needs
@@ -24,16 +26,18 @@ number32-requires : tie.Need-number32-requires
 number32-requires c κs = search needs
 
 returns : tie.Need-returns
-returns c = cc (number-after 4 (now (c .before .before .before .before .before .before .before .args .s)) (c .before .before .before .before .before .before .before .args .i))
+returns c =
+    let third = c .before .before in
+    let second = third .before in
+    let first = second .before in
+    let after = first .before .after in
+    let bytes = ap₂ _∷_ (first .byte-at .ensures)
+    (ap₂ _∷_ (second .byte-at2 .ensures)
+    (ap₂ _∷_ (third .byte-at3 .ensures) (ap (λ (b : ℕ). b ∷ []) (c .before .byte-at4 .ensures)))) in
+    read-after 4 _ _ (after .ensures) bytes (c .number32 .ensures)
 
 pub number32-at-spec : {M : Type 1} → statement M
 number32-at-spec =
     tie.close
-    (tie.spec
-    after-requires
-    byte-at-requires
-    byte-at-requires-2
-    byte-at-requires-3
-    byte-at-requires-4
-    number32-requires
+    (tie.spec after-requires byte-at-requires byte-at-requires-2 byte-at-requires-3 byte-at-requires-4 number32-requires
     returns)

@@ -33,10 +33,4 @@ returns-2 c = sym (drop-of-length-le (now (c .before .before .args .s)) (c .befo
 pub after-spec : {M : Type 1} → statement M
 after-spec =
     tie.close
-    (tie.spec
-    sub-result
-    part-result-start
-    part-result-end
-    slice-aggregate-result
-    returns
-    returns-2)
+    (tie.spec sub-result part-result-start part-result-end slice-aggregate-result returns returns-2)

@@ -1,0 +1,1 @@
+// What tables contain, as sections and sheets hold it: proved, and no code. `specs/` has the statements.

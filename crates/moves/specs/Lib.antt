@@ -1,0 +1,2 @@
+-- What the contracts inside `crc` say: nothing that a caller must believe.
+pub mod Moves

@@ -1,0 +1,59 @@
+-- Two answers that say the same are the same answer, and so two steps: each promise allows one outcome.
+use mathlib.Core.Path.{_≡_, refl, sym, _∙_, ap, ap₂}
+use lib.Dec.{eqb}
+use mathlib.Core.Bool.{false}
+use Rattle.wire.specs.If.{if_then_else_}
+use Rattle.verdict.specs.Verdict.{told, numberOf}
+use Rattle.verdict.proofs.Unique.{verdictOf, verdict-back}
+use Rattle.verdict.specs.declared.Verdict.{Verdict}
+use Rattle.verdict.specs.declared.Verdict.the-variants.{Accepted, TooShort, UnknownTable, WrongSyntax, LengthOutside, SizeDiffers, CrcFails, NumberAboveLast, LoopPast, DescriptorPast, BytesLeft}
+use Rattle.roll.specs.Answer.{Says, missing, complete, refusing, toldAnswer}
+use Rattle.roll.specs.Roll.{Outcome, heard}
+use Rattle.roll.specs.declared.Answer.{Answer}
+use Rattle.roll.specs.declared.Answer.the-variants.{Missing, Complete, Refused, NotCurrent, AnotherSubTable, NoSubTable}
+use Rattle.roll.specs.declared.Roll.{Roll}
+use Rattle.roll.specs.declared.Step.{Step}
+
+-- the answer that says this
+answerOf : Says → Answer
+answerOf (missing n) = Missing n
+answerOf complete = Complete
+answerOf (refusing k p) =
+    if eqb k 81 then NotCurrent
+    else if eqb k 82 then AnotherSubTable
+    else if eqb k 83 then NoSubTable
+    else Refused (verdictOf k p)
+
+-- none of the judge's numbers is one of the roll's own
+judges-number : (v : Verdict)
+    → (eqb (numberOf (told v)) 81 ≡ false) × (eqb (numberOf (told v)) 82 ≡ false) × (eqb (numberOf (told v)) 83 ≡ false)
+judges-number Accepted = (refl, refl, refl)
+judges-number TooShort = (refl, refl, refl)
+judges-number UnknownTable = (refl, refl, refl)
+judges-number WrongSyntax = (refl, refl, refl)
+judges-number LengthOutside = (refl, refl, refl)
+judges-number SizeDiffers = (refl, refl, refl)
+judges-number CrcFails = (refl, refl, refl)
+judges-number NumberAboveLast = (refl, refl, refl)
+judges-number (LoopPast p) = (refl, refl, refl)
+judges-number (DescriptorPast p) = (refl, refl, refl)
+judges-number (BytesLeft p) = (refl, refl, refl)
+
+answer-back : (a : Answer) → answerOf (toldAnswer a) ≡ a
+unfolding answerOf
+answer-back (Missing n) = refl
+answer-back Complete = refl
+answer-back (Refused v) = let h = judges-number v in rw (h .0, h .1, h .2) (ap Refused (verdict-back v))
+answer-back NotCurrent = refl
+answer-back AnotherSubTable = refl
+answer-back NoSubTable = refl
+
+pub told-answer-once : (a b : Answer) → toldAnswer a ≡ toldAnswer b → a ≡ b
+told-answer-once a b e = sym (answer-back a) ∙ ap answerOf e ∙ answer-back b
+
+abbrev step : Roll → Answer → Step
+step r a = record { roll = r; answer = a }
+
+pub heard-once : (x y : Step) → heard x ≡ heard y → x ≡ y
+heard-once x y e =
+    ap₂ step (ap (λ (o : Outcome). o .roll) e) (told-answer-once (x .answer) (y .answer) (ap (λ (o : Outcome). o .says) e))
