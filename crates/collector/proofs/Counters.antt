@@ -57,7 +57,13 @@ one-of n skipped = omega arith
 -- an answer's numbers are small if those of each kind are
 pub small-by : (a : Gain) → a .sections ≤ 5000 → a .bytes ≤ 5000
     → ((k : Kind) → sameKind k pointer ≡ false → sameKind k delivered ≡ false → gainOf a k ≤ 5000) → Small a
-small-by a e w x = record { sections = e; bytes = w; broken = x broken refl refl; filler = x filler refl refl; skipped = x skipped refl refl }
+small-by a e w x = record {
+  sections = e;
+  bytes = w;
+  broken = x broken refl refl;
+  filler = x filler refl refl;
+  skipped = x skipped refl refl;
+}
 
 -- what a packet adds of each kind, by what it adds of those that the code counts apart
 pub added-by : (e : Gain) (lost : ℕ) (start : Bool) (n : Kind → ℕ) → pointCount start ≡ n pointer → e .bytes ≡ n delivered
