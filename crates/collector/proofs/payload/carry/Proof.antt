@@ -40,6 +40,15 @@ module _ (k : tie.After-front-of) where
   l-long : length l ≤ front .bytes
   l-long = omega (arith, length-take (front .bytes) (drop (front .from) (s .args .packet .now)))
 
+-- where that stretch is known, from where it has gone; and where it has gone, from the arm in which sections follow
+abbrev known : tie.After-go-on → tie.After-front-of
+known g = g .before .before .before
+
+abbrev gone : tie.Then1 → tie.After-go-on
+gone i =
+    let after-slice-known3 = i .before .before .before in
+    after-slice-known3 .before .before
+
 front-of-requires : tie.Need-front-of-requires
 front-of-requires c κs = search needs
 
@@ -49,18 +58,12 @@ go-on-requires c κs =
     ((omega arith, omega arith, omega (arith, inside k), omega arith, omega arith), s k .pre .stands)
 
 add-sections : tie.Need-add-sections
-add-sections c =
-    let after-out = c .before .before .before in
-    let after-go-on = after-out .before .before .before in
-    let after-front-of = after-go-on .before .before .before in
-    omega (arith, inside after-front-of)
+add-sections c = omega (arith, inside (known (gone (c .before))))
 
 sections-requires : tie.Need-sections-requires
 sections-requires c κs =
-    let then1 = c .before .before .before in
-    let after-slice-known3 = then1 .before .before .before in
-    let g = after-slice-known3 .before .before in
-    let k = g .before .before .before in
+    let g = gone (c .before .before .before) in
+    let k = known g in
     (
       omega (arith, inside k),
       omega arith,
@@ -80,9 +83,8 @@ both-requires c κs =
     let after-hold2 = c .before .before .before in
     let t = after-hold2 .before in
     let after-struct-known = t .before .before .before in
-    let after-out = after-struct-known .before .before .before in
-    let g = after-out .before .before .before in
-    let k = g .before .before .before in
+    let g = gone (after-struct-known .before) in
+    let k = known g in
     (
       small-of _ _ (kept-gone (not (s k .args .start)) (h k) (l k))
           (omega (arith, inside k, length-append (h k) (l k), h-long k, l-long k)) (g .go-on .ensures),
@@ -102,9 +104,8 @@ returns c =
     let t = after-slice-known5 .before .before in
     let after-struct-known = t .before .before .before in
     let i = after-struct-known .before in
-    let after-slice-known3 = i .before .before .before in
-    let g = after-slice-known3 .before .before in
-    let k = g .before .before .before in
+    let g = gone i in
+    let k = known g in
     let a = s k .args in
     carry-start (a .hold .now) (a .out .now) (a .packet .now) (a .n) (a .from) (a .start) (i .if1 .taken)
     (s k .pre .from-within) (front k) (k .front-of .ensures) _ _ _ _ _ _ (g .go-on .ensures) (t .sections .ensures)
@@ -120,7 +121,7 @@ returns-2 : tie.Need-returns-2
 returns-2 c =
     let after-slice-known3 = c .before .before .before in
     let g = after-slice-known3 .before .before in
-    let k = g .before .before .before in
+    let k = known g in
     let a = s k .args in
     carry-on (a .hold .now) (a .out .now) (a .packet .now) (a .n) (a .from) (a .start) (c .if1 .left) (front k)
     (k .front-of .ensures) _ _ _ (g .go-on .ensures)

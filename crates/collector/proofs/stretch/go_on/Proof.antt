@@ -16,6 +16,10 @@ start k =
     let after-slice-known2 = k .before .before .before in
     after-slice-known2 .before .before .before
 
+-- something is in hand there
+abbrev some : tie.After-looked → tie.Else1
+some k = k .before .before
+
 -- in the arm of a whole section: the section's bytes, and that they are there
 abbrev long : tie.After-look → ℕ
 long c = c .look .given .0 .0
@@ -26,7 +30,7 @@ fits-in : (c : tie.After-look)
 fits-in c =
     let k = c .before .before in
     let s = start k in
-    whole-in (given s) (s .args .out .now) (s .args .keep) (k .before .before .if1 .left) (k .looked .result)
+    whole-in (given s) (s .args .out .now) (s .args .keep) (some k .if1 .left) (k .looked .result)
     (k .looked .ensures) (long c) (c .look .given .1)
 
 returns : tie.Need-returns
@@ -45,9 +49,8 @@ copy-at-requires : tie.Need-copy-at-requires
 copy-at-requires c κs =
     let after-enum-told = c .before .before in
     let k = after-enum-told .before .before in
-    let if1 = k .before .before .if1 in
     let s = start k in
-    let f = going-in (given s) (s .args .out .now) (s .args .keep) (if1 .left) (k .looked .result)
+    let f = going-in (given s) (s .args .out .now) (s .args .keep) (some k .if1 .left) (k .looked .result)
     (k .looked .ensures) (after-enum-told .enum-told .given .1) in
     (omega arith, omega arith)
 
@@ -63,9 +66,8 @@ returns-2 c =
     let t = after-copy-at .before .before in
     let enum-told = t .before .enum-told in
     let k = t .before .before .before in
-    let if1 = k .before .before .if1 in
     let s = start k in
-    end-kept (given s) (s .args .out .now) (s .args .keep) (if1 .left) (k .looked .result)
+    end-kept (given s) (s .args .out .now) (s .args .keep) (some k .if1 .left) (k .looked .result)
     (k .looked .ensures) (t .if2 .taken) (enum-told .given .1) _ (after-copy-at .copy-at .ensures)
 
 add-r-2 : tie.Need-add-r-2
@@ -116,9 +118,8 @@ same-length-2 c = search needs
 returns-3 : tie.Need-returns-3
 returns-3 c =
     let k = c .before .before .before in
-    let if1 = k .before .before .if1 in
     let s = start k in
-    end-dropped (given s) (s .args .out .now) (s .args .keep) (if1 .left) (k .looked .result)
+    end-dropped (given s) (s .args .out .now) (s .args .keep) (some k .if1 .left) (k .looked .result)
     (k .looked .ensures) (c .if2 .left) (c .before .enum-told .given .1)
 
 same-length-3 : tie.Need-same-length-3
@@ -127,9 +128,8 @@ same-length-3 c = search needs
 returns-4 : tie.Need-returns-4
 returns-4 c =
     let k = c .before .before in
-    let if1 = k .before .before .if1 in
     let s = start k in
-    end-over (given s) (s .args .out .now) (s .args .keep) (if1 .left) (k .looked .result)
+    end-over (given s) (s .args .out .now) (s .args .keep) (some k .if1 .left) (k .looked .result)
     (k .looked .ensures) (c .enum-told2 .given .1)
 
 same-length-4 : tie.Need-same-length-4
@@ -145,7 +145,7 @@ returns-5 c =
     let copy-at2 = after-out .before .copy-at2 in
     let k = arm c .before .before in
     let s = start k in
-    end-whole (given s) (s .args .out .now) (s .args .keep) (k .before .before .if1 .left) (k .looked .result)
+    end-whole (given s) (s .args .out .now) (s .args .keep) (some k .if1 .left) (k .looked .result)
     (k .looked .ensures) (long (arm c)) (arm c .look .given .1) _ _
     (copy-at2 .ensures) (after-copy-at3 .copy-at3 .ensures)
 
