@@ -4,13 +4,16 @@ use mathlib.Core.Path.{_≡_, refl, sym, ap, _∙_, subst}
 use mathlib.Core.List.{List, [], _∷_, flatten}
 use lib.ListN.{length, take, drop}
 use lib.Seq.{take-append-seam}
-use Rattle.collector.specs.Each.{Each}
-use Rattle.collector.specs.Rules.{plain, holding, takenIn}
-use Rattle.collector.specs.Refusals.{beforeOf, cannotStand, Ruling, refused, repeated, takes, ruling}
-use Rattle.collector.specs.Refusals as Refusals
-use Rattle.collector.specs.Collected.{over, outcomeOf}
-use Rattle.collector.proofs.Kept.{WholeSection}
+use Rattle.wire.specs.Each.{Each}
+use Rattle.wire.specs.Sections.{WholeSection}
+use Rattle.copy.specs.Laid.{over}
+use Rattle.packet.specs.Ruling.{Carried, Ruling, refused, repeated, takes, ruling}
+use Rattle.packet.specs.Ruling as Ruled
+use Rattle.collector.specs.Rules.{Story, plain, holding, storyAfter, delivered, delivers}
+use Rattle.collector.specs.Refusals.{beforeOf, cannotStand, tooSmall}
+use Rattle.collector.specs.Collected.{outcomeOf, deliveredOf}
 use Rattle.collector.specs.declared.Record as of
+use Rattle.collector.proofs.StoryLaws.{sections-each}
 use Rattle.history.specs.Run.{cut}
 use Rattle.history.proofs.Agrees.{cut-whole, whole-taken}
 use Rattle.parts.specs.Parts.{part}
@@ -18,6 +21,7 @@ use Rattle.parts.specs.Room as room
 use Rattle.parts.specs.Room.{AllWhole, HandsSections}
 use Rattle.parts.proofs.Cuts.{sections-handed}
 use Rattle.cabinet.specs.Collect.{recordIn, Outcome, outcomeSays, collecting}
+use Rattle.cabinet.specs.declared.collect.Record.{Record}
 use Rattle.calls.specs.Collects.{Promised}
 use Rattle.calls.specs.Sections.{HandsOutAll}
 
@@ -51,17 +55,23 @@ front-out secs out whole =
       sized = refl;
     }))
 
-by-ruling : (r : of.Record) (hold out : List ℕ) (z : Ruling) → Hands (outcomeSays (outcomeOf r hold out z))
-by-ruling r hold out (refused n) = none-out out
-by-ruling r hold out repeated = none-out out
-by-ruling r hold out Refusals.bare = none-out out
-by-ruling r hold out (takes q) =
-    front-out (takenIn plain (beforeOf r) (holding (take (r .in_hand) hold)) q .sections) out
-    (whole-taken (beforeOf r) (take (r .in_hand) hold) q)
+-- the story of a packet that is taken
+abbrev storyOf : of.Record → List ℕ → Carried ℕ → Story ℕ
+storyOf r hold q = storyAfter delivers plain (beforeOf r) (holding (take (r .in_hand) hold)) q
+
+by-ruling : (before : Record) (r : of.Record) (hold out : List ℕ) (z : Ruling)
+    → Hands (outcomeSays before (outcomeOf r hold out z))
+by-ruling before r hold out (refused n) = none-out out
+by-ruling before r hold out repeated = none-out out
+by-ruling before r hold out Ruled.bare = none-out out
+by-ruling before r hold out (takes q) =
+    front-out (deliveredOf (storyOf r hold q)) out
+    (sections-each delivers plain delivered WholeSection (storyOf r hold q .sections)
+    (whole-taken (beforeOf r) (take (r .in_hand) hold) q))
 
 pub hands-out-all : HandsOutAll Promised
 unfolding collecting
 hands-out-all r hold out packet o is =
     rw is
-    (by-ruling (recordIn r) hold out
-    (ruling (cannotStand (recordIn r) hold) (r .pid) (beforeOf (recordIn r)) (length hold) (length out) packet))
+    (by-ruling r (recordIn r) hold out
+    (ruling (tooSmall (length hold) (length out)) (cannotStand (recordIn r) hold) (r .pid) (beforeOf (recordIn r)) packet))
