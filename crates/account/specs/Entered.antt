@@ -29,7 +29,13 @@ keptAs a hold out = record { account = a; hold = hold; out = out }
 abbrev pub tallied : Account → Record → Told → Account
 tallied a r (refused n) = record { rec = r; taken = a .taken; repeated = a .repeated; refused = (a .refused + 1) % 2 ^ 64; sections = a .sections }
 tallied a r repeated = record { rec = r; taken = a .taken; repeated = (a .repeated + 1) % 2 ^ 64; refused = a .refused; sections = a .sections }
-tallied a r (taken sections bytes) = record { rec = r; taken = (a .taken + 1) % 2 ^ 64; repeated = a .repeated; refused = a .refused; sections = (a .sections + sections) % 2 ^ 64 }
+tallied a r (taken sections bytes) = record {
+  rec = r;
+  taken = (a .taken + 1) % 2 ^ 64;
+  repeated = a .repeated;
+  refused = a .refused;
+  sections = (a .sections + sections) % 2 ^ 64;
+}
 
 -- what is kept after a packet that had this outcome
 abbrev pub enteredAs : Account → Outcome → Kept

@@ -83,7 +83,8 @@ fn account_for(p: Place, bytes: &[u8]) -> Account
 // The buffer's first n bytes have come, of which the first are those that were left.
 fn absorb(p: Place, buf: &mut [u8], hold: &mut [u8], out: &mut [u8], n: usize) -> Place
     requires { ⌜ n ≤ length (now buf) ⌝ }
-    ensures { λ r. ⌜ stateAs r (now (buf .exit)) (now (hold .exit)) (now (out .exit)) ≡ absorbed n (stateAs p (now (buf .entry)) (now (hold .entry)) (now (out .entry))) ⌝ }
+    ensures { λ r. ⌜ stateAs r (now (buf .exit)) (now (hold .exit)) (now (out .exit))
+        ≡ absorbed n (stateAs p (now (buf .entry)) (now (hold .entry)) (now (out .entry))) ⌝ }
 {
     if n < 188 {
         let account = p.account;
@@ -109,7 +110,8 @@ fn absorb(p: Place, buf: &mut [u8], hold: &mut [u8], out: &mut [u8], n: usize) -
 // "A last piece under 188 bytes counts as refused (41)"
 fn last_piece(p: Place, buf: &[u8], hold: &mut [u8], out: &mut [u8]) -> Account
     requires { ⌜ p .left ≤ length (now buf) ⌝ }
-    ensures { λ r. ⌜ keptAs r (now (hold .exit)) (now (out .exit)) ≡ lastPiece p (now (buf .entry)) (now (hold .entry)) (now (out .entry)) ⌝ }
+    ensures { λ r. ⌜ keptAs r (now (hold .exit)) (now (out .exit))
+        ≡ lastPiece p (now (buf .entry)) (now (hold .entry)) (now (out .entry)) ⌝ }
 {
     let account = p.account;
     if !p.begun {
@@ -125,7 +127,8 @@ fn last_piece(p: Place, buf: &[u8], hold: &mut [u8], out: &mut [u8]) -> Account
 // The input is at its end.
 fn finish(p: Place, buf: &[u8], hold: &mut [u8], out: &mut [u8]) -> Place
     requires { ⌜ p .left ≤ length (now buf) ⌝ }
-    ensures { λ r. ⌜ stateAs r (now (buf .entry)) (now (hold .exit)) (now (out .exit)) ≡ finished (stateAs p (now (buf .entry)) (now (hold .entry)) (now (out .entry))) ⌝ }
+    ensures { λ r. ⌜ stateAs r (now (buf .entry)) (now (hold .exit)) (now (out .exit))
+        ≡ finished (stateAs p (now (buf .entry)) (now (hold .entry)) (now (out .entry))) ⌝ }
 {
     let account = last_piece(p, buf, hold, out);
     Place {
@@ -139,7 +142,8 @@ fn finish(p: Place, buf: &[u8], hold: &mut [u8], out: &mut [u8]) -> Place
 // What a read, made to the index left of the buffer, makes of the place, the buffer and the rooms.
 pub fn heard(p: Place, came: Came, buf: &mut [u8], hold: &mut [u8], out: &mut [u8]) -> Place
     requires { ⌜ Fits (p .left) (came .got) (length (now buf)) ⌝ }
-    ensures { λ r. ⌜ stateAs r (now (buf .exit)) (now (hold .exit)) (now (out .exit)) ≡ heardAs (came .got) (stateAs p (now (buf .entry)) (now (hold .entry)) (now (out .entry))) ⌝ }
+    ensures { λ r. ⌜ stateAs r (now (buf .exit)) (now (hold .exit)) (now (out .exit))
+        ≡ heardAs (came .got) (stateAs p (now (buf .entry)) (now (hold .entry)) (now (out .entry))) ⌝ }
 {
     let got = reading::got_of(came);
     let left = p.left;

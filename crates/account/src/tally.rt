@@ -1,4 +1,5 @@
-// The account: the collector's record, how the packets fared, and the sections that came out. Its own four counters run round past 2^64 - 1.
+// The account: the collector's record, how the packets fared, and the sections that came out. Its own four counters run
+// round past 2^64 - 1.
 use collector::Answer;
 use collector::Record;
 ghost use mathlib.Core.Path.{_≡_};
@@ -60,7 +61,8 @@ fn one_more(a: Account, rec: Record, answer: Answer) -> Account
 
 // A packet, or the last piece of the input, which the collector refuses where it is short.
 pub fn enter(a: Account, hold: &mut [u8], out: &mut [u8], packet: &[u8]) -> Account
-    ensures { λ r. ⌜ keptAs r (now (hold .exit)) (now (out .exit)) ≡ entered (keptAs a (now (hold .entry)) (now (out .entry))) (now (packet .entry)) ⌝ }
+    ensures { λ r. ⌜ keptAs r (now (hold .exit)) (now (out .exit))
+        ≡ entered (keptAs a (now (hold .entry)) (now (out .entry))) (now (packet .entry)) ⌝ }
 {
     let rec = a.rec;
     let s = collector::step(rec, hold, out, packet);
@@ -72,7 +74,8 @@ pub fn enter(a: Account, hold: &mut [u8], out: &mut [u8], packet: &[u8]) -> Acco
 // The whole packets among the first n bytes, one after another.
 pub fn enter_all(a: Account, hold: &mut [u8], out: &mut [u8], bytes: &[u8], n: usize) -> Account
     requires { ⌜ n ≤ length (now bytes) ⌝ }
-    ensures { λ r. ⌜ keptAs r (now (hold .exit)) (now (out .exit)) ≡ enteredAll (keptAs a (now (hold .entry)) (now (out .entry))) (pieces (n / 188) (now (bytes .entry))) ⌝ }
+    ensures { λ r. ⌜ keptAs r (now (hold .exit)) (now (out .exit))
+        ≡ enteredAll (keptAs a (now (hold .entry)) (now (out .entry))) (pieces (n / 188) (now (bytes .entry))) ⌝ }
 {
     let mut b = a;
     let mut i = 0;

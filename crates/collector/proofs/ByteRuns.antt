@@ -62,23 +62,39 @@ pub all-none : (f : Fate) (s : Story ℕ) → all f [] s ≡ s
 all-none f s = λ i. record { marks = append-nil (s .marks) i; sections = s .sections }
 
 all-cons : (f : Fate) (b : ℕ) (l : List ℕ) (s : Story ℕ) → all f l (given f b s) ≡ all f (b ∷ l) s
-all-cons f b l s = λ i. record { marks = append-assoc (s .marks) (record { byte = b; fate = f } ∷ []) (marked f l) i; sections = s .sections }
+all-cons f b l s = λ i.
+    record {
+      marks = append-assoc (s .marks) (record { byte = b; fate = f } ∷ []) (marked f l) i;
+      sections = s .sections;
+    }
 
 pub all-append : (f : Fate) (a c : List ℕ) (s : Story ℕ) → all f c (all f a s) ≡ all f (a ++ c) s
-all-append f a c s = λ i. record { marks = (append-assoc (s .marks) (marked f a) (marked f c) ∙ ap (λ (l : List (Mark ℕ)). s .marks ++ l) (sym (marked-append f a c))) i; sections = s .sections }
+all-append f a c s = λ i.
+    record {
+      marks = (append-assoc (s .marks) (marked f a) (marked f c)
+          ∙ ap (λ (l : List (Mark ℕ)). s .marks ++ l) (sym (marked-append f a c)))
+          i;
+      sections = s .sections;
+    }
 
 pub hand-all : (l : List ℕ) (s : Story ℕ) → handOf (all in-hand l s) ≡ handOf s ++ l
 hand-all l s = bytesOf-more in-hand in-hand (s .marks) l
 
 module _ (comes : List ℕ → Kind) where
-  pub stretch-append : (after : Mode) (n : Next ℕ) (a c : List ℕ) → stretch comes plain after n (a ++ c) ≡ stretch comes plain after (stretch comes plain after n a) c
+  pub stretch-append : (after : Mode) (n : Next ℕ) (a c : List ℕ)
+      → stretch comes plain after n (a ++ c) ≡ stretch comes plain after (stretch comes plain after n a) c
   stretch-append after n [] c = refl
   stretch-append after n (b ∷ a) c = stretch-append after (byteIn comes plain after (n .mode) b (n .story)) a c
 
   -- bytes whose fate is fixed at once
-  pub pass : (after m : Mode) (f : Fate) → ((b : ℕ) (s : Story ℕ) → byteIn comes plain after m b s ≡ place m (given f b s)) → (s : Story ℕ) (l : List ℕ) → stretch comes plain after (place m s) l ≡ place m (all f l s)
+  pub pass : (after m : Mode) (f : Fate)
+      → ((b : ℕ) (s : Story ℕ) → byteIn comes plain after m b s ≡ place m (given f b s)) → (s : Story ℕ) (l : List ℕ)
+      → stretch comes plain after (place m s) l ≡ place m (all f l s)
   pass after m f e s [] = ap (place m) (sym (all-none f s))
-  pass after m f e s (b ∷ l) = ap (λ (n : Next ℕ). stretch comes plain after n l) (e b s) ∙ pass after m f e (given f b s) l ∙ ap (place m) (all-cons f b l s)
+  pass after m f e s (b ∷ l) =
+      ap (λ (n : Next ℕ). stretch comes plain after n l) (e b s)
+      ∙ pass after m f e (given f b s) l
+      ∙ ap (place m) (all-cons f b l s)
 
   -- the next byte of the section in hand, where its size is known
   byte-inside : (after : Mode) (b : ℕ) (s : Story ℕ) (z : Size) → sizeOf (handOf s ++ (b ∷ [])) ≡ z
@@ -88,18 +104,23 @@ module _ (comes : List ℕ → Kind) where
       λ i. grown after (comes (map-id run i)) ((ap sizeOf (map-id run) ∙ e) i) (given in-hand b s)
 
   -- bytes that end nothing
-  grow : (after : Mode) (s : Story ℕ) (l : List ℕ) → ((a c : List ℕ) → a ++ c ≡ l → sizeOf (handOf s ++ a) ≡ going) → stretch comes plain after (place inside s) l ≡ place inside (all in-hand l s)
+  grow : (after : Mode) (s : Story ℕ) (l : List ℕ) → ((a c : List ℕ) → a ++ c ≡ l → sizeOf (handOf s ++ a) ≡ going)
+      → stretch comes plain after (place inside s) l ≡ place inside (all in-hand l s)
   grow after s [] f = ap (place inside) (sym (all-none in-hand s))
   grow after s (b ∷ l) f =
       let s′ : Story ℕ = given in-hand b s in
       let hand : handOf s′ ≡ handOf s ++ (b ∷ []) = hand-all (b ∷ []) s in
       ap (λ (n : Next ℕ). stretch comes plain after n l) (byte-inside after b s going (f (b ∷ []) l refl))
-      ∙ grow after s′ l (λ a c e. ap (λ (h : List ℕ). sizeOf (h ++ a)) hand ∙ ap sizeOf (append-assoc (handOf s) (b ∷ []) a) ∙ f (b ∷ a) c (ap (λ (x : List ℕ). b ∷ x) e))
+      ∙ grow after s′ l
+      (λ a c e. ap (λ (h : List ℕ). sizeOf (h ++ a)) hand
+      ∙ ap sizeOf (append-assoc (handOf s) (b ∷ []) a)
+      ∙ f (b ∷ a) c (ap (λ (x : List ℕ). b ∷ x) e))
       ∙ ap (place inside) (all-cons in-hand b l s)
 
   -- ---- the run in hand is too short for a header, or not at its end
 
-  pub grow-short : (after : Mode) (s : Story ℕ) (l : List ℕ) → length (handOf s ++ l) < 3 → stretch comes plain after (place inside s) l ≡ place inside (all in-hand l s)
+  pub grow-short : (after : Mode) (s : Story ℕ) (l : List ℕ) → length (handOf s ++ l) < 3
+      → stretch comes plain after (place inside s) l ≡ place inside (all in-hand l s)
   grow-short after s l k =
       let h : List ℕ = handOf s in
       grow after s l (λ a c e. size-short (h ++ a) (omega (arith, length-append h a, length-append h l, length-append a c, ap length e)))
@@ -108,9 +129,12 @@ module _ (comes : List ℕ → Kind) where
   part-going : (h l a c : List ℕ) → a ++ c ≡ l → totalOf (h ++ l) ≤ 4096 → length (h ++ a) < totalOf (h ++ l) → sizeOf (h ++ a) ≡ going
   part-going h l a c e k j =
       let v : (h ++ a) ++ c ≡ h ++ l = append-assoc h a c ∙ ap (λ (x : List ℕ). h ++ x) e in
-      prefix-going (h ++ a) c (subst (λ (x : List ℕ). totalOf x ≤ 4096) (sym v) k) (subst (λ (x : List ℕ). length (h ++ a) < totalOf x) (sym v) j)
+      prefix-going (h ++ a) c (subst (λ (x : List ℕ). totalOf x ≤ 4096) (sym v) k)
+      (subst (λ (x : List ℕ). length (h ++ a) < totalOf x) (sym v) j)
 
-  pub grow-going : (after : Mode) (s : Story ℕ) (l : List ℕ) → totalOf (handOf s ++ l) ≤ 4096 → length (handOf s ++ l) < totalOf (handOf s ++ l) → stretch comes plain after (place inside s) l ≡ place inside (all in-hand l s)
+  pub grow-going : (after : Mode) (s : Story ℕ) (l : List ℕ) → totalOf (handOf s ++ l) ≤ 4096
+      → length (handOf s ++ l) < totalOf (handOf s ++ l)
+      → stretch comes plain after (place inside s) l ≡ place inside (all in-hand l s)
   grow-going after s l k j =
       let h : List ℕ = handOf s in
       grow after s l (λ a c e. part-going h l a c e k (omega (arith, length-append h a, length-append h l, length-append a c, ap length e)))
@@ -119,42 +143,67 @@ module _ (comes : List ℕ → Kind) where
 
   -- h with the first j + 1 bytes of l
   cut-long : (h l : List ℕ) (j : ℕ) → j < length l → length (h ++ (take j l ++ (getD l j 0 ∷ []))) ≡ length h + suc j
-  cut-long h l j k = omega (arith, length-append h (take j l ++ (getD l j 0 ∷ [])), length-append (take j l) (getD l j 0 ∷ []), length-take j l)
+  cut-long h l j k =
+      omega (
+        arith,
+        length-append h (take j l ++ (getD l j 0 ∷ [])),
+        length-append (take j l) (getD l j 0 ∷ []),
+        length-take j l,
+      )
 
   -- what stands before the cut has the whole's header
-  cut-total : (h l : List ℕ) (j : ℕ) → j < length l → 3 ≤ length h + suc j → totalOf (h ++ (take j l ++ (getD l j 0 ∷ []))) ≡ totalOf (h ++ l)
+  cut-total : (h l : List ℕ) (j : ℕ) → j < length l → 3 ≤ length h + suc j
+      → totalOf (h ++ (take j l ++ (getD l j 0 ∷ []))) ≡ totalOf (h ++ l)
   cut-total h l j k w =
       let s : List ℕ = h ++ (take j l ++ (getD l j 0 ∷ [])) in
-      let e : s ++ drop (suc j) l ≡ h ++ l = ap (λ (x : List ℕ). (h ++ x) ++ drop (suc j) l) (sym (take-suc l j 0 k)) ∙ append-assoc h (take (suc j) l) (drop (suc j) l) ∙ ap (λ (x : List ℕ). h ++ x) (take-append-drop (suc j) l) in
+      let e : s ++ drop (suc j) l ≡ h ++ l =
+      ap (λ (x : List ℕ). (h ++ x) ++ drop (suc j) l) (sym (take-suc l j 0 k))
+      ∙ append-assoc h (take (suc j) l) (drop (suc j) l)
+      ∙ ap (λ (x : List ℕ). h ++ x) (take-append-drop (suc j) l) in
       sym (total-prefix s (drop (suc j) l) (subst (λ (n : ℕ). 3 ≤ n) (sym (cut-long h l j k)) w)) ∙ ap totalOf e
 
   -- the byte at index j settles the section in hand
-  settles : (after : Mode) (s : Story ℕ) (l : List ℕ) (j : ℕ) (z : Size) → j < length l → ((a c : List ℕ) → a ++ c ≡ take j l → sizeOf (handOf s ++ a) ≡ going) → sizeOf (handOf s ++ (take j l ++ (getD l j 0 ∷ []))) ≡ z
-      → stretch comes plain after (place inside s) l ≡ stretch comes plain after (grown after (comes (handOf s ++ take (suc j) l)) z (all in-hand (take (suc j) l) s)) (drop (suc j) l)
+  settles : (after : Mode) (s : Story ℕ) (l : List ℕ) (j : ℕ) (z : Size) → j < length l
+      → ((a c : List ℕ) → a ++ c ≡ take j l → sizeOf (handOf s ++ a) ≡ going)
+      → sizeOf (handOf s ++ (take j l ++ (getD l j 0 ∷ []))) ≡ z
+      → stretch comes plain after (place inside s) l
+      ≡ stretch comes plain after
+      (grown after (comes (handOf s ++ take (suc j) l)) z (all in-hand (take (suc j) l) s)) (drop (suc j) l)
   settles after s l j z k f e =
       let a : List ℕ = take j l in
       let b : ℕ = getD l j 0 in
       let s′ : Story ℕ = all in-hand a s in
       let cut : take (suc j) l ≡ a ++ (b ∷ []) = take-suc l j 0 k in
-      let hand : handOf s′ ++ (b ∷ []) ≡ handOf s ++ (a ++ (b ∷ [])) = ap (λ (h : List ℕ). h ++ (b ∷ [])) (hand-all a s) ∙ append-assoc (handOf s) a (b ∷ []) in
+      let hand : handOf s′ ++ (b ∷ []) ≡ handOf s ++ (a ++ (b ∷ [])) =
+      ap (λ (h : List ℕ). h ++ (b ∷ [])) (hand-all a s) ∙ append-assoc (handOf s) a (b ∷ []) in
       ap (stretch comes plain after (place inside s)) (split-at l j 0 k)
       ∙ stretch-append after (place inside s) a (b ∷ drop (suc j) l)
       ∙ ap (λ (n : Next ℕ). stretch comes plain after n (b ∷ drop (suc j) l)) (grow after s a f)
       ∙ ap (λ (n : Next ℕ). stretch comes plain after n (drop (suc j) l)) (byte-inside after b s′ z (ap sizeOf hand ∙ e))
-      ∙ ap (λ (x : List ℕ). stretch comes plain after (grown after (comes x) z (given in-hand b s′)) (drop (suc j) l)) (hand ∙ ap (λ (x : List ℕ). handOf s ++ x) (sym cut))
-      ∙ ap (λ (x : Story ℕ). stretch comes plain after (grown after (comes (handOf s ++ take (suc j) l)) z x) (drop (suc j) l)) (all-append in-hand a (b ∷ []) s ∙ ap (λ (x : List ℕ). all in-hand x s) (sym cut))
+      ∙ ap (λ (x : List ℕ). stretch comes plain after (grown after (comes x) z (given in-hand b s′)) (drop (suc j) l))
+      (hand ∙ ap (λ (x : List ℕ). handOf s ++ x) (sym cut))
+      ∙ ap
+      (λ (x : Story ℕ). stretch comes plain after (grown after (comes (handOf s ++ take (suc j) l)) z x)
+      (drop (suc j) l))
+      (all-append in-hand a (b ∷ []) s ∙ ap (λ (x : List ℕ). all in-hand x s) (sym cut))
 
   -- a section that declares too much takes the rest of its stretch with it
   broken-more : (a c : List ℕ) (s : Story ℕ) → all (done broken) c (brokenOff (all in-hand a s)) ≡ brokenOff (all in-hand (a ++ c) s)
   broken-more a c s = λ i. record { marks = e i; sections = s .sections }
     where
-      e : settled (done broken) (s .marks ++ marked in-hand a) ++ marked (done broken) c ≡ settled (done broken) (s .marks ++ marked in-hand (a ++ c))
+      e : settled (done broken) (s .marks ++ marked in-hand a) ++ marked (done broken) c
+          ≡ settled (done broken) (s .marks ++ marked in-hand (a ++ c))
       e =
-          ap (λ (l : List (Mark ℕ)). settled (done broken) (s .marks ++ marked in-hand a) ++ l) (sym (settled-marked (done broken) in-hand c))
+          ap (λ (l : List (Mark ℕ)). settled (done broken) (s .marks ++ marked in-hand a) ++ l)
+          (sym (settled-marked (done broken) in-hand c))
           ∙ sym (settled-append (done broken) (s .marks ++ marked in-hand a) (marked in-hand c))
-          ∙ ap (settled (done broken)) (append-assoc (s .marks) (marked in-hand a) (marked in-hand c) ∙ ap (λ (l : List (Mark ℕ)). s .marks ++ l) (sym (marked-append in-hand a c)))
+          ∙ ap (settled (done broken))
+          (append-assoc (s .marks) (marked in-hand a) (marked in-hand c)
+          ∙ ap (λ (l : List (Mark ℕ)). s .marks ++ l) (sym (marked-append in-hand a c)))
 
-  pub law-over : (after : Mode) (s : Story ℕ) (l : List ℕ) → length (handOf s) < 3 → 3 ≤ length (handOf s ++ l) → 4096 < totalOf (handOf s ++ l) → stretch comes plain after (place inside s) l ≡ place (outside breaking) (brokenOff (all in-hand l s))
+  pub law-over : (after : Mode) (s : Story ℕ) (l : List ℕ) → length (handOf s) < 3 → 3 ≤ length (handOf s ++ l)
+      → 4096 < totalOf (handOf s ++ l)
+      → stretch comes plain after (place inside s) l ≡ place (outside breaking) (brokenOff (all in-hand l s))
   law-over after s l k w o =
       let h : List ℕ = handOf s in
       let j : ℕ = 2 - length h in
@@ -165,15 +214,22 @@ module _ (comes : List ℕ → Kind) where
       (λ a c e. size-short (h ++ a) (omega (arith, length-append h a, length-append a c, ap length e, length-take j l)))
       (size-over _ (omega (arith, long)) (subst (λ (m : ℕ). 4096 < m) (sym (cut-total h l j below (omega arith))) o))
       ∙ pass after (outside breaking) (done broken) (λ b x. refl) (brokenOff (all in-hand (take (suc j) l) s)) (drop (suc j) l)
-      ∙ ap (place (outside breaking)) (broken-more (take (suc j) l) (drop (suc j) l) s ∙ ap (λ (x : List ℕ). brokenOff (all in-hand x s)) (take-append-drop (suc j) l))
+      ∙ ap (place (outside breaking))
+      (broken-more (take (suc j) l) (drop (suc j) l) s
+      ∙ ap (λ (x : List ℕ). brokenOff (all in-hand x s)) (take-append-drop (suc j) l))
 
-  pub law-whole : (after : Mode) (s : Story ℕ) (l : List ℕ) (k : ℕ) → length (handOf s) + k ≡ totalOf (handOf s ++ l) → 0 < k → totalOf (handOf s ++ l) ≤ 4096 → k ≤ length l
-      → stretch comes plain after (place inside s) l ≡ stretch comes plain after (place after (finished (comes (handOf s ++ take k l)) (all in-hand (take k l) s))) (drop k l)
+  pub law-whole : (after : Mode) (s : Story ℕ) (l : List ℕ) (k : ℕ) → length (handOf s) + k ≡ totalOf (handOf s ++ l)
+      → 0 < k → totalOf (handOf s ++ l) ≤ 4096 → k ≤ length l
+      → stretch comes plain after (place inside s) l
+      ≡ stretch comes plain after (place after (finished (comes (handOf s ++ take k l)) (all in-hand (take k l) s)))
+      (drop k l)
   law-whole after s l zero e some o w = absurd (omega arith)
   law-whole after s l (suc j) e some o w =
       let h : List ℕ = handOf s in
       let below : j < length l = omega arith in
       let c : totalOf (h ++ (take j l ++ (getD l j 0 ∷ []))) ≡ totalOf (h ++ l) = cut-total h l j below (omega arith) in
       settles after s l j whole below
-      (λ a d f. part-going h l a (d ++ drop j l) (sym (append-assoc a d (drop j l)) ∙ ap (λ (x : List ℕ). x ++ drop j l) f ∙ take-append-drop j l) o (omega (arith, length-append h a, length-append a d, ap length f, length-take j l)))
+      (λ a d f. part-going h l a (d ++ drop j l)
+      (sym (append-assoc a d (drop j l)) ∙ ap (λ (x : List ℕ). x ++ drop j l) f ∙ take-append-drop j l) o
+      (omega (arith, length-append h a, length-append a d, ap length f, length-take j l)))
       (size-whole _ (omega (arith, cut-long h l j below)) (subst (λ (m : ℕ). m ≤ 4096) (sym c) o) (cut-long h l j below ∙ e ∙ sym c))

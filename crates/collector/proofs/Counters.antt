@@ -46,6 +46,21 @@ gain-with held sections bytes n skipped p d = refl
 pub with-counts : (r : Record) → recordWith (r .pid) (r .last) (r .in_hand) (λ k. bytesCounted (done k) r) ≡ r
 with-counts r = refl
 
+-- two records that say the same in each field are one
+pub same-record : (r s : Record) → r .pid ≡ s .pid → r .last ≡ s .last → r .in_hand ≡ s .in_hand
+    → r .pointer ≡ s .pointer → r .delivered ≡ s .delivered → r .broken ≡ s .broken → r .filler ≡ s .filler
+    → r .skipped ≡ s .skipped → r ≡ s
+same-record r s pid last held p d b f e = λ i. record {
+  pid = pid i;
+  last = last i;
+  in_hand = held i;
+  pointer = p i;
+  delivered = d i;
+  broken = b i;
+  filler = f i;
+  skipped = e i;
+}
+
 -- a kind's number is no more than all of them together
 pub one-of : (n : Fate → ℕ) (k : Kind) → n (done k) ≤ sumOf n
 one-of n pointer = omega arith
@@ -57,7 +72,13 @@ one-of n skipped = omega arith
 -- an answer's numbers are small if those of each kind are
 pub small-by : (a : Gain) → a .sections ≤ 5000 → a .bytes ≤ 5000
     → ((k : Kind) → sameKind k pointer ≡ false → sameKind k delivered ≡ false → gainOf a k ≤ 5000) → Small a
-small-by a e w x = record { sections = e; bytes = w; broken = x broken refl refl; filler = x filler refl refl; skipped = x skipped refl refl }
+small-by a e w x = record {
+  sections = e;
+  bytes = w;
+  broken = x broken refl refl;
+  filler = x filler refl refl;
+  skipped = x skipped refl refl;
+}
 
 -- what a packet adds of each kind, by what it adds of those that the code counts apart
 pub added-by : (e : Gain) (lost : ℕ) (start : Bool) (n : Kind → ℕ) → pointCount start ≡ n pointer → e .bytes ≡ n delivered

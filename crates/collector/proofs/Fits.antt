@@ -20,7 +20,9 @@ use Rattle.collector.proofs.ByteRuns.{total-prefix}
 -- ---- a record that can stand
 
 module _ (r : Record) (hold : List ℕ) (e : cannotStand r hold ≡ false) where
-  parts : (ltb 8191 (r .pid) ≡ false) × ((counterPast (r .last) ≡ false) × ((ltb 4095 (r .in_hand) ≡ false) × (heldUnfit (r .in_hand) (isNone (r .last)) hold ≡ false)))
+  parts : (ltb 8191 (r .pid) ≡ false)
+      × ((counterPast (r .last) ≡ false)
+      × ((ltb 4095 (r .in_hand) ≡ false) × (heldUnfit (r .in_hand) (isNone (r .last)) hold ≡ false)))
   unfolding cannotStand
   parts =
       let a = or-false (ltb 8191 (r .pid)) _ e in
@@ -36,7 +38,8 @@ module _ (r : Record) (hold : List ℕ) (e : cannotStand r hold ≡ false) where
     more = λ m.
         let n : ℕ = r .in_hand in
         let long : length (take n hold) ≡ n = length-take-le n hold w in
-        let same : totalOf hold ≡ totalOf (take n hold) = ap totalOf (sym (take-append-drop n hold)) ∙ total-prefix (take n hold) (drop n hold) m in
+        let same : totalOf hold ≡ totalOf (take n hold) =
+        ap totalOf (sym (take-append-drop n hold)) ∙ total-prefix (take n hold) (drop n hold) m in
         let a = or-false (ltb 0 n && isNone (r .last)) _ (parts .1 .1 .1) in
         let b = or-false (ltb 0 n && eqb (getD hold 0 0) 255) _ (a .1) in
         let three : 3 ≤ n = omega (arith, long) in
@@ -46,7 +49,9 @@ module _ (r : Record) (hold : List ℕ) (e : cannotStand r hold ≡ false) where
 
 -- ---- what a call has once its packet is judged to carry payload
 
-pub fit-of : (r : Record) (hold out packet : List ℕ) (from : ℕ) (start : Bool) (counter : ℕ) → judged (tooSmall (length hold) (length out)) (cannotStand r hold) (r .pid) packet ≡ has-payload from start counter → Fit (r .in_hand) hold out packet from start
+pub fit-of : (r : Record) (hold out packet : List ℕ) (from : ℕ) (start : Bool) (counter : ℕ)
+    → judged (tooSmall (length hold) (length out)) (cannotStand r hold) (r .pid) packet ≡ has-payload from start counter
+    → Fit (r .in_hand) hold out packet from start
 fit-of r hold out p from start counter e =
     let x = payload-of (tooSmall (length hold) (length out)) (cannotStand r hold) (r .pid) p from start counter e in
     let long : length p ≡ 188 = eqb-true _ _ (not-false _ (x .passed .0)) in
@@ -55,7 +60,8 @@ fit-of r hold out p from start counter e =
     let stand = x .passed .1 .1 .0 in
     let rest = x .passed .1 .1 .1 .1 .1 .1 .1 in
     let adapt = or-false (eqb (control p) 0) _ (rest .0) in
-    let at = payload-in p (eqb (control p) 1) refl (eqb-false _ _ (adapt .0)) (x .has) (or-false (eqb (control p) 3 && ltb 182 (adaptation p)) _ (adapt .1) .0) in
+    let at = payload-in p (eqb (control p) 1) refl (eqb-false _ _ (adapt .0)) (x .has)
+    (or-false (eqb (control p) 3 && ltb 182 (adaptation p)) _ (adapt .1) .0) in
     let few = few-held r hold stand in
     record {
       few = few;
@@ -67,7 +73,10 @@ fit-of r hold out p from start counter e =
       stands = held-stands r hold stand (omega arith);
       points = λ s.
           let flag : startFlag p ≡ true = sym (x .flag) ∙ s in
-          let room : pointerOf p + 2 ≤ length (payloadOf p) = ltb-false _ _ (and-false (startFlag p) _ (and-false (not (eqb (control p) 2)) _ (rest .1 .0) (ap not (ne-eqb _ _ (x .has)))) flag) in
+          let room : pointerOf p + 2 ≤ length (payloadOf p) =
+          ltb-false _ _
+          (and-false (startFlag p) _
+          (and-false (not (eqb (control p) 2)) _ (rest .1 .0) (ap not (ne-eqb _ _ (x .has)))) flag) in
           let there : length (payloadOf p) ≡ length p - from = length-drop (payloadFrom p) p ∙ ap (λ (n : ℕ). length p - n) (sym (x .at)) in
           let same : pointerOf p ≡ getD p from 0 = ap (λ (n : ℕ). getD p n 0) (sym (x .at)) in
           omega (arith, room, there, same, x .at, at .1);

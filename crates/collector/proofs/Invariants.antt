@@ -23,8 +23,10 @@ no-pointer breaking = refl
 module _ (comes : List ℕ → Kind) {A : Type 0} (value : A → ℕ) where
   -- P of the bytes seen and the story; R is what is known of each byte that comes
   pub record Keeps (R : A → Type 0) (P : List A → Story A → Type 0) : Type 0 where
-    pub gives : (f : Fate) → sameFate (done pointer) f ≡ false → ((k : Kind) → ByEnd k → sameFate (done k) f ≡ false) → (b : A) (l : List A) (s : Story A) → R b → P l s → P (l ++ (b ∷ [])) (given f b s)
-    pub ends : (b : A) (l : List A) (s : Story A) → R b → sizeOf (map value (handOf s ++ (b ∷ []))) ≡ whole → P l s → P (l ++ (b ∷ [])) (finished (comes (map value (handOf s ++ (b ∷ [])))) (given in-hand b s))
+    pub gives : (f : Fate) → sameFate (done pointer) f ≡ false → ((k : Kind) → ByEnd k → sameFate (done k) f ≡ false)
+        → (b : A) (l : List A) (s : Story A) → R b → P l s → P (l ++ (b ∷ [])) (given f b s)
+    pub ends : (b : A) (l : List A) (s : Story A) → R b → sizeOf (map value (handOf s ++ (b ∷ []))) ≡ whole → P l s
+        → P (l ++ (b ∷ [])) (finished (comes (map value (handOf s ++ (b ∷ [])))) (given in-hand b s))
     pub breaks : (l : List A) (s : Story A) → P l s → P l (brokenOff s)
 
   module _ (R : A → Type 0) (P : List A → Story A → Type 0) (k : Keeps R P) where
@@ -32,21 +34,26 @@ module _ (comes : List ℕ → Kind) {A : Type 0} (value : A → ℕ) where
     keep-begun true b l s r x = k .gives (done filler) refl (λ j w. w .not-rest filling) b l s r x
     keep-begun false b l s r x = k .gives in-hand refl (λ j w. refl) b l s r x
 
-    keep-grown : (after : Mode) (z : Size) (b : A) (l : List A) (s : Story A) → R b → sizeOf (map value (handOf s ++ (b ∷ []))) ≡ z → P l s → P (l ++ (b ∷ [])) (grown after (comes (map value (handOf s ++ (b ∷ [])))) z (given in-hand b s) .story)
+    keep-grown : (after : Mode) (z : Size) (b : A) (l : List A) (s : Story A) → R b
+        → sizeOf (map value (handOf s ++ (b ∷ []))) ≡ z → P l s
+        → P (l ++ (b ∷ [])) (grown after (comes (map value (handOf s ++ (b ∷ [])))) z (given in-hand b s) .story)
     keep-grown after going b l s r e x = k .gives in-hand refl (λ j w. refl) b l s r x
     keep-grown after whole b l s r e x = k .ends b l s r e x
     keep-grown after too-long b l s r e x = k .breaks (l ++ (b ∷ [])) (given in-hand b s) (k .gives in-hand refl (λ j w. refl) b l s r x)
 
-    keep-byte : (after m : Mode) (b : A) (l : List A) (s : Story A) → R b → P l s → P (l ++ (b ∷ [])) (byteIn comes value after m b s .story)
+    keep-byte : (after m : Mode) (b : A) (l : List A) (s : Story A) → R b → P l s
+        → P (l ++ (b ∷ [])) (byteIn comes value after m b s .story)
     keep-byte after begin b l s r x = keep-begun (eqb (value b) 255) b l s r x
     keep-byte after inside b l s r x = keep-grown after (sizeOf (map value (handOf s ++ (b ∷ [])))) b l s r refl x
     keep-byte after (outside m) b l s r x = k .gives (done (kindOf m)) (no-pointer m) (λ j w. w .not-rest m) b l s r x
 
-    keep-stretch : (after : Mode) (l : List A) (n : Next A) (bs : List A) → Each R bs → P l (n .story) → P (l ++ bs) (stretch comes value after n bs .story)
+    keep-stretch : (after : Mode) (l : List A) (n : Next A) (bs : List A) → Each R bs → P l (n .story)
+        → P (l ++ bs) (stretch comes value after n bs .story)
     keep-stretch after l n [] r x = subst (λ (z : List A). P z (n .story)) (sym (append-nil l)) x
     keep-stretch after l n (b ∷ bs) r x =
         let n′ : Next A = byteIn comes value after (n .mode) b (n .story) in
-        subst (λ (z : List A). P z (stretch comes value after n′ bs .story)) (append-assoc l (b ∷ []) bs) (keep-stretch after (l ++ (b ∷ [])) n′ bs (r .1) (keep-byte after (n .mode) b l (n .story) (r .0) x))
+        subst (λ (z : List A). P z (stretch comes value after n′ bs .story)) (append-assoc l (b ∷ []) bs)
+        (keep-stretch after (l ++ (b ∷ [])) n′ bs (r .1) (keep-byte after (n .mode) b l (n .story) (r .0) x))
 
     pub keep-goes : (l : List A) (s : Story A) (bs : List A) → Each R bs → P l s → P (l ++ bs) (goesOn comes value s bs)
     keep-goes l s bs r x = keep-stretch (outside filling) l (record { mode = resumed (handOf s); story = s }) bs r x
@@ -64,12 +71,21 @@ module _ (comes : List ℕ → Kind) {A : Type 0} (value : A → ℕ) where
           let c : List A = drop (value p) bs in
           let l₁ : List A = l ++ (p ∷ []) in
           let y = keep-goes l₁ (given (done pointer) p s) a (each-take R (value p) bs (r .1)) (points p l s (r .0) x) in
-          let z = keep-sections (l₁ ++ a) (brokenOff (goesOn comes value (given (done pointer) p s) a)) c (each-drop R (value p) bs (r .1)) (k .breaks (l₁ ++ a) (goesOn comes value (given (done pointer) p s) a) y) in
-          subst (λ (q : List A). P q (payload comes value true s (p ∷ bs))) (append-assoc l₁ a c ∙ ap (λ (q : List A). l₁ ++ q) (take-append-drop (value p) bs) ∙ append-assoc l (p ∷ []) bs) z
+          let z = keep-sections (l₁ ++ a) (brokenOff (goesOn comes value (given (done pointer) p s) a)) c
+          (each-drop R (value p) bs (r .1))
+          (k .breaks (l₁ ++ a) (goesOn comes value (given (done pointer) p s) a) y) in
+          subst (λ (q : List A). P q (payload comes value true s (p ∷ bs)))
+          (append-assoc l₁ a c
+          ∙ ap (λ (q : List A). l₁ ++ q) (take-append-drop (value p) bs)
+          ∙ append-assoc l (p ∷ []) bs)
+          z
 
       keep-joined : (t : Bool) (l : List A) (s : Story A) → P l s → P l (joined t s)
       keep-joined true l s x = x
       keep-joined false l s x = k .breaks l s x
 
-      pub keep-taken : (before : Before) (l : List A) (s : Story A) (q : Carried A) → Each R (q .bytes) → P l s → P (l ++ q .bytes) (storyAfter comes value before s q)
-      keep-taken before l s q r x = keep-payload (q .start) l (joined (follows before (q .counter)) s) (q .bytes) r (keep-joined (follows before (q .counter)) l s x)
+      pub keep-taken : (before : Before) (l : List A) (s : Story A) (q : Carried A) → Each R (q .bytes) → P l s
+          → P (l ++ q .bytes) (storyAfter comes value before s q)
+      keep-taken before l s q r x =
+          keep-payload (q .start) l (joined (follows before (q .counter)) s) (q .bytes) r
+          (keep-joined (follows before (q .counter)) l s x)

@@ -52,7 +52,8 @@ module _ {A : Type 0} where
   bytesOf-marked f g (b ∷ l) = ap (λ (x : List A). if sameFate f g then b ∷ x else x) (bytesOf-marked f g l) ∙ marked-if (sameFate f g) b l
 
   -- the bytes of a fate, with bytes of one fate after them
-  pub bytesOf-more : (f g : Fate) (ms : List (Mark A)) (l : List A) → bytesOf f (ms ++ marked g l) ≡ bytesOf f ms ++ (if sameFate f g then l else [])
+  pub bytesOf-more : (f g : Fate) (ms : List (Mark A)) (l : List A)
+      → bytesOf f (ms ++ marked g l) ≡ bytesOf f ms ++ (if sameFate f g then l else [])
   bytesOf-more f g ms l = bytesOf-append f ms (marked g l) ∙ ap (λ (x : List A). bytesOf f ms ++ x) (bytesOf-marked f g l)
 
   pub marked-append : (f : Fate) (a c : List A) → marked f (a ++ c) ≡ marked f a ++ marked f c
@@ -72,14 +73,16 @@ module _ {A : Type 0} where
   settled-bytes f (m ∷ ms) = ap (λ (l : List A). m .byte ∷ l) (settled-bytes f ms)
 
   -- where a test finds after the settling what another finds before it, the bytes are the same
-  settled-as : (f g h : Fate) → ((k : Fate) → sameFate g (outOfHand f k) ≡ sameFate h k) → (ms : List (Mark A)) → bytesOf g (settled f ms) ≡ bytesOf h ms
+  settled-as : (f g h : Fate) → ((k : Fate) → sameFate g (outOfHand f k) ≡ sameFate h k) → (ms : List (Mark A))
+      → bytesOf g (settled f ms) ≡ bytesOf h ms
   settled-as f g h e [] = refl
   settled-as f g h e (m ∷ ms) =
       ap (λ (t : Bool). if t then m .byte ∷ bytesOf g (settled f ms) else bytesOf g (settled f ms)) (e (m .fate))
       ∙ ap (λ (l : List A). if sameFate h (m .fate) then m .byte ∷ l else l) (settled-as f g h e ms)
 
   -- where a test finds of two fates the same, it does not matter to which of them what was in hand is settled
-  pub settled-alike : (f f′ g : Fate) → sameFate g f ≡ sameFate g f′ → (ms : List (Mark A)) → bytesOf g (settled f ms) ≡ bytesOf g (settled f′ ms)
+  pub settled-alike : (f f′ g : Fate) → sameFate g f ≡ sameFate g f′ → (ms : List (Mark A))
+      → bytesOf g (settled f ms) ≡ bytesOf g (settled f′ ms)
   settled-alike f f′ g e [] = refl
   settled-alike f f′ g e (m ∷ ms) =
       ap (λ (t : Bool). if t then m .byte ∷ bytesOf g (settled f ms) else bytesOf g (settled f ms)) (alike-fate f f′ g e (m .fate))
@@ -99,18 +102,23 @@ twice-fate f g e (done k) = refl
 twice-fate f g e in-hand = e
 
 module _ {A : Type 0} where
-  pub settled-other : (f g : Fate) → sameFate g f ≡ false → sameFate g in-hand ≡ false → (ms : List (Mark A)) → bytesOf g (settled f ms) ≡ bytesOf g ms
+  pub settled-other : (f g : Fate) → sameFate g f ≡ false → sameFate g in-hand ≡ false → (ms : List (Mark A))
+      → bytesOf g (settled f ms) ≡ bytesOf g ms
   settled-other f g e₁ e₂ ms = settled-as f g g (other-fate f g e₁ e₂) ms
 
   pub settled-hand : (f : Fate) → sameFate in-hand f ≡ false → (ms : List (Mark A)) → bytesOf in-hand (settled f ms) ≡ []
   settled-hand f e [] = refl
-  settled-hand f e (m ∷ ms) = ap (λ (t : Bool). if t then m .byte ∷ bytesOf in-hand (settled f ms) else bytesOf in-hand (settled f ms)) (no-hand f e (m .fate)) ∙ settled-hand f e ms
+  settled-hand f e (m ∷ ms) =
+      ap (λ (t : Bool). if t then m .byte ∷ bytesOf in-hand (settled f ms) else bytesOf in-hand (settled f ms))
+      (no-hand f e (m .fate))
+      ∙ settled-hand f e ms
 
   pub settled-twice : (f g : Fate) → outOfHand g f ≡ f → (ms : List (Mark A)) → settled g (settled f ms) ≡ settled f ms
   settled-twice f g e [] = refl
   settled-twice f g e (m ∷ ms) = λ i. record { byte = m .byte; fate = twice-fate f g e (m .fate) i } ∷ settled-twice f g e ms i
 
-  gain-other : (t : Bool) (n : ℕ) (b : A) (x y : List A) → length x ≡ length y + n → length (if t then b ∷ x else x) ≡ length (if t then b ∷ y else y) + n
+  gain-other : (t : Bool) (n : ℕ) (b : A) (x y : List A) → length x ≡ length y + n
+      → length (if t then b ∷ x else x) ≡ length (if t then b ∷ y else y) + n
   gain-other true n b x y e = omega arith
   gain-other false n b x y e = e
 
@@ -119,16 +127,22 @@ module _ {A : Type 0} where
   gain-hand true u e b x y z w = rw e (omega arith)
   gain-hand false u e b x y z w = rw e w
 
-  gain : (f g k : Fate) → sameFate f in-hand ≡ false → (b : A) (x y z : List A) → length x ≡ length y + (if sameFate f g then length z else 0)
-      → length (if sameFate f (outOfHand g k) then b ∷ x else x) ≡ length (if sameFate f k then b ∷ y else y) + (if sameFate f g then length (if sameFate in-hand k then b ∷ z else z) else 0)
+  gain : (f g k : Fate) → sameFate f in-hand ≡ false → (b : A) (x y z : List A)
+      → length x ≡ length y + (if sameFate f g then length z else 0)
+      → length (if sameFate f (outOfHand g k) then b ∷ x else x)
+      ≡ length (if sameFate f k then b ∷ y else y)
+      + (if sameFate f g then length (if sameFate in-hand k then b ∷ z else z) else 0)
   gain f g (done k) h b x y z e = gain-other (sameFate f (done k)) _ b x y e
   gain f g in-hand h b x y z e = gain-hand (sameFate f g) (sameFate f in-hand) h b x y z e
 
   -- what was in hand is counted with the fate that it is settled to
-  pub settled-count : (f g : Fate) → sameFate f in-hand ≡ false → (ms : List (Mark A)) → countOf f (settled g ms) ≡ countOf f ms + (if sameFate f g then countOf in-hand ms else 0)
+  pub settled-count : (f g : Fate) → sameFate f in-hand ≡ false → (ms : List (Mark A))
+      → countOf f (settled g ms) ≡ countOf f ms + (if sameFate f g then countOf in-hand ms else 0)
   settled-count f g h [] = none (sameFate f g)
     where
       none : (t : Bool) → 0 ≡ 0 + (if t then 0 else 0)
       none true = refl
       none false = refl
-  settled-count f g h (m ∷ ms) = gain f g (m .fate) h (m .byte) (bytesOf f (settled g ms)) (bytesOf f ms) (bytesOf in-hand ms) (settled-count f g h ms)
+  settled-count f g h (m ∷ ms) =
+      gain f g (m .fate) h (m .byte) (bytesOf f (settled g ms)) (bytesOf f ms) (bytesOf in-hand ms)
+      (settled-count f g h ms)

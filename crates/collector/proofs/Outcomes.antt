@@ -29,20 +29,29 @@ use Rattle.collector.proofs.PayloadLaws.{plain-sections, any, same-hand
 -- ---- the story of a payload
 
 pub kept-payload : (start : Bool) (h bs : List ℕ) → Kept delivers plain (h ++ bs) (payload delivers plain start (holding h) bs)
-kept-payload start h bs = keep-payload delivers plain Any (Kept delivers plain) (keeps-kept delivers plain) (points-kept delivers plain) start h (holding h) bs (any bs) (kept-holding delivers plain h)
+kept-payload start h bs =
+    keep-payload delivers plain Any (Kept delivers plain) (keeps-kept delivers plain) (points-kept delivers plain) start
+    h (holding h) bs (any bs) (kept-holding delivers plain h)
 
 -- the pointer byte is counted once
 no-point : (h : List ℕ) → countOf (done pointer) (marked in-hand h) ≡ 0
 no-point h = ap length (bytesOf-marked (done pointer) in-hand h)
 
-points-payload : (start : Bool) (h bs : List ℕ) → 0 < length bs → countOf (done pointer) (payload delivers plain start (holding h) bs .marks) ≡ pointCount start
-points-payload false h bs k = keep-goes delivers plain Any _ (keeps-points delivers plain (λ bs. refl) 0) h (holding h) bs (any bs) (no-point h)
+points-payload : (start : Bool) (h bs : List ℕ) → 0 < length bs
+    → countOf (done pointer) (payload delivers plain start (holding h) bs .marks) ≡ pointCount start
+points-payload false h bs k =
+    keep-goes delivers plain Any _ (keeps-points delivers plain (λ bs. refl) 0) h (holding h) bs (any bs) (no-point h)
 points-payload true h [] k = absurd (omega arith)
 points-payload true h (p ∷ bs) k =
-    let first : countOf (done pointer) (given (done pointer) p (holding h) .marks) ≡ 1 = ap length (bytesOf-more (done pointer) (done pointer) (marked in-hand h) (p ∷ [])) ∙ length-append (bytesOf (done pointer) (marked in-hand h)) (p ∷ []) ∙ ap (λ (n : ℕ). n + 1) (no-point h) in
+    let first : countOf (done pointer) (given (done pointer) p (holding h) .marks) ≡ 1 =
+    ap length (bytesOf-more (done pointer) (done pointer) (marked in-hand h) (p ∷ []))
+    ∙ length-append (bytesOf (done pointer) (marked in-hand h)) (p ∷ [])
+    ∙ ap (λ (n : ℕ). n + 1) (no-point h) in
     let f : Story ℕ = goesOn delivers plain (given (done pointer) p (holding h)) (take p bs) in
-    let y = keep-goes delivers plain Any _ (keeps-points delivers plain (λ bs. refl) 1) [] (given (done pointer) p (holding h)) (take p bs) (any (take p bs)) first in
-    keep-sections delivers plain Any _ (keeps-points delivers plain (λ bs. refl) 1) [] (brokenOff f) (drop p bs) (any (drop p bs)) (keeps-points delivers plain (λ bs. refl) 1 .breaks [] f y)
+    let y = keep-goes delivers plain Any _ (keeps-points delivers plain (λ bs. refl) 1) []
+    (given (done pointer) p (holding h)) (take p bs) (any (take p bs)) first in
+    keep-sections delivers plain Any _ (keeps-points delivers plain (λ bs. refl) 1) [] (brokenOff f) (drop p bs)
+    (any (drop p bs)) (keeps-points delivers plain (λ bs. refl) 1 .breaks [] f y)
 
 -- ---- what a break in the counter takes stays apart from the packet
 
@@ -68,11 +77,20 @@ none-lost f = none (sameFate f (done broken))
     none false = refl
 
 beside-itself : (s : Story ℕ) → Beside plain (lost 0) [] s s
-beside-itself s = record { hand = map-id (handOf s); sections = plain-sections (s .sections); counts = λ f e. sym (zero-add (countOf f (s .marks))) ∙ ap (λ (n : ℕ). n + countOf f (s .marks)) (none-lost f) }
+beside-itself s = record {
+  hand = map-id (handOf s);
+  sections = plain-sections (s .sections);
+  counts = λ f e. sym (zero-add (countOf f (s .marks))) ∙ ap (λ (n : ℕ). n + countOf f (s .marks)) (none-lost f);
+}
 
-beside-break : (start : Bool) (h bs : List ℕ) → Beside plain (lost (length h)) [] (payload delivers plain start (holding []) bs) (payload delivers plain start (brokenOff (holding h)) bs)
+beside-break : (start : Bool) (h bs : List ℕ)
+    → Beside plain (lost (length h)) [] (payload delivers plain start (holding []) bs)
+    (payload delivers plain start (brokenOff (holding h)) bs)
 beside-break start h bs =
-    subst (λ (z : List ℕ). Beside plain (lost (length h)) [] (payload delivers plain start (holding []) z) (payload delivers plain start (brokenOff (holding h)) bs)) (map-id bs)
+    subst
+    (λ (z : List ℕ). Beside plain (lost (length h)) [] (payload delivers plain start (holding []) z)
+    (payload delivers plain start (brokenOff (holding h)) bs))
+    (map-id bs)
     (beside-payload delivers plain (lost (length h)) [] start (holding []) (brokenOff (holding h)) bs (record {
       hand = ap (map plain) (settled-hand (done broken) refl (marked in-hand h));
       sections = refl;
@@ -81,7 +99,8 @@ beside-break start h bs =
 
 -- ---- the outcome
 
-module _ (r : Record) (hold out : List ℕ) (counter : ℕ) (start : Bool) (h bs : List ℕ) (some : 0 < length bs) (e : Gain) (hold′ out′ : List ℕ) where
+module _ (r : Record) (hold out : List ℕ) (counter : ℕ) (start : Bool) (h bs : List ℕ) (some : 0 < length bs) (e : Gain)
+    (hold′ out′ : List ℕ) where
   abbrev s : Story ℕ
   s = payload delivers plain start (holding h) bs
 
@@ -96,9 +115,14 @@ module _ (r : Record) (hold out : List ℕ) (counter : ℕ) (start : Bool) (h bs
       (sym (points-payload start h bs some) ∙ sym (zero-add _) ∙ sym (b .counts (done pointer) refl))
       (x .bytes ∙ sym (delivered-in plain (h ++ bs) s (kept-payload start h bs)) ∙ sym (zero-add _) ∙ sym (b .counts (done delivered) refl))
       (ap (λ (z : ℕ). n + z) (x .counts broken refl refl) ∙ sym (b .counts (done broken) refl))
-      (λ k p d o. x .counts k p d ∙ sym (zero-add _) ∙ ap (λ (t : Bool). (if t then n else 0) + countOf (done k) (s .marks)) (sym o) ∙ sym (b .counts (done k) refl))
+      (λ k p d o. x .counts k p d
+      ∙ sym (zero-add _)
+      ∙ ap (λ (t : Bool). (if t then n else 0) + countOf (done k) (s .marks)) (sym o)
+      ∙ sym (b .counts (done k) refl))
 
-  taken-to : Ends s hold out 0 hold′ out′ e → (n : ℕ) (S : Story ℕ) → Beside plain (lost n) [] s S → (r′ : Record) → r′ ≡ countedOf r counter e n start → came r′ hold′ out′ (Taken (e .sections) (e .bytes)) ≡ outcomeAfter r hold out counter S
+  taken-to : Ends s hold out 0 hold′ out′ e → (n : ℕ) (S : Story ℕ) → Beside plain (lost n) [] s S → (r′ : Record)
+      → r′ ≡ countedOf r counter e n start
+      → came r′ hold′ out′ (Taken (e .sections) (e .bytes)) ≡ outcomeAfter r hold out counter S
   taken-to x n S b r′ w =
       let secs : s .sections ≡ deliveredOf S = sym (more-sections b) ∙ sym (all-delivered plain (S .sections)) in
       let bytes : flatten (s .sections) ≡ flatten (deliveredOf S) = ap flatten secs in
@@ -108,7 +132,10 @@ module _ (r : Record) (hold out : List ℕ) (counter : ℕ) (start : Bool) (h bs
       w
       ∙ (λ i. recordWith (r .pid) (Counter counter) ((x .in-hand ∙ ap length hand) i)
       (λ k. (bytesCounted (done k) r + added k i) % 2 ^ 32)) in
-      let the-out : out′ ≡ over (flatten (deliveredOf S)) out = x .the-out ∙ ap (λ (z : ℕ). flatten (s .sections) ++ drop z out) (zero-add (length (flatten (s .sections)))) ∙ ap (λ (z : List ℕ). over z out) bytes in
+      let the-out : out′ ≡ over (flatten (deliveredOf S)) out =
+      x .the-out
+      ∙ ap (λ (z : ℕ). flatten (s .sections) ++ drop z out) (zero-add (length (flatten (s .sections))))
+      ∙ ap (λ (z : List ℕ). over z out) bytes in
       λ i. record {
         rec = the-record i;
         hold = (x .the-hold ∙ ap (λ (z : List ℕ). over z hold) hand) i;
@@ -118,35 +145,62 @@ module _ (r : Record) (hold out : List ℕ) (counter : ℕ) (start : Bool) (h bs
 
 -- ---- the two ways of a packet that is taken
 
-module _ (r : Record) (hold out : List ℕ) (counter : ℕ) (start : Bool) (bs : List ℕ) (some : 0 < length bs) (e : Gain) (hold′ out′ : List ℕ) (r′ : Record) where
+module _ (r : Record) (hold out : List ℕ) (counter : ℕ) (start : Bool) (bs : List ℕ) (some : 0 < length bs) (e : Gain)
+    (hold′ out′ : List ℕ) (r′ : Record) where
   abbrev hand : List ℕ
   hand = take (r .in_hand) hold
 
   abbrev Comes : Bool → Type 0
-  Comes next = came r′ hold′ out′ (Taken (e .sections) (e .bytes)) ≡ outcomeAfter r hold out counter (payload delivers plain start (joined next (holding hand)) bs)
+  Comes next =
+      came r′ hold′ out′ (Taken (e .sections) (e .bytes))
+      ≡ outcomeAfter r hold out counter (payload delivers plain start (joined next (holding hand)) bs)
 
-  comes-next : Ends (payload delivers plain start (holding hand) bs) hold out 0 hold′ out′ e → r′ ≡ countedOf r counter e 0 start → Comes true
+  comes-next : Ends (payload delivers plain start (holding hand) bs) hold out 0 hold′ out′ e
+      → r′ ≡ countedOf r counter e 0 start → Comes true
   comes-next x w = taken-to r hold out counter start hand bs some e hold′ out′ x 0 _ (beside-itself _) r′ w
 
-  comes-broken : r .in_hand ≡ length hand → Ends (payload delivers plain start (holding []) bs) hold out 0 hold′ out′ e → r′ ≡ countedOf r counter e (r .in_hand) start → Comes false
-  comes-broken l x w = taken-to r hold out counter start [] bs some e hold′ out′ x (length hand) _ (beside-break start hand bs) r′ (w ∙ ap (λ (z : ℕ). countedOf r counter e z start) l)
+  comes-broken : r .in_hand ≡ length hand → Ends (payload delivers plain start (holding []) bs) hold out 0 hold′ out′ e
+      → r′ ≡ countedOf r counter e (r .in_hand) start → Comes false
+  comes-broken l x w =
+      taken-to r hold out counter start [] bs some e hold′ out′ x (length hand) _ (beside-break start hand bs) r′
+      (w ∙ ap (λ (z : ℕ). countedOf r counter e z start) l)
 
-  pub comes : (next : Bool) (n : ℕ) → n ≡ keptOf next (r .in_hand) → r .in_hand ≡ length hand → Ends (payload delivers plain start (holding (take n hold)) bs) hold out 0 hold′ out′ e → r′ ≡ countedOf r counter e (r .in_hand - n) start → Comes next
+  pub comes : (next : Bool) (n : ℕ) → n ≡ keptOf next (r .in_hand) → r .in_hand ≡ length hand
+      → Ends (payload delivers plain start (holding (take n hold)) bs) hold out 0 hold′ out′ e
+      → r′ ≡ countedOf r counter e (r .in_hand - n) start → Comes next
   comes true n k l x w =
       let none : r .in_hand - n ≡ 0 = omega arith in
-      comes-next (subst (λ (z : ℕ). Ends (payload delivers plain start (holding (take z hold)) bs) hold out 0 hold′ out′ e) k x) (w ∙ ap (λ (z : ℕ). countedOf r counter e z start) none)
+      comes-next
+      (subst (λ (z : ℕ). Ends (payload delivers plain start (holding (take z hold)) bs) hold out 0 hold′ out′ e) k
+      x)
+      (w ∙ ap (λ (z : ℕ). countedOf r counter e z start) none)
   comes false n k l x w =
       let all : r .in_hand - n ≡ r .in_hand = omega arith in
-      comes-broken l (subst (λ (z : ℕ). Ends (payload delivers plain start (holding (take z hold)) bs) hold out 0 hold′ out′ e) k x) (w ∙ ap (λ (z : ℕ). countedOf r counter e z start) all)
+      comes-broken l
+      (subst (λ (z : ℕ). Ends (payload delivers plain start (holding (take z hold)) bs) hold out 0 hold′ out′ e) k
+      x)
+      (w ∙ ap (λ (z : ℕ). countedOf r counter e z start) all)
 
 pub kept-most : (next : Bool) (held : ℕ) → keptOf next held ≤ held
 kept-most true held = omega arith
 kept-most false held = omega arith
 
 -- with nothing in hand a packet fits too
-fit-none : (n : ℕ) (hold out packet : List ℕ) (from : ℕ) (start : Bool) → Fit n hold out packet from start → Fit 0 hold out packet from start
-fit-none n hold out packet from start f = record { few = omega arith; hold-big = f .hold-big; out-big = f .out-big; from-past = f .from-past; from-within = f .from-within; long = f .long; stands = record { more = λ m. absurd (omega arith) }; points = f .points }
+fit-none : (n : ℕ) (hold out packet : List ℕ) (from : ℕ) (start : Bool) → Fit n hold out packet from start
+    → Fit 0 hold out packet from start
+fit-none n hold out packet from start f = record {
+  few = omega arith;
+  hold-big = f .hold-big;
+  out-big = f .out-big;
+  from-past = f .from-past;
+  from-within = f .from-within;
+  long = f .long;
+  stands = record { more = λ m. absurd (omega arith) };
+  points = f .points;
+}
 
-pub fit-kept : (next : Bool) (held n : ℕ) → n ≡ keptOf next held → {hold out packet : List ℕ} {from : ℕ} {start : Bool} → Fit held hold out packet from start → Fit n hold out packet from start
+pub fit-kept : (next : Bool) (held n : ℕ) → n ≡ keptOf next held → {hold out packet : List ℕ} {from : ℕ} {start : Bool}
+    → Fit held hold out packet from start → Fit n hold out packet from start
 fit-kept true held n k {hold} {out} {packet} {from} {start} f = subst (λ (z : ℕ). Fit z hold out packet from start) (sym k) f
-fit-kept false held n k {hold} {out} {packet} {from} {start} f = subst (λ (z : ℕ). Fit z hold out packet from start) (sym k) (fit-none held hold out packet from start f)
+fit-kept false held n k {hold} {out} {packet} {from} {start} f =
+    subst (λ (z : ℕ). Fit z hold out packet from start) (sym k) (fit-none held hold out packet from start f)

@@ -23,7 +23,8 @@ use Rattle.collector.proofs.MarkLaws.{flatten-snoc, bytesOf-more, bytes
 use Rattle.collector.proofs.ByteRuns.{place, all, all-none, hand-all, pass, grow-short, grow-going, law-over, law-whole}
 
 -- an answer says of a story what it says of an equal one
-pub ends-as : {s : Story ℕ} {hold out : List ℕ} {at : ℕ} {hold′ out′ : List ℕ} {r : Gain} (s′ : Story ℕ) → s ≡ s′ → Ends s′ hold out at hold′ out′ r → Ends s hold out at hold′ out′ r
+pub ends-as : {s : Story ℕ} {hold out : List ℕ} {at : ℕ} {hold′ out′ : List ℕ} {r : Gain} (s′ : Story ℕ) → s ≡ s′
+    → Ends s′ hold out at hold′ out′ r → Ends s hold out at hold′ out′ r
 ends-as {s} {hold} {out} {at} {hold′} {out′} {r} s′ e h = subst (λ (x : Story ℕ). Ends x hold out at hold′ out′ r) (sym e) h
 
 -- ---- the story of a stretch of which only whole sections have come, with bytes of one more fate after them
@@ -38,10 +39,12 @@ made-more secs s = λ i. record { marks = marks-is i; sections = secs ++ (hand-i
     hand-is : handOf (all in-hand s (made secs)) ≡ s
     hand-is = hand-all s (made secs) ∙ ap (λ (l : List ℕ). l ++ s) (bytesOf-marked in-hand (done delivered) (flatten secs))
 
-    marks-is : settled (done delivered) (marked (done delivered) (flatten secs) ++ marked in-hand s) ≡ marked (done delivered) (flatten (secs ++ (s ∷ [])))
+    marks-is : settled (done delivered) (marked (done delivered) (flatten secs) ++ marked in-hand s)
+        ≡ marked (done delivered) (flatten (secs ++ (s ∷ [])))
     marks-is =
         settled-append (done delivered) (marked (done delivered) (flatten secs)) (marked in-hand s)
-        ∙ ap (λ (l : List (Mark ℕ)). l ++ settled (done delivered) (marked in-hand s)) (settled-marked (done delivered) (done delivered) (flatten secs))
+        ∙ ap (λ (l : List (Mark ℕ)). l ++ settled (done delivered) (marked in-hand s))
+        (settled-marked (done delivered) (done delivered) (flatten secs))
         ∙ ap (λ (l : List (Mark ℕ)). marked (done delivered) (flatten secs) ++ l) (settled-marked (done delivered) in-hand s)
         ∙ sym (marked-append (done delivered) (flatten secs) s)
         ∙ ap (marked (done delivered)) (sym (flatten-snoc secs s))
@@ -50,17 +53,21 @@ made-more secs s = λ i. record { marks = marks-is i; sections = secs ++ (hand-i
 pub made-broken : (secs : List (List ℕ)) (l : List ℕ) → brokenOff (all in-hand l (made secs)) ≡ all (done broken) l (made secs)
 made-broken secs l = λ i. record { marks = marks-is i; sections = secs }
   where
-    marks-is : settled (done broken) (marked (done delivered) (flatten secs) ++ marked in-hand l) ≡ marked (done delivered) (flatten secs) ++ marked (done broken) l
+    marks-is : settled (done broken) (marked (done delivered) (flatten secs) ++ marked in-hand l)
+        ≡ marked (done delivered) (flatten secs) ++ marked (done broken) l
     marks-is =
         settled-append (done broken) (marked (done delivered) (flatten secs)) (marked in-hand l)
-        ∙ ap (λ (x : List (Mark ℕ)). x ++ settled (done broken) (marked in-hand l)) (settled-marked (done broken) (done delivered) (flatten secs))
+        ∙ ap (λ (x : List (Mark ℕ)). x ++ settled (done broken) (marked in-hand l))
+        (settled-marked (done broken) (done delivered) (flatten secs))
         ∙ ap (λ (x : List (Mark ℕ)). marked (done delivered) (flatten secs) ++ x) (settled-marked (done broken) in-hand l)
 
 -- the bytes of a fate other than delivered are all behind the sections
-pub rest-of : (f g : Fate) (secs : List (List ℕ)) (l : List ℕ) → sameFate f (done delivered) ≡ false → bytesOf f (all g l (made secs) .marks) ≡ (if sameFate f g then l else [])
+pub rest-of : (f g : Fate) (secs : List (List ℕ)) (l : List ℕ) → sameFate f (done delivered) ≡ false
+    → bytesOf f (all g l (made secs) .marks) ≡ (if sameFate f g then l else [])
 rest-of f g secs l e =
     bytesOf-more f g (marked (done delivered) (flatten secs)) l
-    ∙ ap (λ (x : List ℕ). x ++ (if sameFate f g then l else [])) (bytesOf-marked f (done delivered) (flatten secs) ∙ ap (λ (t : Bool). if t then flatten secs else []) e)
+    ∙ ap (λ (x : List ℕ). x ++ (if sameFate f g then l else []))
+    (bytesOf-marked f (done delivered) (flatten secs) ∙ ap (λ (t : Bool). if t then flatten secs else []) e)
 
 -- the answer where m bytes have the fate g, behind so many sections with so many bytes
 abbrev pub answerOf : Fate → ℕ → ℕ → ℕ → Gain
@@ -101,13 +108,24 @@ module _ (secs : List (List ℕ)) where
 
   -- the byte of a section's beginning, and the bytes behind it
   first-more : (b : ℕ) (l : List ℕ) → all in-hand l (first b) ≡ all in-hand (b ∷ l) (made secs)
-  first-more b l = λ i. record { marks = append-assoc (marked (done delivered) (flatten secs)) (marked in-hand (b ∷ [])) (marked in-hand l) i; sections = secs }
+  first-more b l = λ i.
+      record {
+        marks = append-assoc (marked (done delivered) (flatten secs)) (marked in-hand (b ∷ []))
+            (marked in-hand l) i;
+        sections = secs;
+      }
 
   turn-filler : (b : ℕ) (l : List ℕ) → eqb b 255 ≡ true → from (b ∷ l) ≡ all (done filler) (b ∷ l) (made secs)
   turn-filler b l e =
       ap (λ (t : Bool). stretch delivers plain begin (begun t b (made secs)) l .story) e
-      ∙ ap (λ (n : Next ℕ). n .story) (pass delivers begin (outside filling) (done filler) (λ c s. refl) (given (done filler) b (made secs)) l)
-      ∙ (λ i. record { marks = append-assoc (marked (done delivered) (flatten secs)) (marked (done filler) (b ∷ [])) (marked (done filler) l) i; sections = secs })
+      ∙ ap (λ (n : Next ℕ). n .story)
+      (pass delivers begin (outside filling) (done filler) (λ c s. refl) (given (done filler) b (made secs)) l)
+      ∙ (λ i.
+      record {
+        marks = append-assoc (marked (done delivered) (flatten secs)) (marked (done filler) (b ∷ []))
+            (marked (done filler) l) i;
+        sections = secs;
+      })
 
   turn-first : (b : ℕ) (l : List ℕ) → eqb b 255 ≡ false → from (b ∷ l) ≡ stretch delivers plain begin (place inside (first b)) l .story
   turn-first b l e = ap (λ (t : Bool). stretch delivers plain begin (begun t b (made secs)) l .story) e
@@ -122,25 +140,32 @@ module _ (secs : List (List ℕ)) where
       turn-first b l e
       ∙ ap (λ (n : Next ℕ). n .story)
       (⊎-elim (λ w. grow-short delivers begin (first b) l (subst (λ (x : List ℕ). length x < 3) v w))
-      (λ w. grow-going delivers begin (first b) l (subst (λ (x : List ℕ). totalOf x ≤ 4096) v (w .1)) (subst (λ (x : List ℕ). length x < totalOf x) v (w .2))) says)
+      (λ w. grow-going delivers begin (first b) l (subst (λ (x : List ℕ). totalOf x ≤ 4096) v (w .1))
+      (subst (λ (x : List ℕ). length x < totalOf x) v (w .2)))
+      says)
       ∙ first-more b l
 
   turn-over : (b : ℕ) (l : List ℕ) → eqb b 255 ≡ false → LookSays (b ∷ l) Over → from (b ∷ l) ≡ all (done broken) (b ∷ l) (made secs)
   turn-over b l e says =
       let v = sym (here b l) in
       turn-first b l e
-      ∙ ap (λ (n : Next ℕ). n .story) (law-over delivers begin (first b) l (omega (arith, ap length (first-hand b))) (subst (λ (x : List ℕ). 3 ≤ length x) v (says .0)) (subst (λ (x : List ℕ). 4096 < totalOf x) v (says .1)))
+      ∙ ap (λ (n : Next ℕ). n .story)
+      (law-over delivers begin (first b) l (omega (arith, ap length (first-hand b)))
+      (subst (λ (x : List ℕ). 3 ≤ length x) v (says .0)) (subst (λ (x : List ℕ). 4096 < totalOf x) v (says .1)))
       ∙ ap brokenOff (first-more b l)
       ∙ made-broken secs (b ∷ l)
 
-  turn-whole : (b : ℕ) (l : List ℕ) (t : ℕ) → eqb b 255 ≡ false → LookSays (b ∷ l) (Whole t) → from (b ∷ l) ≡ sectionsIn delivers plain (made (secs ++ (take t (b ∷ l) ∷ []))) (drop t (b ∷ l))
+  turn-whole : (b : ℕ) (l : List ℕ) (t : ℕ) → eqb b 255 ≡ false → LookSays (b ∷ l) (Whole t)
+      → from (b ∷ l) ≡ sectionsIn delivers plain (made (secs ++ (take t (b ∷ l) ∷ []))) (drop t (b ∷ l))
   turn-whole b l zero e says = absurd (omega (arith, says .1))
   turn-whole b l (suc k) e says =
       let v = sym (here b l) in
       let one : length (handOf (first b)) ≡ 1 = ap length (first-hand b) in
       let same : totalOf (handOf (first b) ++ l) ≡ suc k = ap totalOf (here b l) ∙ sym (says .1) in
       turn-first b l e
-      ∙ ap (λ (n : Next ℕ). n .story) (law-whole delivers begin (first b) l k (omega (arith, one, same)) (omega (arith, says .1)) (omega (arith, same, says .2)) (omega (arith, says .3)))
+      ∙ ap (λ (n : Next ℕ). n .story)
+      (law-whole delivers begin (first b) l k (omega (arith, one, same)) (omega (arith, says .1))
+      (omega (arith, same, says .2)) (omega (arith, says .3)))
       ∙ ap (λ (s : Story ℕ). sectionsIn delivers plain (finished delivered s) (drop k l)) (first-more b (take k l))
       ∙ ap (λ (s : Story ℕ). sectionsIn delivers plain s (drop k l)) (made-more secs (b ∷ take k l))
 
@@ -160,16 +185,33 @@ pub record Turn (packet : List ℕ) (from : ℕ) (hold₀ out₀ : List ℕ) (at
   pub so-far : sectionsIn delivers plain (holding []) (drop from packet) ≡ sectionsIn delivers plain (made secs) (drop i packet)
 
 -- at the start no section has come
-pub none-yet : (packet : List ℕ) (from : ℕ) (hold out : List ℕ) (at : ℕ) → from ≤ length packet → at + (length packet - from) ≤ length out → Turn packet from hold out at hold out from at 0
+pub none-yet : (packet : List ℕ) (from : ℕ) (hold out : List ℕ) (at : ℕ) → from ≤ length packet
+    → at + (length packet - from) ≤ length out → Turn packet from hold out at hold out from at 0
 unfolding flatten
 none-yet packet from hold out at k w =
-    record { secs = []; inside-packet = k; few = omega arith; number = refl; place = omega arith; fits = w; long = refl; the-hold = refl; hold-long = refl; the-out = laid-none out at; so-far = refl }
+    record {
+      secs = [];
+      inside-packet = k;
+      few = omega arith;
+      number = refl;
+      place = omega arith;
+      fits = w;
+      long = refl;
+      the-hold = refl;
+      hold-long = refl;
+      the-out = laid-none out at;
+      so-far = refl;
+    }
 
-look-here : (p : List ℕ) (i : ℕ) (r r′ : Look) → i < length p → LookSays (take (length p - i) (drop i p)) r → r ≡ r′ → LookSays (getD p i 0 ∷ drop (suc i) p) r′
+look-here : (p : List ℕ) (i : ℕ) (r r′ : Look) → i < length p → LookSays (take (length p - i) (drop i p)) r → r ≡ r′
+    → LookSays (getD p i 0 ∷ drop (suc i) p) r′
 look-here p i r r′ k says e =
-    subst (λ (l : List ℕ). LookSays l r′) (take-all (length p - i) (drop i p) (omega (arith, length-drop i p)) ∙ drop-cons p i 0 k) (subst (LookSays (take (length p - i) (drop i p))) e says)
+    subst (λ (l : List ℕ). LookSays l r′)
+    (take-all (length p - i) (drop i p) (omega (arith, length-drop i p)) ∙ drop-cons p i 0 k)
+    (subst (LookSays (take (length p - i) (drop i p))) e says)
 
-module _ {p : List ℕ} {from : ℕ} {hold₀ out₀ : List ℕ} {at : ℕ} {hold out : List ℕ} {i o n : ℕ} (x : Turn p from hold₀ out₀ at hold out i o n) where
+module _ {p : List ℕ} {from : ℕ} {hold₀ out₀ : List ℕ} {at : ℕ} {hold out : List ℕ} {i o n : ℕ}
+    (x : Turn p from hold₀ out₀ at hold out i o n) where
   abbrev End : List ℕ → Gain → Type 0
   End hold′ r = Ends (sectionsIn delivers plain (holding []) (drop from p)) hold₀ out₀ at hold′ out r
 
@@ -182,7 +224,10 @@ module _ {p : List ℕ} {from : ℕ} {hold₀ out₀ : List ℕ} {at : ℕ} {hol
 
   pub end-all : length p ≤ i → End hold (answer (done filler) 0)
   end-all k =
-      ends-as (all (done filler) [] (made (x .secs))) (x .so-far ∙ ap (sectionsIn delivers plain (made (x .secs))) (drop-of-length-le p k) ∙ sym (all-none (done filler) (made (x .secs))))
+      ends-as (all (done filler) [] (made (x .secs)))
+      (x .so-far
+      ∙ ap (sectionsIn delivers plain (made (x .secs))) (drop-of-length-le p k)
+      ∙ sym (all-none (done filler) (made (x .secs))))
       (ends-made (done filler) (x .secs) [] hold₀ out₀ at hold out n (o - at) 0 (x .number) bytes-long refl (x .the-hold) (x .the-out))
 
   module _ (k : i < length p) where
@@ -204,22 +249,32 @@ module _ {p : List ℕ} {from : ℕ} {hold₀ out₀ : List ℕ} {at : ℕ} {hol
     pub end-filler : b ≡ 255 → End hold (answer (done filler) (length p - i))
     end-filler e =
         ends-as (all (done filler) (b ∷ rest) (made (x .secs))) (now-here ∙ turn-filler (x .secs) b rest (eq-eqb b 255 e))
-        (ends-made (done filler) (x .secs) (b ∷ rest) hold₀ out₀ at hold out n (o - at) (length p - i) (x .number) bytes-long long-here (x .the-hold) (x .the-out))
+        (ends-made (done filler) (x .secs) (b ∷ rest) hold₀ out₀ at hold out n (o - at) (length p - i) (x .number)
+        bytes-long long-here (x .the-hold) (x .the-out))
 
     module _ (other : b ≡ 255 → ⊥) (r : Look) (says : LookSays (take (length p - i) (drop i p)) r) where
       pub end-over : r ≡ Over → End hold (answer (done broken) (length p - i))
       end-over e =
-          ends-as (all (done broken) (b ∷ rest) (made (x .secs))) (now-here ∙ turn-over (x .secs) b rest (ne-eqb b 255 other) (look-here p i r Over k says e))
-          (ends-made (done broken) (x .secs) (b ∷ rest) hold₀ out₀ at hold out n (o - at) (length p - i) (x .number) bytes-long long-here (x .the-hold) (x .the-out))
+          ends-as (all (done broken) (b ∷ rest) (made (x .secs)))
+          (now-here ∙ turn-over (x .secs) b rest (ne-eqb b 255 other) (look-here p i r Over k says e))
+          (ends-made (done broken) (x .secs) (b ∷ rest) hold₀ out₀ at hold out n (o - at) (length p - i) (x .number)
+          bytes-long long-here (x .the-hold) (x .the-out))
 
-      pub end-going : r ≡ Going → (hold′ : List ℕ) → hold′ ≡ paste hold 0 (drop i p) (length p - i) → End hold′ (answer in-hand (length p - i))
+      pub end-going : r ≡ Going → (hold′ : List ℕ) → hold′ ≡ paste hold 0 (drop i p) (length p - i)
+          → End hold′ (answer in-hand (length p - i))
       end-going e hold′ w =
           let l : List ℕ = b ∷ rest in
           let taken : take (length p - i) (drop i p) ≡ l = take-all (length p - i) (drop i p) (omega (arith, length-drop i p)) ∙ cons in
           let from-zero : 0 + (length p - i) ≡ length l = omega (arith, long-here) in
-          let kept : hold′ ≡ over l hold₀ = w ∙ ap (λ (z : List ℕ). z ++ drop (0 + (length p - i)) hold) taken ∙ ap (λ (m : ℕ). l ++ drop m hold) from-zero ∙ ap (λ (z : List ℕ). over l z) (x .the-hold) in
-          ends-as (all in-hand l (made (x .secs))) (now-here ∙ turn-going (x .secs) b rest (ne-eqb b 255 other) (look-here p i r Going k says e))
-          (ends-made in-hand (x .secs) l hold₀ out₀ at hold′ out n (o - at) (length p - i) (x .number) bytes-long long-here kept (x .the-out))
+          let kept : hold′ ≡ over l hold₀ =
+          w
+          ∙ ap (λ (z : List ℕ). z ++ drop (0 + (length p - i)) hold) taken
+          ∙ ap (λ (m : ℕ). l ++ drop m hold) from-zero
+          ∙ ap (λ (z : List ℕ). over l z) (x .the-hold) in
+          ends-as (all in-hand l (made (x .secs)))
+          (now-here ∙ turn-going (x .secs) b rest (ne-eqb b 255 other) (look-here p i r Going k says e))
+          (ends-made in-hand (x .secs) l hold₀ out₀ at hold′ out n (o - at) (length p - i) (x .number) bytes-long
+          long-here kept (x .the-out))
 
       module _ (t : ℕ) (e : r ≡ Whole t) where
         said : LookSays (b ∷ rest) (Whole t)
@@ -231,18 +286,35 @@ module _ {p : List ℕ} {from : ℕ} {hold₀ out₀ : List ℕ} {at : ℕ} {hol
         more : flatten (x .secs ++ (take t (drop i p) ∷ [])) ≡ flatten (x .secs) ++ take t (drop i p)
         more = flatten-snoc (x .secs) (take t (drop i p))
 
-        pub again : at ≤ length out₀ → (out′ : List ℕ) → out′ ≡ paste out o (drop i p) t → Turn p from hold₀ out₀ at hold out′ (i + t) (o + t) (n + 1)
+        pub again : at ≤ length out₀ → (out′ : List ℕ) → out′ ≡ paste out o (drop i p) t
+            → Turn p from hold₀ out₀ at hold out′ (i + t) (o + t) (n + 1)
         again fits out′ w = record {
           secs = x .secs ++ (take t (drop i p) ∷ []);
           inside-packet = omega (arith, whole-in, x .inside-packet);
           few = omega (arith, whole-in, x .few);
           number = omega (arith, x .number, length-append (x .secs) (take t (drop i p) ∷ []));
-          place = omega (arith, x .place, ap length more, length-append (flatten (x .secs)) (take t (drop i p)), length-take-le t (drop i p) (omega (arith, whole-in, length-drop i p)));
+          place =
+              omega (
+                arith,
+                x .place,
+                ap length more,
+                length-append (flatten (x .secs)) (take t (drop i p)),
+                length-take-le t (drop i p) (omega (arith, whole-in, length-drop i p)),
+              );
           fits = omega (arith, whole-in, x .fits);
-          long = ap length w ∙ length-paste out o (drop i p) t (omega (arith, whole-in, x .fits, x .long)) (omega (arith, whole-in, length-drop i p)) ∙ x .long;
+          long =
+              ap length w
+              ∙ length-paste out o (drop i p) t (omega (arith, whole-in, x .fits, x .long))
+              (omega (arith, whole-in, length-drop i p))
+              ∙ x .long;
           the-hold = x .the-hold;
           hold-long = x .hold-long;
-          the-out = w ∙ ap (λ (z : List ℕ). paste z o (drop i p) t) (x .the-out) ∙ ap (λ (m : ℕ). paste (laid out₀ at (flatten (x .secs))) m (drop i p) t) (x .place) ∙ laid-more out₀ at (flatten (x .secs)) (drop i p) t fits (omega (arith, whole-in, length-drop i p)) ∙ ap (laid out₀ at) (sym more);
+          the-out =
+              w
+              ∙ ap (λ (z : List ℕ). paste z o (drop i p) t) (x .the-out)
+              ∙ ap (λ (m : ℕ). paste (laid out₀ at (flatten (x .secs))) m (drop i p) t) (x .place)
+              ∙ laid-more out₀ at (flatten (x .secs)) (drop i p) t fits (omega (arith, whole-in, length-drop i p))
+              ∙ ap (laid out₀ at) (sym more);
           so-far = now-here ∙ turn-whole (x .secs) b rest t (ne-eqb b 255 other) said
               ∙ ap (λ (z : List ℕ). sectionsIn delivers plain (made (x .secs ++ (take t z ∷ []))) (drop t z)) (sym cons)
               ∙ ap (sectionsIn delivers plain (made (x .secs ++ (take t (drop i p) ∷ [])))) (drop-drop t i p);

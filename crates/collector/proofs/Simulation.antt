@@ -50,15 +50,24 @@ module _ {A : Type 0} (value : A → ℕ) where
     pub counts : (f : Fate) → sameFate f in-hand ≡ false → countOf f (S .marks) ≡ base f + countOf f (s .marks)
 
   module _ (base : Fate → ℕ) (secs : List (List ℕ)) where
-    beside-given : (f : Fate) (b : A) (s : Story ℕ) (S : Story A) → Beside base secs s S → Beside base secs (given f (value b) s) (given f b S)
+    beside-given : (f : Fate) (b : A) (s : Story ℕ) (S : Story A) → Beside base secs s S
+        → Beside base secs (given f (value b) s) (given f b S)
     beside-given f b s S x = record {
-      hand = ap (map value) (bytesOf-more in-hand f (S .marks) (b ∷ [])) ∙ map-append value (handOf S) _ ∙ ap (λ (l : List ℕ). l ++ map value (if sameFate in-hand f then b ∷ [] else [])) (x .hand)
-          ∙ ap (λ (l : List ℕ). handOf s ++ l) (map-if (sameFate in-hand f) (b ∷ [])) ∙ sym (bytesOf-more in-hand f (s .marks) (value b ∷ []));
+      hand =
+          ap (map value) (bytesOf-more in-hand f (S .marks) (b ∷ []))
+          ∙ map-append value (handOf S) _
+          ∙ ap (λ (l : List ℕ). l ++ map value (if sameFate in-hand f then b ∷ [] else [])) (x .hand)
+          ∙ ap (λ (l : List ℕ). handOf s ++ l) (map-if (sameFate in-hand f) (b ∷ []))
+          ∙ sym (bytesOf-more in-hand f (s .marks) (value b ∷ []));
       sections = x .sections;
       counts = λ g h.
           let one = if-long (sameFate g f) b in
-          let more : countOf g (given f b S .marks) ≡ countOf g (S .marks) + length (if sameFate g f then b ∷ [] else []) = ap length (bytesOf-more g f (S .marks) (b ∷ [])) ∙ length-append (bytesOf g (S .marks)) _ in
-          let more₂ : countOf g (given f (value b) s .marks) ≡ countOf g (s .marks) + length (if sameFate g f then value b ∷ [] else []) = ap length (bytesOf-more g f (s .marks) (value b ∷ [])) ∙ length-append (bytesOf g (s .marks)) _ in
+          let more : countOf g (given f b S .marks)
+          ≡ countOf g (S .marks) + length (if sameFate g f then b ∷ [] else []) =
+          ap length (bytesOf-more g f (S .marks) (b ∷ [])) ∙ length-append (bytesOf g (S .marks)) _ in
+          let more₂ : countOf g (given f (value b) s .marks)
+          ≡ countOf g (s .marks) + length (if sameFate g f then value b ∷ [] else []) =
+          ap length (bytesOf-more g f (s .marks) (value b ∷ [])) ∙ length-append (bytesOf g (s .marks)) _ in
           let was = x .counts g h in
           omega arith;
     }
@@ -67,24 +76,36 @@ module _ {A : Type 0} (value : A → ℕ) where
     hand-long : (s : Story ℕ) (S : Story A) → Beside base secs s S → countOf in-hand (S .marks) ≡ countOf in-hand (s .marks)
     hand-long s S x = sym (map-long (handOf S)) ∙ ap length (x .hand)
 
-    settled-counts : (g : Fate) (s : Story ℕ) (S : Story A) → Beside base secs s S → (f : Fate) → sameFate f in-hand ≡ false → countOf f (settled g (S .marks)) ≡ base f + countOf f (settled g (s .marks))
+    settled-counts : (g : Fate) (s : Story ℕ) (S : Story A) → Beside base secs s S → (f : Fate)
+        → sameFate f in-hand ≡ false → countOf f (settled g (S .marks)) ≡ base f + countOf f (settled g (s .marks))
     settled-counts g s S x f h =
         let was = x .counts f h in
         let one = settled-count f g h (S .marks) in
         let two = settled-count f g h (s .marks) in
-        let same : (if sameFate f g then countOf in-hand (S .marks) else 0) ≡ (if sameFate f g then countOf in-hand (s .marks) else 0) = ap (λ (n : ℕ). if sameFate f g then n else 0) (hand-long s S x) in
+        let same : (if sameFate f g then countOf in-hand (S .marks) else 0)
+        ≡ (if sameFate f g then countOf in-hand (s .marks) else 0) =
+        ap (λ (n : ℕ). if sameFate f g then n else 0) (hand-long s S x) in
         omega arith
 
-    settled-hands : (g : Fate) → sameFate in-hand g ≡ false → (s : Story ℕ) (S : Story A) → map value (bytesOf in-hand (settled g (S .marks))) ≡ bytesOf in-hand (settled g (s .marks))
+    settled-hands : (g : Fate) → sameFate in-hand g ≡ false → (s : Story ℕ) (S : Story A)
+        → map value (bytesOf in-hand (settled g (S .marks))) ≡ bytesOf in-hand (settled g (s .marks))
     settled-hands g h s S = ap (map value) (settled-hand g h (S .marks)) ∙ sym (settled-hand g h (s .marks))
 
     pub beside-broken : (s : Story ℕ) (S : Story A) → Beside base secs s S → Beside base secs (brokenOff s) (brokenOff S)
-    beside-broken s S x = record { hand = settled-hands (done broken) refl s S; sections = x .sections; counts = settled-counts (done broken) s S x }
+    beside-broken s S x = record {
+      hand = settled-hands (done broken) refl s S;
+      sections = x .sections;
+      counts = settled-counts (done broken) s S x;
+    }
 
     beside-finished : (k : Kind) (s : Story ℕ) (S : Story A) → Beside base secs s S → Beside base secs (finished k s) (finished k S)
     beside-finished k s S x = record {
       hand = settled-hands (done k) refl s S;
-      sections = map-append (map value) (S .sections) (handOf S ∷ []) ∙ ap (λ (l : List (List ℕ)). l ++ (map value (handOf S) ∷ [])) (x .sections) ∙ append-assoc secs (s .sections) (map value (handOf S) ∷ []) ∙ ap (λ (l : List ℕ). secs ++ (s .sections ++ (l ∷ []))) (x .hand);
+      sections =
+          map-append (map value) (S .sections) (handOf S ∷ [])
+          ∙ ap (λ (l : List (List ℕ)). l ++ (map value (handOf S) ∷ [])) (x .sections)
+          ∙ append-assoc secs (s .sections) (map value (handOf S) ∷ [])
+          ∙ ap (λ (l : List ℕ). secs ++ (s .sections ++ (l ∷ []))) (x .hand);
       counts = settled-counts (done k) s S x;
     }
 
@@ -98,7 +119,8 @@ module _ {A : Type 0} (value : A → ℕ) where
     beside-begun true b s S x = record { mode = refl; story = beside-given (done filler) b s S x }
     beside-begun false b s S x = record { mode = refl; story = beside-given in-hand b s S x }
 
-    beside-grown : (after : Mode) (k : Kind) (z : Size) (s : Story ℕ) (S : Story A) → Beside base secs s S → BesideAt (grown after k z s) (grown after k z S)
+    beside-grown : (after : Mode) (k : Kind) (z : Size) (s : Story ℕ) (S : Story A) → Beside base secs s S
+        → BesideAt (grown after k z s) (grown after k z S)
     beside-grown after k going s S x = record { mode = refl; story = x }
     beside-grown after k whole s S x = record { mode = refl; story = beside-finished k s S x }
     beside-grown after k too-long s S x = record { mode = refl; story = beside-broken s S x }
@@ -116,41 +138,67 @@ module _ (comes : List ℕ → Kind) {A : Type 0} (value : A → ℕ) (base : Fa
       ∙ ap (λ (l : List ℕ). l ++ (value b ∷ [])) (sym (x .hand))
       ∙ sym (map-append value (handOf S) (b ∷ []))
 
-  beside-byte : (after m : Mode) (b : A) (s : Story ℕ) (S : Story A) → Beside value base secs s S → BesideAt value base secs (byteIn comes plain after m (value b) s) (byteIn comes value after m b S)
+  beside-byte : (after m : Mode) (b : A) (s : Story ℕ) (S : Story A) → Beside value base secs s S
+      → BesideAt value base secs (byteIn comes plain after m (value b) s) (byteIn comes value after m b S)
   beside-byte after begin b s S x = beside-begun value base secs (eqb (value b) 255) b s S x
   beside-byte after inside b s S x =
       let run : List ℕ = map value (handOf S ++ (b ∷ [])) in
-      subst (λ (z : List ℕ). BesideAt value base secs (grown after (comes z) (sizeOf z) (given in-hand (value b) s)) (byteIn comes value after inside b S))
+      subst (λ (z : List ℕ). BesideAt value base secs (grown after (comes z) (sizeOf z) (given in-hand (value b) s))
+      (byteIn comes value after inside b S))
       (sym (same-run b s S x))
-      (beside-grown value base secs after (comes run) (sizeOf run) (given in-hand (value b) s) (given in-hand b S) (beside-given value base secs in-hand b s S x))
+      (beside-grown value base secs after (comes run) (sizeOf run) (given in-hand (value b) s) (given in-hand b S)
+      (beside-given value base secs in-hand b s S x))
   beside-byte after (outside m) b s S x = record { mode = refl; story = beside-given value base secs (done (kindOf m)) b s S x }
 
-  beside-stretch : (after : Mode) (n : Next ℕ) (N : Next A) (bs : List A) → BesideAt value base secs n N → BesideAt value base secs (stretch comes plain after n (map value bs)) (stretch comes value after N bs)
+  beside-stretch : (after : Mode) (n : Next ℕ) (N : Next A) (bs : List A) → BesideAt value base secs n N
+      → BesideAt value base secs (stretch comes plain after n (map value bs)) (stretch comes value after N bs)
   beside-stretch after n N [] x = x
   beside-stretch after n N (b ∷ bs) x =
       beside-stretch after (byteIn comes plain after (n .mode) (value b) (n .story)) (byteIn comes value after (N .mode) b (N .story)) bs
-      (subst (λ (m : Mode). BesideAt value base secs (byteIn comes plain after (n .mode) (value b) (n .story)) (byteIn comes value after m b (N .story))) (sym (x .mode)) (beside-byte after (n .mode) b (n .story) (N .story) (x .story)))
+      (subst
+      (λ (m : Mode). BesideAt value base secs (byteIn comes plain after (n .mode) (value b) (n .story))
+      (byteIn comes value after m b (N .story)))
+      (sym (x .mode)) (beside-byte after (n .mode) b (n .story) (N .story) (x .story)))
 
   -- ---- a packet
 
-  pub beside-goes : (s : Story ℕ) (S : Story A) (bs : List A) → Beside value base secs s S → Beside value base secs (goesOn comes plain s (map value bs)) (goesOn comes value S bs)
-  beside-goes s S bs x = beside-stretch (outside filling) _ _ bs (record { mode = sym (resumed-map value (handOf S)) ∙ ap resumed (x .hand); story = x }) .story
+  pub beside-goes : (s : Story ℕ) (S : Story A) (bs : List A) → Beside value base secs s S
+      → Beside value base secs (goesOn comes plain s (map value bs)) (goesOn comes value S bs)
+  beside-goes s S bs x =
+      beside-stretch (outside filling) _ _ bs
+      (record { mode = sym (resumed-map value (handOf S)) ∙ ap resumed (x .hand); story = x }) .story
 
-  pub beside-sections : (s : Story ℕ) (S : Story A) (bs : List A) → Beside value base secs s S → Beside value base secs (sectionsIn comes plain s (map value bs)) (sectionsIn comes value S bs)
+  pub beside-sections : (s : Story ℕ) (S : Story A) (bs : List A) → Beside value base secs s S
+      → Beside value base secs (sectionsIn comes plain s (map value bs)) (sectionsIn comes value S bs)
   beside-sections s S bs x = beside-stretch begin _ _ bs (record { mode = refl; story = x }) .story
 
-  pub beside-payload : (t : Bool) (s : Story ℕ) (S : Story A) (bs : List A) → Beside value base secs s S → Beside value base secs (payload comes plain t s (map value bs)) (payload comes value t S bs)
+  pub beside-payload : (t : Bool) (s : Story ℕ) (S : Story A) (bs : List A) → Beside value base secs s S
+      → Beside value base secs (payload comes plain t s (map value bs)) (payload comes value t S bs)
   beside-payload false s S bs x = beside-goes s S bs x
   beside-payload true s S [] x = x
   beside-payload true s S (p ∷ bs) x =
-      let y = beside-goes (given (done pointer) (value p) s) (given (done pointer) p S) (take (value p) bs) (beside-given value base secs (done pointer) p s S x) in
+      let y = beside-goes (given (done pointer) (value p) s) (given (done pointer) p S) (take (value p) bs)
+      (beside-given value base secs (done pointer) p s S x) in
       let z = beside-sections _ _ (drop (value p) bs) (beside-broken value base secs _ _ y) in
-      subst (λ (l : List ℕ). Beside value base secs (sectionsIn comes plain (brokenOff (goesOn comes plain (given (done pointer) (value p) s) l)) (drop (value p) (map value bs))) (payload comes value true S (p ∷ bs))) (sym (map-take value (value p) bs))
-      (subst (λ (l : List ℕ). Beside value base secs (sectionsIn comes plain (brokenOff (goesOn comes plain (given (done pointer) (value p) s) (map value (take (value p) bs)))) l) (payload comes value true S (p ∷ bs))) (sym (map-drop value (value p) bs)) z)
+      subst
+      (λ (l : List ℕ). Beside value base secs
+      (sectionsIn comes plain (brokenOff (goesOn comes plain (given (done pointer) (value p) s) l))
+      (drop (value p) (map value bs)))
+      (payload comes value true S (p ∷ bs)))
+      (sym (map-take value (value p) bs))
+      (subst
+      (λ (l : List ℕ). Beside value base secs
+      (sectionsIn comes plain
+      (brokenOff (goesOn comes plain (given (done pointer) (value p) s) (map value (take (value p) bs)))) l)
+      (payload comes value true S (p ∷ bs)))
+      (sym (map-drop value (value p) bs)) z)
 
   beside-joined : (t : Bool) (s : Story ℕ) (S : Story A) → Beside value base secs s S → Beside value base secs (joined t s) (joined t S)
   beside-joined true s S x = x
   beside-joined false s S x = beside-broken value base secs s S x
 
-  pub beside-taken : (before : Before) (s : Story ℕ) (S : Story A) (q : Carried A) → Beside value base secs s S → Beside value base secs (storyAfter comes plain before s (bareOf value q)) (storyAfter comes value before S q)
-  beside-taken before s S q x = beside-payload (q .start) (joined (follows before (q .counter)) s) (joined (follows before (q .counter)) S) (q .bytes) (beside-joined (follows before (q .counter)) s S x)
+  pub beside-taken : (before : Before) (s : Story ℕ) (S : Story A) (q : Carried A) → Beside value base secs s S
+      → Beside value base secs (storyAfter comes plain before s (bareOf value q)) (storyAfter comes value before S q)
+  beside-taken before s S q x =
+      beside-payload (q .start) (joined (follows before (q .counter)) s) (joined (follows before (q .counter)) S)
+      (q .bytes) (beside-joined (follows before (q .counter)) s S x)

@@ -1,5 +1,6 @@
--- What every story keeps: one mark for each byte seen, in order; the bytes of a kind that ends give are its sections' bytes, in order; the counts of the fates make
--- up the bytes; each section is whole by its own header; and a stretch gives no byte the fate of a pointer.
+-- What every story keeps: one mark for each byte seen, in order; the bytes of a kind that ends give are its sections'
+-- bytes, in order; the counts of the fates make up the bytes; each section is whole by its own header; and a stretch
+-- gives no byte the fate of a pointer.
 use mathlib.Core.Path.{_≡_, refl, sym, ap, _∙_, subst}
 use mathlib.Core.Bool.{Bool, true, false}
 use mathlib.Core.List.{List, [], _∷_, _++_, append-assoc, append-nil, map, map-append, map-id, flatten}
@@ -78,9 +79,14 @@ module _ (comes : List ℕ → Kind) {A : Type 0} (value : A → ℕ) where
     would (done j) e = e
     would in-hand e = itself
 
-    order-given : (f : Fate) → sameFate (done k) f ≡ false → (b : A) (l : List A) (s : Story A) → InOrder k l s → InOrder k (l ++ (b ∷ [])) (given f b s)
+    order-given : (f : Fate) → sameFate (done k) f ≡ false → (b : A) (l : List A) (s : Story A) → InOrder k l s
+        → InOrder k (l ++ (b ∷ [])) (given f b s)
     order-given f e b l s x = record {
-      out = bytesOf-more (done k) f (s .marks) (b ∷ []) ∙ ap (λ (t : Bool). bytesOf (done k) (s .marks) ++ (if t then b ∷ [] else [])) e ∙ append-nil _ ∙ x .out;
+      out =
+          bytesOf-more (done k) f (s .marks) (b ∷ [])
+          ∙ ap (λ (t : Bool). bytesOf (done k) (s .marks) ++ (if t then b ∷ [] else [])) e
+          ∙ append-nil _
+          ∙ x .out;
       would-be =
           ap (bytesOf (done k)) (settled-append (done k) (s .marks) (marked f (b ∷ [])))
           ∙ bytesOf-more (done k) (outOfHand (done k) f) (settled (done k) (s .marks)) (b ∷ [])
@@ -108,12 +114,15 @@ module _ (comes : List ℕ → Kind) {A : Type 0} (value : A → ℕ) where
     other-bytes j s l e x = settled-other (done j) (done k) e refl (s .marks) ∙ x .out
 
     pub order-broken : (l : List A) (s : Story A) → InOrder k l s → InOrder k l (brokenOff s)
-    order-broken l s x = let y = settles broken s (s .sections) (other-bytes broken s l (w .not-rest breaking) x) in record { out = y .out; would-be = y .would-be }
+    order-broken l s x =
+        let y = settles broken s (s .sections) (other-bytes broken s l (w .not-rest breaking) x) in
+        record { out = y .out; would-be = y .would-be }
 
     ended-bytes : (l : List A) (s : Story A) → InOrder k l s → (t : Bool) → sameKind k (comes (map value (handOf s))) ≡ t
         → bytesOf (done k) (settled (done (comes (map value (handOf s)))) (s .marks))
         ≡ flatten (sectionsOf comes value k (s .sections)) ++ (if t then handOf s else [])
-    ended-bytes l s x true e = settled-alike (done (comes (map value (handOf s)))) (done k) (done k) (e ∙ sym itself) (s .marks) ∙ x .would-be
+    ended-bytes l s x true e =
+        settled-alike (done (comes (map value (handOf s)))) (done k) (done k) (e ∙ sym itself) (s .marks) ∙ x .would-be
     ended-bytes l s x false e = other-bytes (comes (map value (handOf s))) s l e x ∙ sym (append-nil _)
 
     order-finished : (l : List A) (s : Story A) → InOrder k l s → InOrder k l (finished (comes (map value (handOf s))) s)
@@ -150,7 +159,9 @@ module _ (comes : List ℕ → Kind) {A : Type 0} (value : A → ℕ) where
 
 -- ---- each section is whole by its own header
 
-whole-tests : (bs : List ℕ) (t₁ t₂ t₃ : Bool) → ltb (length bs) 3 ≡ t₁ → ltb 4096 (totalOf bs) ≡ t₂ → eqb (length bs) (totalOf bs) ≡ t₃ → (if t₁ then going else (if t₂ then too-long else (if t₃ then whole else going))) ≡ whole → WholeSection bs
+whole-tests : (bs : List ℕ) (t₁ t₂ t₃ : Bool) → ltb (length bs) 3 ≡ t₁ → ltb 4096 (totalOf bs) ≡ t₂
+    → eqb (length bs) (totalOf bs) ≡ t₃
+    → (if t₁ then going else (if t₂ then too-long else (if t₃ then whole else going))) ≡ whole → WholeSection bs
 whole-tests bs true t₂ t₃ e₁ e₂ e₃ e = let z : _≡_ {A = ℕ} 0 1 = cc in absurd (omega arith)
 whole-tests bs false true t₃ e₁ e₂ e₃ e = let z : _≡_ {A = ℕ} 0 1 = cc in absurd (omega arith)
 whole-tests bs false false true e₁ e₂ e₃ e = record { header = ltb-false _ _ e₁; exact = eqb-true _ _ e₃; limit = ltb-false _ _ e₂ }
@@ -169,7 +180,8 @@ module _ (comes : List ℕ → Kind) {A : Type 0} (value : A → ℕ) where
     gives = λ f e₁ e₂ b l s r x. x;
     ends = λ b l s r e x.
         let hand = ap (map value) (bytesOf-more in-hand in-hand (s .marks) (b ∷ [])) in
-        each-append (λ (z : List A). WholeSection (map value z)) (s .sections) (handOf (given in-hand b s) ∷ []) x (subst WholeSection (sym hand) (whole-section _ e), tt);
+        each-append (λ (z : List A). WholeSection (map value z)) (s .sections) (handOf (given in-hand b s) ∷ []) x
+        (subst WholeSection (sym hand) (whole-section _ e), tt);
     breaks = λ l s x. x;
   }
 
@@ -178,8 +190,14 @@ module _ (comes : List ℕ → Kind) {A : Type 0} (value : A → ℕ) where
   abbrev pub Points : ℕ → List A → Story A → Type 0
   Points n l s = countOf (done pointer) (s .marks) ≡ n
 
-  points-given : (n : ℕ) (f : Fate) → sameFate (done pointer) f ≡ false → (b : A) (s : Story A) → countOf (done pointer) (s .marks) ≡ n → countOf (done pointer) (given f b s .marks) ≡ n
-  points-given n f e b s x = ap length (bytesOf-more (done pointer) f (s .marks) (b ∷ []) ∙ ap (λ (t : Bool). bytesOf (done pointer) (s .marks) ++ (if t then b ∷ [] else [])) e ∙ append-nil (bytesOf (done pointer) (s .marks))) ∙ x
+  points-given : (n : ℕ) (f : Fate) → sameFate (done pointer) f ≡ false → (b : A) (s : Story A)
+      → countOf (done pointer) (s .marks) ≡ n → countOf (done pointer) (given f b s .marks) ≡ n
+  points-given n f e b s x =
+      ap length
+      (bytesOf-more (done pointer) f (s .marks) (b ∷ [])
+      ∙ ap (λ (t : Bool). bytesOf (done pointer) (s .marks) ++ (if t then b ∷ [] else [])) e
+      ∙ append-nil (bytesOf (done pointer) (s .marks)))
+      ∙ x
 
   -- if no end gives it either
   pub keeps-points : ((bs : List ℕ) → sameKind pointer (comes bs) ≡ false) → (n : ℕ) → Keeps comes value Any (Points n)
@@ -187,7 +205,8 @@ module _ (comes : List ℕ → Kind) {A : Type 0} (value : A → ℕ) where
     gives = λ f e₁ e₂ b l s r x. points-given n f e₁ b s x;
     ends = λ b l s r e x.
         let run : List ℕ = map value (handOf s ++ (b ∷ [])) in
-        ap length (settled-other (done (comes run)) (done pointer) (never run) refl (given in-hand b s .marks)) ∙ points-given n in-hand refl b s x;
+        ap length (settled-other (done (comes run)) (done pointer) (never run) refl (given in-hand b s .marks))
+        ∙ points-given n in-hand refl b s x;
     breaks = λ l s x. ap length (settled-other (done broken) (done pointer) refl refl (s .marks)) ∙ x;
   }
 
@@ -215,7 +234,8 @@ module _ {A : Type 0} where
 
 -- ---- no more sections than bytes of them
 
-few : {A : Type 0} (value : A → ℕ) (secs : List (List A)) → Each (λ (x : List A). WholeSection (map value x)) secs → length secs ≤ length (flatten secs)
+few : {A : Type 0} (value : A → ℕ) (secs : List (List A)) → Each (λ (x : List A). WholeSection (map value x)) secs
+    → length secs ≤ length (flatten secs)
 unfolding flatten
 few value [] x = omega arith
 few {A} value (s ∷ secs) x =
@@ -318,4 +338,5 @@ all-delivered {A} value (s ∷ secs) = ap (λ (l : List (List A)). s ∷ l) (all
 pub delivered-in : {A : Type 0} (value : A → ℕ) (l : List A) (s : Story A) → Kept delivers value l s
     → countOf (done delivered) (s .marks) ≡ length (flatten (s .sections))
 delivered-in {A} value l s x =
-    ended-in delivers value delivered delivered-by-end l s x ∙ ap (λ (z : List (List A)). length (flatten z)) (all-delivered value (s .sections))
+    ended-in delivers value delivered delivered-by-end l s x
+    ∙ ap (λ (z : List (List A)). length (flatten z)) (all-delivered value (s .sections))

@@ -42,15 +42,18 @@ resumed-in [] k = absurd (omega arith)
 resumed-in (b ∷ h) k = refl
 
 -- where nothing is unfinished, it is the same whether it would be kept
-joined-made : (keep : Bool) (g : Fate) (secs : List (List ℕ)) (l : List ℕ) → outOfHand (done broken) g ≡ g → joined keep (all g l (made secs)) ≡ all g l (made secs)
+joined-made : (keep : Bool) (g : Fate) (secs : List (List ℕ)) (l : List ℕ) → outOfHand (done broken) g ≡ g
+    → joined keep (all g l (made secs)) ≡ all g l (made secs)
 joined-made true g secs l e = refl
 joined-made false g secs l e = λ i. record { marks = marks-is i; sections = secs }
   where
-    marks-is : settled (done broken) (marked (done delivered) (flatten secs) ++ marked g l) ≡ marked (done delivered) (flatten secs) ++ marked g l
+    marks-is : settled (done broken) (marked (done delivered) (flatten secs) ++ marked g l)
+        ≡ marked (done delivered) (flatten secs) ++ marked g l
     marks-is =
         settled-append (done broken) (marked (done delivered) (flatten secs)) (marked g l)
         ∙ ap (λ (z : List (Mark ℕ)). z ++ settled (done broken) (marked g l)) (settled-marked (done broken) (done delivered) (flatten secs))
-        ∙ ap (λ (z : List (Mark ℕ)). marked (done delivered) (flatten secs) ++ z) (settled-marked (done broken) g l ∙ ap (λ (f : Fate). marked f l) e)
+        ∙ ap (λ (z : List (Mark ℕ)). marked (done delivered) (flatten secs) ++ z)
+        (settled-marked (done broken) g l ∙ ap (λ (f : Fate). marked f l) e)
 
 -- ---- what the code finds
 
@@ -99,7 +102,10 @@ module _ {hold p : List ℕ} {n from m : ℕ} (x : Given hold p n from m) (out :
   end-none e =
       let empty : h ≡ [] = ap (λ (k : ℕ). take k hold) e in
       let is : goesOn delivers plain (holding h) l ≡ all (done (kindOf skipping)) l (made []) =
-      ap (λ (z : List ℕ). goesOn delivers plain (holding z) l) empty ∙ ap (λ (z : Next ℕ). z .story) (pass delivers (outside filling) (outside skipping) (done (kindOf skipping)) (λ b s. refl) (holding []) l) ∙ ap (λ (z : Story ℕ). all (done (kindOf skipping)) l z) nothing in
+      ap (λ (z : List ℕ). goesOn delivers plain (holding z) l) empty
+      ∙ ap (λ (z : Next ℕ). z .story)
+      (pass delivers (outside filling) (outside skipping) (done (kindOf skipping)) (λ b s. refl) (holding []) l)
+      ∙ ap (λ (z : Story ℕ). all (done (kindOf skipping)) l z) nothing in
       end-one (done (kindOf skipping)) l (ap (joined keep) is ∙ joined-made keep (done (kindOf skipping)) [] l refl) hold m l-long refl
 
   module _ (other : n ≡ 0 → ⊥) (r : Look) (says : LookSays (h ++ l) r) where
@@ -109,7 +115,8 @@ module _ {hold p : List ℕ} {n from m : ℕ} (x : Given hold p n from m) (out :
     goes : goesOn delivers plain (holding h) l ≡ stretch delivers plain (outside filling) (place inside (start h)) l .story
     goes =
         ap (λ (z : Story ℕ). goesOn delivers plain z l) (start-is h)
-        ∙ ap (λ (z : Mode). stretch delivers plain (outside filling) (place z (start h)) l .story) (ap resumed (start-hand h) ∙ resumed-in h (omega (arith, some, h-long)))
+        ∙ ap (λ (z : Mode). stretch delivers plain (outside filling) (place z (start h)) l .story)
+        (ap resumed (start-hand h) ∙ resumed-in h (omega (arith, some, h-long)))
 
     -- what the look says, of the run as the rules see it
     run-is : h ++ l ≡ handOf (start h) ++ l
@@ -124,28 +131,42 @@ module _ {hold p : List ℕ} {n from m : ℕ} (x : Given hold p n from m) (out :
     going-is : r ≡ Going → goesOn delivers plain (holding h) l ≡ all in-hand (h ++ l) (made [])
     going-is e =
         goes
-        ∙ ap (λ (z : Next ℕ). z .story) (⊎-elim (λ w. grow-short delivers (outside filling) (start h) l w) (λ w. grow-going delivers (outside filling) (start h) l (w .1) (w .2)) (has Going e))
+        ∙ ap (λ (z : Next ℕ). z .story)
+        (⊎-elim (λ w. grow-short delivers (outside filling) (start h) l w)
+        (λ w. grow-going delivers (outside filling) (start h) l (w .1) (w .2)) (has Going e))
         ∙ more-hand
 
     pub going-in : r ≡ Going → n + m < 4096
     going-in e = ⊎-elim (λ w. omega (arith, both-long)) (λ w. omega (arith, both-long, w .1, w .2)) (subst (LookSays (h ++ l)) e says)
 
-    pub end-kept : keep ≡ true → r ≡ Going → (hold′ : List ℕ) → hold′ ≡ paste hold n (drop from p) m → End hold′ out (answerOf in-hand 0 0 (n + m))
+    pub end-kept : keep ≡ true → r ≡ Going → (hold′ : List ℕ) → hold′ ≡ paste hold n (drop from p) m
+        → End hold′ out (answerOf in-hand 0 0 (n + m))
     end-kept k e hold′ w =
         end-one in-hand (h ++ l) (ap (λ (z : Bool). joined z (goesOn delivers plain (holding h) l)) k ∙ going-is e) hold′ (n + m) both-long
         (w ∙ ap (λ (z : ℕ). (h ++ l) ++ drop z hold) both-long)
 
     pub end-dropped : keep ≡ false → r ≡ Going → End hold out (answerOf (done broken) 0 0 (n + m))
     end-dropped k e =
-        end-one (done broken) (h ++ l) (ap (λ (z : Bool). joined z (goesOn delivers plain (holding h) l)) k ∙ ap brokenOff (going-is e) ∙ made-broken [] (h ++ l)) hold (n + m) both-long refl
+        end-one (done broken) (h ++ l)
+        (ap (λ (z : Bool). joined z (goesOn delivers plain (holding h) l)) k
+        ∙ ap brokenOff (going-is e)
+        ∙ made-broken [] (h ++ l))
+        hold (n + m) both-long refl
 
     pub end-over : r ≡ Over → End hold out (answerOf (done broken) 0 0 (n + m))
     end-over e =
         let o = has Over e in
         let o₂ = subst (LookSays (h ++ l)) e says in
-        let few : length h < 3 = ⊎-elim (λ w. w) (λ w. absurd (omega (arith, x .stands .more w .0, total-prefix h l w, o₂ .1))) (lt-or-ge (length h) 3) in
+        let few : length h < 3 =
+        ⊎-elim (λ w. w) (λ w. absurd (omega (arith, x .stands .more w .0, total-prefix h l w, o₂ .1)))
+        (lt-or-ge (length h) 3) in
         let is : goesOn delivers plain (holding h) l ≡ all (done broken) (h ++ l) (made []) =
-        goes ∙ ap (λ (z : Next ℕ). z .story) (law-over delivers (outside filling) (start h) l (subst (λ (z : List ℕ). length z < 3) (sym (start-hand h)) few) (o .0) (o .1)) ∙ ap brokenOff more-hand ∙ made-broken [] (h ++ l) in
+        goes
+        ∙ ap (λ (z : Next ℕ). z .story)
+        (law-over delivers (outside filling) (start h) l
+        (subst (λ (z : List ℕ). length z < 3) (sym (start-hand h)) few) (o .0) (o .1))
+        ∙ ap brokenOff more-hand
+        ∙ made-broken [] (h ++ l) in
         end-one (done broken) (h ++ l) (ap (joined keep) is ∙ joined-made keep (done broken) [] (h ++ l) refl) hold (n + m) both-long refl
 
     module _ (t : ℕ) (e : r ≡ Whole t) where
@@ -165,27 +186,43 @@ module _ {hold p : List ℕ} {n from m : ℕ} (x : Given hold p n from m) (out :
       s = h ++ take k l
 
       s-long : t ≡ length s
-      s-long = sym (ap length (sym (take-append-add h l k)) ∙ length-take-le (length h + k) (h ++ l) (omega (arith, h-long, o .3, whole-in)) ∙ omega (arith, h-long, whole-in))
+      s-long =
+          sym (ap length (sym (take-append-add h l k))
+          ∙ length-take-le (length h + k) (h ++ l) (omega (arith, h-long, o .3, whole-in))
+          ∙ omega (arith, h-long, whole-in))
 
       whole-is : goesOn delivers plain (holding h) l ≡ all (done filler) (drop k l) (made (s ∷ []))
       whole-is =
           let total : totalOf (handOf (start h) ++ l) ≡ t = ap totalOf (sym run-is) ∙ sym (o .1) in
           let long : length (handOf (start h)) ≡ n = ap length (start-hand h) ∙ h-long in
           goes
-          ∙ ap (λ (z : Next ℕ). z .story) (law-whole delivers (outside filling) (start h) l k (omega (arith, total, long, whole-in)) (omega (arith, whole-in)) (omega (arith, total, o .2)) (omega (arith, whole-in, l-long)))
-          ∙ ap (λ (z : Story ℕ). stretch delivers plain (outside filling) (place (outside filling) (finished delivered z)) (drop k l) .story) (all-append in-hand h (take k l) (made []))
+          ∙ ap (λ (z : Next ℕ). z .story)
+          (law-whole delivers (outside filling) (start h) l k (omega (arith, total, long, whole-in))
+          (omega (arith, whole-in)) (omega (arith, total, o .2)) (omega (arith, whole-in, l-long)))
+          ∙ ap
+          (λ (z : Story ℕ). stretch delivers plain (outside filling)
+          (place (outside filling) (finished delivered z)) (drop k l) .story)
+          (all-append in-hand h (take k l) (made []))
           ∙ ap (λ (z : Story ℕ). stretch delivers plain (outside filling) (place (outside filling) z) (drop k l) .story) (made-more [] s)
-          ∙ ap (λ (z : Next ℕ). z .story) (pass delivers (outside filling) (outside filling) (done filler) (λ b s. refl) (made (s ∷ [])) (drop k l))
+          ∙ ap (λ (z : Next ℕ). z .story)
+          (pass delivers (outside filling) (outside filling) (done filler) (λ b s. refl) (made (s ∷ [])) (drop k l))
 
-      pub end-whole : (out′ out″ : List ℕ) → out′ ≡ paste out 0 hold n → out″ ≡ paste out′ n (drop from p) k → End hold out″ (answerOf (done filler) 1 t (m - k))
+      pub end-whole : (out′ out″ : List ℕ) → out′ ≡ paste out 0 hold n → out″ ≡ paste out′ n (drop from p) k
+          → End hold out″ (answerOf (done filler) 1 t (m - k))
       end-whole out′ out″ w₁ w₂ =
-          let first : out′ ≡ laid out 0 h = w₁ ∙ ap (λ (z : List ℕ). paste z 0 hold n) (laid-none out 0) ∙ laid-more out 0 [] hold n (omega arith) (x .in-hold) in
+          let first : out′ ≡ laid out 0 h =
+          w₁
+          ∙ ap (λ (z : List ℕ). paste z 0 hold n) (laid-none out 0)
+          ∙ laid-more out 0 [] hold n (omega arith) (x .in-hold) in
           let zero-n : n ≡ 0 + length h = omega (arith, h-long) in
           let taken : take k (drop from p) ≡ take k l = sym (take-take k m (drop from p) (omega (arith, whole-in))) in
           let one : flatten (s ∷ []) ≡ s = flatten-one s in
           let both : out″ ≡ laid out 0 (flatten (s ∷ [])) =
           w₂ ∙ ap (λ (z : List ℕ). paste z n (drop from p) k) first ∙ ap (λ (z : ℕ). paste (laid out 0 h) z (drop from p) k) zero-n
-          ∙ laid-more out 0 h (drop from p) k (omega arith) (omega (arith, whole-in, x .in-packet, length-drop from p)) ∙ ap (λ (z : List ℕ). laid out 0 (h ++ z)) taken ∙ ap (laid out 0) (sym one) in
+          ∙ laid-more out 0 h (drop from p) k (omega arith) (omega (arith, whole-in, x .in-packet, length-drop from p))
+          ∙ ap (λ (z : List ℕ). laid out 0 (h ++ z)) taken
+          ∙ ap (laid out 0) (sym one) in
           let rest : m - k ≡ length (drop k l) = omega (arith, length-drop k l, l-long) in
-          ends-as (all (done filler) (drop k l) (made (s ∷ []))) (ap (joined keep) whole-is ∙ joined-made keep (done filler) (s ∷ []) (drop k l) refl)
+          ends-as (all (done filler) (drop k l) (made (s ∷ [])))
+          (ap (joined keep) whole-is ∙ joined-made keep (done filler) (s ∷ []) (drop k l) refl)
           (ends-made (done filler) (s ∷ []) (drop k l) hold out 0 hold out″ 1 t (m - k) refl (s-long ∙ ap length (sym one)) rest refl both)

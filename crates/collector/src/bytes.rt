@@ -5,7 +5,7 @@ ghost use lib.ListN.{length, drop};
 ghost use lib.Seq.{paste};
 use copy::copy;
 
-// n bytes of src from index from go to dst from index at; dst's other bytes stay.
+// Copies src[from..from+n] to dst[at..at+n]; dst's other bytes stay.
 pub fn copy_at(src: &[u8], from: usize, n: usize, dst: &mut [u8], at: usize)
     requires { ⌜ (from + n ≤ length (now src)) × (at + n ≤ length (now dst)) ⌝ }
     ensures { λ _. ⌜ now (dst .exit) ≡ paste (now (dst .entry)) at (drop from (now (src .entry))) n ⌝ }

@@ -74,7 +74,8 @@ fn unfit(rec: Record, hold: &[u8]) -> bool
 
 // A packet and what it is lent with, by document 01's table: 41, 42 and 43 come before what the packet alone is refused for.
 pub fn judge(rec: Record, hold: &[u8], room: usize, packet: &[u8]) -> Judgement
-    ensures { λ r. ⌜ meant r ≡ judged (tooSmall (length (now (hold .entry))) room) (cannotStand rec (now (hold .entry))) (rec .pid) (now (packet .entry)) ⌝ }
+    ensures { λ r. ⌜ meant r ≡ judged (tooSmall (length (now (hold .entry))) room) (cannotStand rec (now (hold .entry)))
+        (rec .pid) (now (packet .entry)) ⌝ }
 {
     if packet.len() != 188 {
         return Judgement::Refuse(Refusal::NotAPacket);

@@ -60,7 +60,8 @@ pub fn fresh(pid: u16) -> Record
 
 // One packet, with the record by value.
 pub fn step(rec: Record, hold: &mut [u8], out: &mut [u8], packet: &[u8]) -> Stepped
-    ensures { λ r. ⌜ came (r .record) (now (hold .exit)) (now (out .exit)) (r .answer) ≡ collected rec (now (hold .entry)) (now (out .entry)) (now (packet .entry)) ⌝ }
+    ensures { λ r. ⌜ came (r .record) (now (hold .exit)) (now (out .exit)) (r .answer)
+        ≡ collected rec (now (hold .entry)) (now (out .entry)) (now (packet .entry)) ⌝ }
 {
     let v = lent::judge(rec, hold, out.len(), packet);
     match v {
@@ -85,7 +86,8 @@ pub fn step(rec: Record, hold: &mut [u8], out: &mut [u8], packet: &[u8]) -> Step
 
 // "the collector's record is altered in place by each packet"
 pub fn collect(rec: &mut Record, hold: &mut [u8], out: &mut [u8], packet: &[u8]) -> Answer
-    ensures { λ r. ⌜ came (now (rec .exit)) (now (hold .exit)) (now (out .exit)) r ≡ collected (now (rec .entry)) (now (hold .entry)) (now (out .entry)) (now (packet .entry)) ⌝ }
+    ensures { λ r. ⌜ came (now (rec .exit)) (now (hold .exit)) (now (out .exit)) r
+        ≡ collected (now (rec .entry)) (now (hold .entry)) (now (out .entry)) (now (packet .entry)) ⌝ }
 {
     let s = step(*rec, hold, out, packet);
     *rec = s.record;

@@ -8,7 +8,7 @@ ghost use Rattle.collector.specs.Rules.{holding, payload, plain, deliver
 ghost use Rattle.collector.specs.Inner.Stretch.{Ends};
 ghost use Rattle.collector.specs.Inner.Payload.{Fit, frontOf};
 
-// The stretch that goes to the section in hand: so many bytes of the packet, from index from on.
+// The stretch that goes to the section in hand: packet[from..from+bytes].
 struct Front {
     from: usize,
     bytes: usize,
@@ -31,8 +31,9 @@ fn front_of(packet: &[u8], from: usize, start: bool) -> Front
     }
 }
 
-// The payload is the packet's bytes from index from on, and n bytes are in hand. "Start flag: one pointer byte p. The next p bytes go as above;
-// a section still unfinished after them is broken off. Then sections follow end to end". The pointer byte itself is not in the answer.
+// The payload is packet[from..], and n bytes are in hand. "Start flag: one pointer byte p. The next p bytes go as above;
+// a section still unfinished after them is broken off. Then sections follow end to end". The pointer byte itself is not
+// in the answer.
 // go_on, sections and carry are each called at one place alone, so that the compiler makes them part of their caller.
 pub fn carry(
     hold: &mut [u8],
@@ -43,7 +44,8 @@ pub fn carry(
     out: &mut [u8],
 ) -> Gain
     requires { ⌜ Fit n (now hold) (now out) (now packet) from start ⌝ }
-    ensures { λ r. ⌜ Ends (payload delivers plain start (holding (take n (now (hold .entry)))) (drop from (now (packet .entry)))) (now (hold .entry)) (now (out .entry)) 0 (now (hold .exit)) (now (out .exit)) r ⌝ }
+    ensures { λ r. ⌜ Ends (payload delivers plain start (holding (take n (now (hold .entry)))) (drop from (now (packet .entry))))
+        (now (hold .entry)) (now (out .entry)) 0 (now (hold .exit)) (now (out .exit)) r ⌝ }
 {
     let front = front_of(packet, from, start);
     let a = stretch::go_on(hold, n, packet, front.from, front.bytes, out, !start);

@@ -80,10 +80,12 @@ fn looked(hold: &[u8], n: usize, packet: &[u8], from: usize, m: usize) -> Look
     Look::Whole(total)
 }
 
-// "Then sections follow end to end", from index from to the packet's end; out has what is finished from index at on.
+// "Then sections follow end to end", in packet[from..]; what is finished goes to out[at..].
 pub fn sections(packet: &[u8], from: usize, hold: &mut [u8], out: &mut [u8], at: usize) -> Gain
-    requires { ⌜ (from ≤ length (now packet)) × (length (now packet) ≤ 188) × (188 ≤ length (now hold)) × (at + (length (now packet) - from) ≤ length (now out)) ⌝ }
-    ensures { λ r. ⌜ Ends (sectionsIn delivers plain (holding []) (drop from (now (packet .entry)))) (now (hold .entry)) (now (out .entry)) at (now (hold .exit)) (now (out .exit)) r ⌝ }
+    requires { ⌜ (from ≤ length (now packet)) × (length (now packet) ≤ 188)
+        × (188 ≤ length (now hold)) × (at + (length (now packet) - from) ≤ length (now out)) ⌝ }
+    ensures { λ r. ⌜ Ends (sectionsIn delivers plain (holding []) (drop from (now (packet .entry))))
+        (now (hold .entry)) (now (out .entry)) at (now (hold .exit)) (now (out .exit)) r ⌝ }
 {
     let mut i = from;
     let mut o = at;
@@ -141,8 +143,9 @@ pub fn sections(packet: &[u8], from: usize, hold: &mut [u8], out: &mut [u8], at:
     }
 }
 
-// "bytes go to the section in hand; after its end, filler. Nothing in hand: skipped." The m bytes are those from index from, n are in hand,
-// and keep says whether a section that is still unfinished stays in hand. The hold is written only where its bytes stay in hand.
+// "bytes go to the section in hand; after its end, filler. Nothing in hand: skipped." The m bytes are
+// packet[from..from+m], n are in hand, and keep says whether a section that is still unfinished stays in hand. The hold
+// is written only where its bytes stay in hand.
 pub fn go_on(
     hold: &mut [u8],
     n: usize,
@@ -152,9 +155,12 @@ pub fn go_on(
     out: &mut [u8],
     keep: bool,
 ) -> Gain
-    requires { ⌜ (n < 4096) × (4096 ≤ length (now hold)) × (from + m ≤ length (now packet)) × (length (now packet) ≤ 188) × (4280 ≤ length (now out)) ⌝ }
+    requires { ⌜ (n < 4096) × (4096 ≤ length (now hold)) × (from + m ≤ length (now packet))
+        × (length (now packet) ≤ 188) × (4280 ≤ length (now out)) ⌝ }
     requires { ⌜ Unfinished (take n (now hold)) ⌝ }
-    ensures { λ r. ⌜ Ends (joined keep (goesOn delivers plain (holding (take n (now (hold .entry)))) (take m (drop from (now (packet .entry)))))) (now (hold .entry)) (now (out .entry)) 0 (now (hold .exit)) (now (out .exit)) r ⌝ }
+    ensures { λ r. ⌜ Ends (joined keep (goesOn delivers plain (holding (take n (now (hold .entry))))
+        (take m (drop from (now (packet .entry))))))
+        (now (hold .entry)) (now (out .entry)) 0 (now (hold .exit)) (now (out .exit)) r ⌝ }
 {
     let none = Gain {
         in_hand: 0,

@@ -72,7 +72,7 @@ fn kept(next: bool, held: usize) -> usize
     if next { held } else { 0 }
 }
 
-// A packet that is taken and has payload, from index from on; next says that its counter follows the last one.
+// A packet that is taken and has payload, packet[from..]; next says that its counter follows the last one.
 fn taken(
     rec: Record,
     hold: &mut [u8],
@@ -84,7 +84,11 @@ fn taken(
     next: bool,
 ) -> Stepped
     requires { ⌜ Fit (rec .in_hand) (now hold) (now out) (now packet) from start ⌝ }
-    ensures { λ r. ⌜ came (r .record) (now (hold .exit)) (now (out .exit)) (r .answer) ≡ outcomeAfter rec (now (hold .entry)) (now (out .entry)) counter (payload delivers plain start (joined next (holding (take (rec .in_hand) (now (hold .entry))))) (drop from (now (packet .entry)))) ⌝ }
+    ensures { λ r. ⌜ came (r .record) (now (hold .exit)) (now (out .exit)) (r .answer)
+        ≡ outcomeAfter rec
+        (now (hold .entry)) (now (out .entry)) counter
+        (payload delivers plain start (joined next (holding (take (rec .in_hand) (now (hold .entry)))))
+        (drop from (now (packet .entry)))) ⌝ }
 {
     let held = rec.in_hand;
     let n = kept(next, held);
@@ -99,7 +103,7 @@ fn taken(
     }
 }
 
-// A packet that is not refused and has payload, from index from on.
+// A packet that is not refused and has payload, packet[from..].
 pub fn carried(
     rec: Record,
     hold: &mut [u8],
@@ -110,7 +114,9 @@ pub fn carried(
     counter: u8,
 ) -> Stepped
     requires { ⌜ Fit (rec .in_hand) (now hold) (now out) (now packet) from start ⌝ }
-    ensures { λ r. ⌜ came (r .record) (now (hold .exit)) (now (out .exit)) (r .answer) ≡ outcomeOf rec (now (hold .entry)) (now (out .entry)) (ruledOn (beforeOf rec) (loadOf (now (packet .entry)) from start counter)) ⌝ }
+    ensures { λ r. ⌜ came (r .record) (now (hold .exit)) (now (out .exit)) (r .answer)
+        ≡ outcomeOf rec (now (hold .entry)) (now (out .entry))
+        (ruledOn (beforeOf rec) (loadOf (now (packet .entry)) from start counter)) ⌝ }
 {
     let last = rec.last;
     if is_repeat(last, counter) {

@@ -203,7 +203,8 @@ module _ {pid size : ℕ} {r : Record} {hold : List ℕ} {h : History} (g : Agre
           standing = subst Standing (sym (b .hand)) standing-after;
         }
 
-    sections-taken : map (map valueOf) (deliveredIn (historyAfter delivers h q .story)) ≡ map (map valueOf) (deliveredIn (h .story)) ++ deliveredOf s
+    sections-taken : map (map valueOf) (deliveredIn (historyAfter delivers h q .story))
+        ≡ map (map valueOf) (deliveredIn (h .story)) ++ deliveredOf s
     sections-taken =
         sections-values delivers valueOf delivered (historyAfter delivers h q .story .sections)
         ∙ ap (sectionsOf delivers plain delivered) (beside-after .sections)
@@ -288,7 +289,8 @@ module _ {pid size : ℕ} {r : Record} {hold : List ℕ} {h : History} (g : Agre
 
 -- ---- a run of calls
 
-history-append : (h : History) (a c : List (Carried ℕ)) → historyFrom delivers h (a ++ c) ≡ historyFrom delivers (historyFrom delivers h a) c
+history-append : (h : History) (a c : List (Carried ℕ))
+    → historyFrom delivers h (a ++ c) ≡ historyFrom delivers (historyFrom delivers h a) c
 history-append h [] c = refl
 history-append h (q ∷ a) c = history-append (historyAfter delivers h q) a c
 

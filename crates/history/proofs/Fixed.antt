@@ -249,7 +249,8 @@ promised-once : {r r₁ r₂ : Record} {hold hold₁ hold₂ : List ℕ} {ks ks�
 promised-once no-call no-call e = (refl, refl, refl)
 promised-once no-call (one-call d y) e = let z : _≡_ {A = ℕ} 0 1 = cc in absurd (omega arith)
 promised-once (one-call c x) no-call e = let z : _≡_ {A = ℕ} 0 1 = cc in absurd (omega arith)
-promised-once {r} {r₂ = r₂} {hold = hold} {hold₂ = hold₂} (one-call {r₁ = s} {hold₁ = h} {k = k} {ks = ks} c x) (one-call {r₁ = s₂} {hold₁ = h₂} {k = k₂} {ks = ks₂} d y) e =
+promised-once {r} {r₂ = r₂} {hold = hold} {hold₂ = hold₂} (one-call {r₁ = s} {hold₁ = h} {k = k} {ks = ks} c x)
+    (one-call {r₁ = s₂} {hold₁ = h₂} {k = k₂} {ks = ks₂} d y) e =
     let input : inputOf k ≡ inputOf k₂ = cc in
     let inputs : map inputOf ks ≡ map inputOf ks₂ = cc in
     let same : _≡_ {A = Outcome} (record { rec = s; hold = h; out = k .out′; said = k .said })

@@ -106,7 +106,8 @@ module _ (comes : List ℕ → Kind) (after : Mode) (ends : (s : Story ℕ) → 
       → In (byteIn comes plain after m b s .mode) (byteIn comes plain after m b s .story)
   in-byte begin b s x = in-begun (eqb b 255) b s refl x
   in-byte inside b s x =
-      in-grown (comes (map plain (handOf s ++ (b ∷ [])))) (sizeOf (map plain (handOf s ++ (b ∷ [])))) b s (ap sizeOf (sym (map-id (handOf s ++ (b ∷ []))))) x
+      in-grown (comes (map plain (handOf s ++ (b ∷ [])))) (sizeOf (map plain (handOf s ++ (b ∷ [])))) b s
+      (ap sizeOf (sym (map-id (handOf s ++ (b ∷ []))))) x
   in-byte (outside m) b s x = other-hand (done (kindOf m)) refl b s x
 
   in-stretch : (n : Next ℕ) (bs : List ℕ) → In (n .mode) (n .story)
@@ -153,7 +154,9 @@ module _ (comes : List ℕ → Kind) where
 -- ---- the record
 
 pub few-standing : (h : List ℕ) → Standing h → length h < 4096
-few-standing h x = ⊎-elim (λ w. omega arith) (λ w. omega (arith, x .unfinished .more w .0, x .unfinished .more w .1)) (lt-or-ge (length h) 3)
+few-standing h x =
+    ⊎-elim (λ w. omega arith) (λ w. omega (arith, x .unfinished .more w .0, x .unfinished .more w .1))
+    (lt-or-ge (length h) 3)
 
 -- what stands in hand is not refused
 held-ok : (h : List ℕ) → Standing h → (rest : List ℕ) → heldUnfit (length h) false (h ++ rest) ≡ false

@@ -1,5 +1,5 @@
--- No section that comes whole spans a break in the counter, whatever it comes to: what is in hand is joined, packet by packet without a break, to
--- the packet that comes next, and a break takes it.
+-- No section that comes whole spans a break in the counter, whatever it comes to: what is in hand is joined, packet by
+-- packet without a break, to the packet that comes next, and a break takes it.
 use mathlib.Core.Path.{_≡_, refl, sym, ap, _∙_, subst}
 use mathlib.Core.Bool.{Bool, true, false}
 use mathlib.Core.List.{List, [], _∷_, _++_, append-assoc, map, map-append}

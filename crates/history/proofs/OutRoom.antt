@@ -44,7 +44,8 @@ one-pointer s p bs e =
       length-append (bytesOf (done pointer) (s .marks)) (p ∷ []),
     ) in
     let f : Story ℕ = goesOn delivers plain (given (done pointer) p s) (take p bs) in
-    let y = keep-goes delivers plain Any _ (keeps-points delivers plain (λ bs. refl) 1) [] (given (done pointer) p s) (take p bs) (any (take p bs)) first in
+    let y = keep-goes delivers plain Any _ (keeps-points delivers plain (λ bs. refl) 1) [] (given (done pointer) p s)
+    (take p bs) (any (take p bs)) first in
     keep-sections delivers plain Any _ (keeps-points delivers plain (λ bs. refl) 1) [] (brokenOff f) (drop p bs) (any (drop p bs))
     (keeps-points delivers plain (λ bs. refl) 1 .breaks [] f y)
 
@@ -116,7 +117,8 @@ most-in before h q false bs e w few some long =
 most-in before h q true [] e w few some long = absurd (omega arith)
 most-in before h q true (p ∷ bs) e w few some long =
     let s : Story ℕ = storyAfter delivers plain before (holding h) q in
-    let kept = keep-taken delivers plain Any (Kept delivers plain) (keeps-kept delivers plain) (points-kept delivers plain) before h (holding h) q
+    let kept = keep-taken delivers plain Any (Kept delivers plain) (keeps-kept delivers plain)
+    (points-kept delivers plain) before h (holding h) q
     (any (q .bytes)) (kept-holding delivers plain h) in
     let point : countOf (done pointer) (s .marks) ≡ 1 =
     rw (e, w)

@@ -13,7 +13,9 @@ use Rattle.collector.proofs.step.Tie as tie
 
 -- the start, from where the packet is judged
 abbrev start : tie.After-judge → tie.Start
-start j = j .before .before .before .before .before
+start j =
+    let entered = j .before .before in
+    entered .before .before .before
 
 -- the outcome, as the packet is judged
 abbrev outcome : tie.Start → Judged → Outcome
@@ -36,7 +38,8 @@ carried-requires c κs =
     let v = c .before .before .before in
     let j = v .before .before in
     let a = start j .args in
-    fit-of (a .rec) (a .hold .now) (a .out .now) (a .packet .now) (v .v2 .given .0 .0) (v .v2 .given .0 .1 .0) (v .v2 .given .0 .1 .1 .0) (sym (j .judge .ensures) ∙ ap meant (v .v2 .given .1))
+    fit-of (a .rec) (a .hold .now) (a .out .now) (a .packet .now) (v .v2 .given .0 .0) (v .v2 .given .0 .1 .0)
+    (v .v2 .given .0 .1 .1 .0) (sym (j .judge .ensures) ∙ ap meant (v .v2 .given .1))
 
 same-length : tie.Need-same-length
 same-length c = search needs
@@ -63,24 +66,15 @@ same-length-4 c = search needs
 
 returns-3 : tie.Need-returns-3
 returns-3 c =
-    let k = c .before .before .before .before in
-    let v = k .before .before .before .before in
+    let after-hold = c .before .before .before in
+    let k = after-hold .before in
+    let after-known-told2 = k .before .before .before in
+    let v = after-known-told2 .before in
     let j = v .before .before in
     k .carried .ensures ∙ ap (outcome (start j)) (sym (ap meant (v .v2 .given .1)) ∙ j .judge .ensures)
 
 pub step-spec : {M : Type 1} → statement M
 step-spec =
     tie.close
-    (tie.spec
-    judge-requires
-    enum-known-v
-    enum-told
-    enum-known-v-2
-    carried-requires
-    same-length
-    returns
-    same-length-2
-    returns-2
-    same-length-3
-    same-length-4
-    returns-3)
+    (tie.spec judge-requires enum-known-v enum-told enum-known-v-2 carried-requires same-length returns same-length-2
+    returns-2 same-length-3 same-length-4 returns-3)

@@ -32,15 +32,15 @@ start-requires c κs = search needs
 
 loop-holds : tie.Need-loop-holds Inv-loop μ-loop
 loop-holds c =
-    let s = c .before .before .before .before in
-    let a = s .args in
+    let after-slice-known = c .before .before .before in
+    let s = after-slice-known .before in
     record {
       input = [];
       reads = 0;
       heard =
           subst
-          (λ (p : Place). Heard (a .hold .now) (a .out .now) [] 0
-          (stateAs p (a .buf .now) (a .hold .now) (a .out .now)))
+          (λ (p : Place). Heard (s .args .hold .now) (s .args .out .now) [] 0
+          (stateAs p (s .args .buf .now) (s .args .hold .now) (s .args .out .now)))
           (sym (c .start .ensures)) (none-yet (s .pre .0) (s .pre .1) (s .pre .2));
       count = refl;
       buf-long = refl;
@@ -77,16 +77,22 @@ left-of-requires c κs = search needs
 
 read-behind-requires : tie.Need-read-behind-requires Inv-loop μ-loop
 read-behind-requires c κs =
-    let h = c .before .before .before .before .before in
-    let s = h .before .before .before .before .before in
+    let after-is-over = c .before .before .before in
+    let h = after-is-over .before .before in
+    let after-slice-known2 = h .before .before .before in
+    let s = after-slice-known2 .before .before in
     omega (arith, c .left-of .ensures, left-few (h .loop .inv .heard), h .loop .inv .buf-long, s .pre .0)
 
 -- the loop's head and the start, from where the read is done, and what the read says
 abbrev head : tie.After-read-behind Inv-loop μ-loop → tie.At-loop Inv-loop μ-loop
-head r = r .before .before .before .before .before .before
+head r =
+    let else1 = r .before .before .before in
+    else1 .before .before .before
 
 abbrev begin : tie.After-read-behind Inv-loop μ-loop → tie.Start Inv-loop μ-loop
-begin r = head r .before .before .before .before .before
+begin r =
+    let after-slice-known2 = head r .before .before .before in
+    after-slice-known2 .before .before
 
 behind : (r : tie.After-read-behind Inv-loop μ-loop)
     → Behind (head r .loop .p .left) (head r .loop .buf) (r .read-behind .last .0) (r .read-behind .result .got)
@@ -96,8 +102,9 @@ behind r =
 
 heard-requires : tie.Need-heard-requires Inv-loop μ-loop
 heard-requires c κs =
-    let r = c .before .before .before .before .before in
-    let h = r .before .before .before .before .before .before in
+    let after-slice-known4 = c .before .before .before in
+    let r = after-slice-known4 .before .before in
+    let h = head r in
     subst (Fits (h .loop .p .left) (r .read-behind .result .got)) (sym (r .read-behind .kept .0)) (behind r .fits)
 
 sub-turns : tie.Need-sub-turns Inv-loop μ-loop
@@ -108,9 +115,12 @@ loop-less c = search needs
 
 loop-again : tie.Need-loop-again Inv-loop μ-loop
 loop-again c =
-    let x = c .before .before .before .before .before .before in
-    let r = x .before .before .before .before .before .before in
+    let after-hold = c .before .before .before in
+    let x = after-hold .before .before .before in
+    let after-heard-arg = x .before .before .before in
+    let r = after-heard-arg .before .before .before in
     let i = r .before .before .before in
+    let is-over = i .before .is-over in
     let l = head r .loop in
     record {
       input = l .inv .input ++ brought (l .p .left) (r .read-behind .last .0) (r .read-behind .result .got);
@@ -121,7 +131,7 @@ loop-again c =
           (l .inv .input ++ brought (l .p .left) (r .read-behind .last .0) (r .read-behind .result .got))
           (suc (l .inv .reads)))
           (sym (x .heard .ensures))
-          (one-more (l .inv .heard) (still-reading (l .p .stage) (sym (i .before .is-over .ensures) ∙ i .if1 .left))
+          (one-more (l .inv .heard) (still-reading (l .p .stage) (sym (is-over .ensures) ∙ i .if1 .left))
           (r .read-behind .last .0) (r .read-behind .result .got) (r .read-behind .kept .0) (behind r));
       count = omega (arith, l .inv .count);
       buf-long = x .heard .kept .1 .1 .0 ∙ r .read-behind .kept .0 ∙ l .inv .buf-long;
@@ -153,23 +163,6 @@ returns-2 c =
 pub account-of-spec : {M : Type 1} → statement M
 account-of-spec =
     tie.close
-    (tie.spec
-    Inv-loop
-    μ-loop
-    start-requires
-    loop-holds
-    is-over-requires
-    same-length
-    same-length-2
-    same-length-3
-    returns
-    left-of-requires
-    read-behind-requires
-    heard-requires
-    sub-turns
-    loop-less
-    loop-again
-    same-length-4
-    same-length-5
-    same-length-6
-    returns-2)
+    (tie.spec Inv-loop μ-loop start-requires loop-holds is-over-requires same-length same-length-2 same-length-3 returns
+    left-of-requires read-behind-requires heard-requires sub-turns loop-less loop-again same-length-4 same-length-5
+    same-length-6 returns-2)

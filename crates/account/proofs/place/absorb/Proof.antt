@@ -30,7 +30,8 @@ module _ (n : ℕ) (s : State) where
 
 returns : tie.Need-returns
 returns c =
-    let a = c .before .before .before .before .before .args in
+    let after-slice-known2 = c .before .before .before in
+    let a = after-slice-known2 .before .before .args in
     few (a .n) (stateAs (a .p) (a .buf .now) (a .hold .now) (a .out .now)) (c .before .if1 .taken)
 
 account-for-requires : tie.Need-account-for-requires
@@ -57,10 +58,13 @@ same-length-3 c = search needs
 returns-2 : tie.Need-returns-2
 returns-2 c =
     let f = c .before .before in
-    let e = f .before .before .before .before .before .before in
-    let k = e .before .before .before .before in
+    let after-out = f .before .before .before in
+    let e = after-out .before .before .before in
+    let after-enter-all-arg = e .before .before .before in
+    let k = after-enter-all-arg .before in
     let t = k .before .before in
-    let a = t .before .before .before .before .args in
+    let after-slice-known = t .before .before .before in
+    let a = after-slice-known .before .args in
     packets (a .n) (stateAs (a .p) (a .buf .now) (a .hold .now) (a .out .now)) (t .if1 .left) (e .enter-all .result) _ _
     _ (f .to-front .ensures)
     (e .enter-all .ensures

@@ -23,9 +23,10 @@ fresh-requires c κs = search needs
 returns-2 : tie.Need-returns-2
 returns-2 c =
     let k = c .before .before in
+    let start = k .before .before in
     c .fresh .ensures
     ∙ ap freshAccount (c .before .first-pid .ensures)
-    ∙ ap (account (k .before .before)) (sym (k .if1 .left))
+    ∙ ap (account start) (sym (k .if1 .left))
 
 pub account-for-spec : {M : Type 1} → statement M
 account-for-spec = tie.close (tie.spec returns first-pid-requires fresh-requires returns-2)

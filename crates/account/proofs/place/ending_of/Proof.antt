@@ -22,7 +22,8 @@ enum-told-2 c = search needs
 returns : tie.Need-returns
 returns c =
     let m = c .before .before in
-    by-both (m .before .before .args .p) Over false (m .enum-told2 .given .1) (not-true _ (c .if1 .taken))
+    let args = m .before .before .args in
+    by-both (args .p) Over false (m .enum-told2 .given .1) (not-true _ (c .if1 .taken))
 
 enum-told-3 : tie.Need-enum-told-3
 enum-told-3 c = search needs
@@ -32,9 +33,9 @@ returns-2 c = search needs
 
 returns-3 : tie.Need-returns-3
 returns-3 c =
-    let i = c .before in
-    let m = i .before .before in
-    by-both (m .before .before .args .p) Over true (m .enum-told2 .given .1) (not-false _ (i .if1 .left))
+    let m = c .before .before .before in
+    let args = m .before .before .args in
+    by-both (args .p) Over true (m .enum-told2 .given .1) (not-false _ (c .before .if1 .left))
 
 returns-4 : tie.Need-returns-4
 returns-4 c = search needs

@@ -16,8 +16,10 @@ same-length-2 c = search needs
 
 returns : tie.Need-returns
 returns c =
-    let k = c .before .before .before .before in
-    let a = k .before .before .before .before .before .before .args in
+    let after-hold = c .before .before .before in
+    let k = after-hold .before in
+    let after-slice-known2 = k .before .before .before in
+    let a = after-slice-known2 .before .before .before .args in
     ap (finishedAs (stateAs (a .p) (a .buf .now) (a .hold .now) (a .out .now))) (k .last-piece .ensures)
 
 pub finish-spec : {M : Type 1} → statement M

@@ -11,7 +11,9 @@ use Rattle.account.proofs.place.heard.Tie as tie
 
 -- the start, from where the read's outcome is told, and the state there
 abbrev start : tie.After-got-of → tie.Start
-start m = m .before .before .before .before
+start m =
+    let after-slice-known = m .before .before .before in
+    after-slice-known .before
 
 abbrev at : tie.After-got-of → State
 at m =
@@ -41,11 +43,17 @@ bytes-fit : (g : tie.After-got)
     (length (start (g .before .before) .args .buf .now))
 bytes-fit g = fits (g .before .before) (Bytes (g .got .given .0 .0)) (g .got .given .1)
 
+-- the arm, from where they are absorbed
+abbrev arm : tie.After-absorb-arg3 → tie.After-got
+arm c =
+    let after-known-told = c .before .before .before in
+    after-known-told .before
+
 add-absorb : tie.Need-add-absorb
-add-absorb c = omega (arith, bytes-fit (c .before .before .before .before))
+add-absorb c = omega (arith, bytes-fit (arm c))
 
 absorb-requires : tie.Need-absorb-requires
-absorb-requires c κs = omega (arith, bytes-fit (c .before .before .before .before))
+absorb-requires c κs = omega (arith, bytes-fit (arm c))
 
 enum-told : tie.Need-enum-told
 enum-told c = search needs
@@ -56,7 +64,8 @@ enum-told-2 c = search needs
 finish-requires : tie.Need-finish-requires
 finish-requires c κs =
     let t = c .before .before .before in
-    omega (arith, fits (t .before .before) End (t .enum-told2 .given .1))
+    let after-got-of = t .before .before in
+    omega (arith, fits after-got-of End (t .enum-told2 .given .1))
 
 enum-told-3 : tie.Need-enum-told-3
 enum-told-3 c = search needs
@@ -72,9 +81,11 @@ same-length-3 c = search needs
 
 returns : tie.Need-returns
 returns c =
-    let b = c .before .before .before .before .before .before in
-    let g = b .before .before .before .before .before in
-    b .absorb .ensures ∙ as-heard (g .before .before) (Bytes (g .got .given .0 .0)) (g .got .given .1)
+    let after-hold = c .before .before .before in
+    let b = after-hold .before .before .before in
+    let g = arm (b .before) in
+    let after-got-of = g .before .before in
+    b .absorb .ensures ∙ as-heard after-got-of (Bytes (g .got .given .0 .0)) (g .got .given .1)
 
 returns-2 : tie.Need-returns-2
 returns-2 c = as-heard (c .before .before) Again (c .enum-told .given .1)
@@ -90,9 +101,12 @@ same-length-6 c = search needs
 
 returns-3 : tie.Need-returns-3
 returns-3 c =
-    let f = c .before .before .before .before in
-    let t = f .before .before .before .before in
-    f .finish .ensures ∙ as-heard (t .before .before) End (t .enum-told2 .given .1)
+    let after-hold2 = c .before .before .before in
+    let f = after-hold2 .before in
+    let after-finish-arg = f .before .before .before in
+    let t = after-finish-arg .before in
+    let after-got-of = t .before .before in
+    f .finish .ensures ∙ as-heard after-got-of End (t .enum-told2 .given .1)
 
 returns-4 : tie.Need-returns-4
 returns-4 c = as-heard (c .before .before .before) Failed (c .before .enum-told3 .given .1)

@@ -38,19 +38,23 @@ module _ (p : Place) (buf hold out : List ℕ) where
 
 returns : tie.Need-returns
 returns c =
-    let a = c .before .before .before .before .before .before .args in
+    let after-slice-known2 = c .before .before .before in
+    let a = after-slice-known2 .before .before .before .args in
     not-begun (a .p) (a .buf .now) (a .hold .now) (a .out .now) (not-true _ (c .if1 .taken))
 
 returns-2 : tie.Need-returns-2
 returns-2 c =
-    let i = c .before in
-    let a = i .before .before .before .before .before .before .args in
-    none-left (a .p) (a .buf .now) (a .hold .now) (a .out .now) (not-false _ (i .if1 .left)) (c .if2 .taken)
+    let after-account = c .before .before .before in
+    let after-slice-known = after-account .before .before in
+    let a = after-slice-known .before .before .args in
+    none-left (a .p) (a .buf .now) (a .hold .now) (a .out .now) (not-false _ (c .before .if1 .left)) (c .if2 .taken)
 
 slice-aggregate-enter : tie.Need-slice-aggregate-enter
 slice-aggregate-enter c =
-    let i = c .before .before .before .before in
-    let a = i .before .before .before .before .before .before .args in
+    let else2 = c .before .before .before in
+    let after-account = else2 .before .before .before in
+    let after-slice-known = after-account .before .before in
+    let a = after-slice-known .before .before .args in
     sym (length-take-le (a .p .left) (a .buf .now) (omega arith))
 
 enter-requires : tie.Need-enter-requires
@@ -64,10 +68,13 @@ same-length-2 c = search needs
 
 returns-3 : tie.Need-returns-3
 returns-3 c =
-    let k = c .before .before .before .before in
-    let t = k .before .before .before .before in
+    let after-hold = c .before .before .before in
+    let k = after-hold .before in
+    let after-enter-arg = k .before .before .before in
+    let t = after-enter-arg .before in
     let i = t .before in
-    let a = i .before .before .before .before .before .before .args in
+    let after-slice-known2 = i .before .before .before in
+    let a = after-slice-known2 .before .before .before .args in
     k .enter .ensures
     ∙ some-left (a .p) (a .buf .now) (a .hold .now) (a .out .now) (not-false _ (i .if1 .left)) (t .if2 .left)
 

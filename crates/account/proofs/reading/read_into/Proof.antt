@@ -21,9 +21,11 @@ same-length c = search needs
 
 returns : tie.Need-returns
 returns c =
-    let r = c .before .before .before .before .before in
-    got-in-by (toZ w64 (ofZ w64 (r .read .result))) (toZ w32 (ofZ w32 (c .before .before .errno .result)))
-    (length (r .before .before .before .args .room .now)) (c .got-as .ensures) (r .read .kept .1 .0)
+    let after-errno = c .before .before in
+    let r = after-errno .before .before .before in
+    let args = r .before .before .before .args in
+    got-in-by (toZ w64 (ofZ w64 (r .read .result))) (toZ w32 (ofZ w32 (after-errno .errno .result)))
+    (length (args .room .now)) (c .got-as .ensures) (r .read .kept .1 .0)
 
 pub read-into-spec : {M : Type 1} → statement M
 read-into-spec = tie.close (tie.spec read-requires errno-requires got-as-requires same-length returns)

@@ -19,8 +19,12 @@ same-length-2 c = search needs
 
 returns : tie.Need-returns
 returns c =
-    let k = c .before .before .before .before .before .before in
-    let a = k .before .before .before .before .before .before .before .args .a in
+    let after-out = c .before .before .before in
+    let k = after-out .before .before .before in
+    let after-rec = k .before .before .before in
+    let after-slice-known = after-rec .before .before .before in
+    let args = after-slice-known .before .args in
+    let a = args .a in
     (λ i. keptAs (c .one-more .ensures i) (k .step .last .1 .0) (k .step .last .1 .1 .0))
     ∙ ap (enteredAs a) (k .step .ensures)
 

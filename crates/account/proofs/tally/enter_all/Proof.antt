@@ -78,16 +78,23 @@ loop-less c = omega arith
 
 loop-again : tie.Need-loop-again Inv-loop μ-loop
 loop-again c =
-    let e = c .before .before .before .before in
-    let l = e .before .before .before .before .before .loop in
-    let s = e .before .before .before .before .before .before .before .before .before in
-    let a = s .args in
-    let one : l .i + 188 - l .i ≡ 188 = omega arith in
-    more (keptAs (a .a) (a .hold .now) (a .out .now)) (a .bytes .now) (a .n) (a .hold .now) (a .out .now) (l .hold)
-    (l .out) (l .b) (l .i) (l .inv) (omega arith) (e .enter .result) _ _ (e .enter .kept .1 .0)
+    let after-hold = c .before .before .before in
+    let e = after-hold .before in
+    let after-enter-arg = e .before .before .before in
+    let at-loop = after-enter-arg .before .before in
+    let after-slice-known = at-loop .before .before .before in
+    let s = after-slice-known .before in
+    let one : at-loop .loop .i + 188 - at-loop .loop .i ≡ 188 = omega arith in
+    more (keptAs (s .args .a) (s .args .hold .now) (s .args .out .now)) (s .args .bytes .now) (s .args .n)
+    (s .args .hold .now) (s .args .out .now) (at-loop .loop .hold)
+    (at-loop .loop .out) (at-loop .loop .b) (at-loop .loop .i) (at-loop .loop .inv) (omega arith) (e .enter .result) _ _
+    (e .enter .kept .1 .0)
     (e .enter .kept .1 .1 .0)
     (e .enter .ensures
-    ∙ ap (λ (m : ℕ). entered (keptAs (l .b) (l .hold) (l .out)) (take m (drop (l .i) (a .bytes .now)))) one)
+    ∙ ap
+    (λ (m : ℕ). entered (keptAs (at-loop .loop .b) (at-loop .loop .hold) (at-loop .loop .out))
+    (take m (drop (at-loop .loop .i) (s .args .bytes .now))))
+    one)
 
 same-length : tie.Need-same-length Inv-loop μ-loop
 same-length c = c .before .loop .inv .hold-long
@@ -97,27 +104,18 @@ same-length-2 c = c .before .loop .inv .out-long
 
 returns : tie.Need-returns Inv-loop μ-loop
 returns c =
-    let l = c .before .loop in
-    let a = c .before .before .before .before .before .args in
-    let none : (a .n - l .i) / 188 ≡ 0 = omega arith in
-    sym (l .inv .same
-    ∙ ap (λ (m : ℕ). enteredAll (keptAs (l .b) (l .hold) (l .out)) (pieces m (drop (l .i) (a .bytes .now)))) none)
+    let at-loop = c .before in
+    let after-slice-known = at-loop .before .before .before in
+    let a = after-slice-known .before .args in
+    let none : (a .n - at-loop .loop .i) / 188 ≡ 0 = omega arith in
+    sym (at-loop .loop .inv .same
+    ∙ ap
+    (λ (m : ℕ). enteredAll (keptAs (at-loop .loop .b) (at-loop .loop .hold) (at-loop .loop .out))
+    (pieces m (drop (at-loop .loop .i) (a .bytes .now))))
+    none)
 
 pub enter-all-spec : {M : Type 1} → statement M
 enter-all-spec =
     tie.close
-    (tie.spec
-    Inv-loop
-    μ-loop
-    loop-holds
-    add-loop
-    add-e
-    sub-enter
-    part-enter-start
-    part-enter-end
-    enter-requires
-    loop-less
-    loop-again
-    same-length
-    same-length-2
-    returns)
+    (tie.spec Inv-loop μ-loop loop-holds add-loop add-e sub-enter part-enter-start part-enter-end enter-requires
+    loop-less loop-again same-length same-length-2 returns)

@@ -78,14 +78,5 @@ returns-3 c =
 pub one-more-spec : {M : Type 1} → statement M
 one-more-spec =
     tie.close
-    (tie.spec
-    enum-told
-    wrapping-add-u64-requires
-    enum-told-2
-    wrapping-add-u64-requires-2
-    enum-known-answer
-    wrapping-add-u64-requires-3
-    wrapping-add-u64-requires-4
-    returns
-    returns-2
-    returns-3)
+    (tie.spec enum-told wrapping-add-u64-requires enum-told-2 wrapping-add-u64-requires-2 enum-known-answer
+    wrapping-add-u64-requires-3 wrapping-add-u64-requires-4 returns returns-2 returns-3)

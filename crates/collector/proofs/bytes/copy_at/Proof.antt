@@ -12,8 +12,13 @@ same-length c = search needs
 
 returns : tie.Need-returns
 returns c =
-    let a = c .before .before .before .before .before .before .args in
-    c .before .before .copy .ensures .1 ∙ copied-yes (a .src .now) (a .from) (a .n) (a .dst .now) (a .at) (c .before .before .before .before .before .before .pre .0) (c .before .before .before .before .before .before .pre .1)
+    let after-copy = c .before .before in
+    let after-slice-known = after-copy .before .before in
+    let start = after-slice-known .before .before in
+    after-copy .copy .ensures .1
+    ∙ copied-yes (start .args .src .now) (start .args .from) (start .args .n) (start .args .dst .now) (start .args .at)
+    (start .pre .0)
+    (start .pre .1)
 
 pub copy-at-spec : {M : Type 1} → statement M
 copy-at-spec = tie.close (tie.spec copy-requires same-length returns)

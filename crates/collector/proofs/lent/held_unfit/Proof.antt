@@ -23,13 +23,17 @@ shared-slice-read-if3 c = search needs
 
 returns-3 : tie.Need-returns-3
 returns-3 c =
-    let some : 0 < c .before .before .before .before .before .args .n = omega arith in
-    simp (lt-ltb _ _ some, c .before .before .if2 .left, eq-eqb _ _ (c .if3 .taken))
+    let else2 = c .before .before in
+    let args = else2 .before .before .before .args in
+    let some : 0 < args .n = omega arith in
+    simp (lt-ltb _ _ some, else2 .if2 .left, eq-eqb _ _ (c .if3 .taken))
 
 returns-4 : tie.Need-returns-4
 returns-4 c =
-    let some : 0 < c .before .before .before .before .before .before .args .n = omega arith in
-    simp (lt-ltb _ _ some, c .before .before .before .if2 .left, ne-eqb _ _ (c .before .if3 .left), lt-leb _ _ (c .if4 .taken))
+    let else2 = c .before .before .before in
+    let args = else2 .before .before .before .args in
+    let some : 0 < args .n = omega arith in
+    simp (lt-ltb _ _ some, else2 .if2 .left, ne-eqb _ _ (c .before .if3 .left), lt-leb _ _ (c .if4 .taken))
 
 shared-slice-read-total-of : tie.Need-shared-slice-read-total-of
 shared-slice-read-total-of c = search needs
@@ -42,15 +46,39 @@ total-of-requires c κs = search needs
 
 returns-5 : tie.Need-returns-5
 returns-5 c =
-    let k = c .before .before .before .before in
-    let some : 0 < k .before .before .before .before .before .before .args .n = omega arith in
-    simp (lt-ltb _ _ some, k .before .before .before .if2 .left, ne-eqb _ _ (k .before .if3 .left), le-leb _ _ (k .if4 .left), ← c .before .total-of .ensures, le-leb _ _ (c .if5 .taken))
+    let after-total-of = c .before in
+    let k = after-total-of .before .before .before in
+    let if3 = k .before .if3 in
+    let else2 = k .before .before .before in
+    let args = else2 .before .before .before .args in
+    let some : 0 < args .n = omega arith in
+    simp (
+      lt-ltb _ _ some,
+      else2 .if2 .left,
+      ne-eqb _ _ (if3 .left),
+      le-leb _ _ (k .if4 .left),
+      ← after-total-of .total-of .ensures,
+      le-leb _ _ (c .if5 .taken),
+    )
 
 returns-6 : tie.Need-returns-6
 returns-6 c =
-    let k = c .before .before .before .before in
-    let some : 0 < k .before .before .before .before .before .before .args .n = omega arith in
-    simp (lt-ltb _ _ some, k .before .before .before .if2 .left, ne-eqb _ _ (k .before .if3 .left), le-leb _ _ (k .if4 .left), ← c .before .total-of .ensures, lt-leb _ _ (c .if5 .left))
+    let after-total-of = c .before in
+    let k = after-total-of .before .before .before in
+    let if3 = k .before .if3 in
+    let else2 = k .before .before .before in
+    let args = else2 .before .before .before .args in
+    let some : 0 < args .n = omega arith in
+    simp (
+      lt-ltb _ _ some,
+      else2 .if2 .left,
+      ne-eqb _ _ (if3 .left),
+      le-leb _ _ (k .if4 .left),
+      ← after-total-of .total-of .ensures,
+      lt-leb _ _ (c .if5 .left),
+    )
 
 pub held-unfit-spec : {M : Type 1} → statement M
-held-unfit-spec = tie.close (tie.spec returns returns-2 shared-slice-read-if3 returns-3 returns-4 shared-slice-read-total-of shared-slice-read-total-of-2 total-of-requires returns-5 returns-6)
+held-unfit-spec =
+    tie.close (tie.spec returns returns-2 shared-slice-read-if3 returns-3 returns-4 shared-slice-read-total-of
+    shared-slice-read-total-of-2 total-of-requires returns-5 returns-6)

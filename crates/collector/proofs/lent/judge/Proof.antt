@@ -28,19 +28,29 @@ returns-4 : tie.Need-returns-4
 unfolding judged
 returns-4 c =
     let k = c .before .before in
-    simp (eq-eqb _ _ (k .before .before .if1 .left), le-ltb _ _ (k .before .if2 .left), le-ltb _ _ (k .if3 .left), sym (c .before .unfit .ensures) ∙ c .if4 .taken)
+    let if2 = k .before .if2 in
+    let if1 = k .before .before .if1 in
+    simp (
+      eq-eqb _ _ (if1 .left),
+      le-ltb _ _ (if2 .left),
+      le-ltb _ _ (k .if3 .left),
+      sym (c .before .unfit .ensures) ∙ c .if4 .taken,
+    )
 
 judge-requires : tie.Need-judge-requires
 judge-requires c κs = search needs
 
 returns-5 : tie.Need-returns-5
 returns-5 c =
+    let unfit = c .before .before .unfit in
     let k = c .before .before .before in
-    let s = k .before .before .before .before .before in
+    let else2 = k .before in
+    let else1 = else2 .before in
+    let s = else1 .before .before .before in
     let small : tooSmall (length (s .args .hold .now)) (s .args .room) ≡ false =
-    simp (le-ltb _ _ (k .before .if2 .left), le-ltb _ _ (k .if3 .left)) in
+    simp (le-ltb _ _ (else2 .if2 .left), le-ltb _ _ (k .if3 .left)) in
     let stands : cannotStand (s .args .rec) (s .args .hold .now) ≡ false =
-    sym (c .before .before .unfit .ensures) ∙ c .before .if4 .left in
+    sym (unfit .ensures) ∙ c .before .if4 .left in
     c .judge .ensures ∙ sym (λ i. judged (small i) (stands i) (s .args .rec .pid) (s .args .packet .now))
 
 pub judge-spec : {M : Type 1} → statement M

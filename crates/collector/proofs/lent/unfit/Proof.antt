@@ -20,7 +20,12 @@ returns-2 c = simp (le-ltb _ _ (c .before .before .if1 .left), sym (c .before .c
 
 returns-3 : tie.Need-returns-3
 unfolding cannotStand
-returns-3 c = simp (le-ltb _ _ (c .before .before .before .if1 .left), sym (c .before .before .counter-past .ensures) ∙ c .before .if2 .left, lt-ltb _ _ (c .if3 .taken))
+returns-3 c =
+    simp (
+      le-ltb _ _ (c .before .before .before .if1 .left),
+      sym (c .before .before .counter-past .ensures) ∙ c .before .if2 .left,
+      lt-ltb _ _ (c .if3 .taken),
+    )
 
 is-none-requires : tie.Need-is-none-requires
 is-none-requires c κs = search needs
@@ -32,10 +37,17 @@ returns-4 : tie.Need-returns-4
 unfolding cannotStand
 returns-4 c =
     let k = c .before .before in
-    let a = k .before .before .before .before .before .before .args in
+    let if2 = k .before .if2 in
+    let counter-past = k .before .before .counter-past in
+    let else1 = k .before .before .before in
+    let a = else1 .before .before .before .args in
     c .held-unfit .ensures
     ∙ ap (λ (b : Bool). heldUnfit (a .rec .in_hand) b (a .hold .now)) (c .before .is-none .ensures)
-    ∙ sym (simp (le-ltb _ _ (k .before .before .before .if1 .left), sym (k .before .before .counter-past .ensures) ∙ k .before .if2 .left, le-ltb _ _ (k .if3 .left)))
+    ∙ sym (simp (
+      le-ltb _ _ (else1 .if1 .left),
+      sym (counter-past .ensures) ∙ if2 .left,
+      le-ltb _ _ (k .if3 .left),
+    ))
 
 pub unfit-spec : {M : Type 1} → statement M
 unfit-spec = tie.close (tie.spec returns counter-past-requires returns-2 returns-3 is-none-requires held-unfit-requires returns-4)

@@ -15,7 +15,9 @@ use Rattle.collector.proofs.payload.carry.Tie as tie
 -- from where the stretch is known that goes to the section in hand
 module _ (k : tie.After-front-of) where
   abbrev s : tie.Start
-  s = k .before .before .before .before
+  s =
+      let entered = k .before .before .before in
+      entered .before
 
   abbrev front : Front
   front = k .front-of .result
@@ -38,6 +40,15 @@ module _ (k : tie.After-front-of) where
   l-long : length l ≤ front .bytes
   l-long = omega (arith, length-take (front .bytes) (drop (front .from) (s .args .packet .now)))
 
+-- where that stretch is known, from where it has gone; and where it has gone, from the arm in which sections follow
+abbrev known : tie.After-go-on → tie.After-front-of
+known g = g .before .before .before
+
+abbrev gone : tie.Then1 → tie.After-go-on
+gone i =
+    let after-slice-known3 = i .before .before .before in
+    after-slice-known3 .before .before
+
 front-of-requires : tie.Need-front-of-requires
 front-of-requires c κs = search needs
 
@@ -47,21 +58,38 @@ go-on-requires c κs =
     ((omega arith, omega arith, omega (arith, inside k), omega arith, omega arith), s k .pre .stands)
 
 add-sections : tie.Need-add-sections
-add-sections c = omega (arith, inside (c .before .before .before .before .before .before .before .before .before))
+add-sections c = omega (arith, inside (known (gone (c .before))))
 
 sections-requires : tie.Need-sections-requires
 sections-requires c κs =
-    let g = c .before .before .before .before .before .before .before .before in
-    let k = g .before .before .before in
-    (omega (arith, inside k), omega arith, omega arith, omega (arith, inside k, g .go-on .ensures .bytes, gone-bytes (not (s k .args .start)) (h k) (l k), h-long k, l-long k))
+    let g = gone (c .before .before .before) in
+    let k = known g in
+    (
+      omega (arith, inside k),
+      omega arith,
+      omega arith,
+      omega (
+        arith,
+        inside k,
+        g .go-on .ensures .bytes,
+        gone-bytes (not (s k .args .start)) (h k) (l k),
+        h-long k,
+        l-long k,
+      ),
+    )
 
 both-requires : tie.Need-both-requires
 both-requires c κs =
-    let t = c .before .before .before .before in
-    let g = t .before .before .before .before .before .before .before .before .before in
-    let k = g .before .before .before in (
-      small-of _ _ (kept-gone (not (s k .args .start)) (h k) (l k)) (omega (arith, inside k, length-append (h k) (l k), h-long k, l-long k)) (g .go-on .ensures),
-      small-of _ _ (kept-back (l₂ k)) (omega (arith, length-drop (front k .from + front k .bytes) (s k .args .packet .now))) (t .sections .ensures),
+    let after-hold2 = c .before .before .before in
+    let t = after-hold2 .before in
+    let after-struct-known = t .before .before .before in
+    let g = gone (after-struct-known .before) in
+    let k = known g in
+    (
+      small-of _ _ (kept-gone (not (s k .args .start)) (h k) (l k))
+          (omega (arith, inside k, length-append (h k) (l k), h-long k, l-long k)) (g .go-on .ensures),
+      small-of _ _ (kept-back (l₂ k))
+          (omega (arith, length-drop (front k .from + front k .bytes) (s k .args .packet .now))) (t .sections .ensures),
     )
 
 same-length : tie.Need-same-length
@@ -72,12 +100,16 @@ same-length-2 c = search needs
 
 returns : tie.Need-returns
 returns c =
-    let t = c .before .before .before .before .before in
-    let i = t .before .before .before .before in
-    let g = i .before .before .before .before .before in
-    let k = g .before .before .before in
+    let after-slice-known5 = c .before .before .before in
+    let t = after-slice-known5 .before .before in
+    let after-struct-known = t .before .before .before in
+    let i = after-struct-known .before in
+    let g = gone i in
+    let k = known g in
     let a = s k .args in
-    carry-start (a .hold .now) (a .out .now) (a .packet .now) (a .n) (a .from) (a .start) (i .if1 .taken) (s k .pre .from-within) (front k) (k .front-of .ensures) _ _ _ _ _ _ (g .go-on .ensures) (t .sections .ensures) _ (c .both .ensures)
+    carry-start (a .hold .now) (a .out .now) (a .packet .now) (a .n) (a .from) (a .start) (i .if1 .taken)
+    (s k .pre .from-within) (front k) (k .front-of .ensures) _ _ _ _ _ _ (g .go-on .ensures) (t .sections .ensures)
+    _ (c .both .ensures)
 
 same-length-3 : tie.Need-same-length-3
 same-length-3 c = search needs
@@ -87,10 +119,14 @@ same-length-4 c = search needs
 
 returns-2 : tie.Need-returns-2
 returns-2 c =
-    let g = c .before .before .before .before .before in
-    let k = g .before .before .before in
+    let after-slice-known3 = c .before .before .before in
+    let g = after-slice-known3 .before .before in
+    let k = known g in
     let a = s k .args in
-    carry-on (a .hold .now) (a .out .now) (a .packet .now) (a .n) (a .from) (a .start) (c .if1 .left) (front k) (k .front-of .ensures) _ _ _ (g .go-on .ensures)
+    carry-on (a .hold .now) (a .out .now) (a .packet .now) (a .n) (a .from) (a .start) (c .if1 .left) (front k)
+    (k .front-of .ensures) _ _ _ (g .go-on .ensures)
 
 pub carry-spec : {M : Type 1} → statement M
-carry-spec = tie.close (tie.spec front-of-requires go-on-requires add-sections sections-requires both-requires same-length same-length-2 returns same-length-3 same-length-4 returns-2)
+carry-spec =
+    tie.close (tie.spec front-of-requires go-on-requires add-sections sections-requires both-requires same-length
+    same-length-2 returns same-length-3 same-length-4 returns-2)

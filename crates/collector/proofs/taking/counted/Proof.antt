@@ -1,8 +1,8 @@
 -- `collector::taking::counted` meets its contract.
-use mathlib.Core.Path.{ap, _∙_}
+use mathlib.Core.Path.{refl, ap, _∙_}
 use Prim.Native.Nat.{ℕ, _+_, _%_, _^_}
 use borrow.Author.Needs.{needs}
-use Rattle.collector.specs.declared.Last.the-variants.{Counter}
+use Rattle.collector.proofs.Counters.{same-record}
 use Rattle.collector.proofs.taking.counted.Statement.{statement}
 use Rattle.collector.proofs.taking.counted.Tie as tie
 
@@ -21,9 +21,6 @@ cast-lost c = search needs
 cast-filler : tie.Need-cast-filler
 cast-filler c = search needs
 
-cast-skipped : tie.Need-cast-skipped
-cast-skipped c = search needs
-
 wrapping-add-u32-requires : tie.Need-wrapping-add-u32-requires
 wrapping-add-u32-requires c κs = search needs
 
@@ -41,33 +38,20 @@ wrapping-add-u32-requires-5 c κs = search needs
 
 returns : tie.Need-returns
 returns c =
-    let k = c .before .before .before .before in
-    let point = k .before .before .before .before .before in
+    let wrapping-add-u323 = c .before .before .wrapping-add-u323 in
+    let after-wrapping-add-u322 = c .before .before .before in
+    let k = after-wrapping-add-u322 .before in
+    let after-struct-known2 = k .before .before .before in
+    let point = after-struct-known2 .before .before in
     let a = point .before .args in
-    λ i. record {
-      pid = a .rec .pid;
-      last = Counter (a .counter);
-      in_hand = a .e .in_hand;
-      pointer = (k .wrapping-add-u32 .ensures ∙ ap (λ (n : ℕ). (a .rec .pointer + n) % 2 ^ 32) (point .point-count .ensures)) i;
-      delivered = c .before .before .before .wrapping-add-u322 .ensures i;
-      broken = c .before .before .wrapping-add-u323 .ensures i;
-      filler = c .before .wrapping-add-u324 .ensures i;
-      skipped = c .wrapping-add-u325 .ensures i;
-    }
+    same-record _ _ refl refl refl
+    (k .wrapping-add-u32 .ensures ∙ ap (λ (n : ℕ). (a .rec .pointer + n) % 2 ^ 32) (point .point-count .ensures))
+    (after-wrapping-add-u322 .wrapping-add-u322 .ensures) (wrapping-add-u323 .ensures)
+    (c .before .wrapping-add-u324 .ensures) (c .wrapping-add-u325 .ensures)
 
 pub counted-spec : {M : Type 1} → statement M
 counted-spec =
     tie.close
-    (tie.spec
-    point-count-requires
-    cast-bytes
-    add-lost
-    cast-lost
-    cast-filler
-    cast-skipped
-    wrapping-add-u32-requires
-    wrapping-add-u32-requires-2
-    wrapping-add-u32-requires-3
-    wrapping-add-u32-requires-4
-    wrapping-add-u32-requires-5
+    (tie.spec point-count-requires cast-bytes add-lost cast-lost cast-filler (λ c. search needs) wrapping-add-u32-requires
+    wrapping-add-u32-requires-2 wrapping-add-u32-requires-3 wrapping-add-u32-requires-4 wrapping-add-u32-requires-5
     returns)

@@ -32,9 +32,10 @@ returns-2 : tie.Need-returns-2
 unfolding follows
 returns-2 c =
     let k = c .before .before .before in
+    let args = k .before .before .args in
     ap (λ (n : ℕ). eqb n ((c .wide2 .result + 1) % 16)) (c .before .wide .ensures .same)
-    ∙ ap (λ (n : ℕ). eqb (k .before .before .args .counter) ((n + 1) % 16)) (c .wide2 .ensures .same)
-    ∙ sym (ap (λ (l : Last). follows (lastBefore l) (k .before .before .args .counter)) (k .last .given .1))
+    ∙ ap (λ (n : ℕ). eqb (args .counter) ((n + 1) % 16)) (c .wide2 .ensures .same)
+    ∙ sym (ap (λ (l : Last). follows (lastBefore l) (args .counter)) (k .last .given .1))
 
 pub is-next-spec : {M : Type 1} → statement M
 is-next-spec = tie.close (tie.spec enum-told enum-known-last wide-requires wide-requires-2 add-result returns returns-2)

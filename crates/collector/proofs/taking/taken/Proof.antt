@@ -21,31 +21,45 @@ module _ (s : tie.Start) where
   hand-long = sym (length-take-le (s .args .rec .in_hand) (s .args .hold .now) (omega (arith, s .pre .few, s .pre .hold-big)))
 
   bytes-long : (0 < length bytes) × (length bytes ≤ 188)
-  bytes-long = (omega (arith, s .pre .from-within, length-drop (s .args .from) (s .args .packet .now)), omega (arith, s .pre .long, length-drop (s .args .from) (s .args .packet .now)))
+  bytes-long = (
+    omega (arith, s .pre .from-within, length-drop (s .args .from) (s .args .packet .now)),
+    omega (arith, s .pre .long, length-drop (s .args .from) (s .args .packet .now)),
+  )
 
 kept-requires : tie.Need-kept-requires
 kept-requires c κs = search needs
 
 sub-broken : tie.Need-sub-broken
 sub-broken c =
-    let a = c .before .before .before .before .args in
+    let after-slice-known = c .before .before .before in
+    let a = after-slice-known .before .args in
     omega (arith, c .kept .ensures, kept-most (a .next) (a .rec .in_hand))
 
 carry-requires : tie.Need-carry-requires
 carry-requires c κs =
     let k = c .before .before in
-    let s = k .before .before .before .before in
+    let after-slice-known = k .before .before .before in
+    let s = after-slice-known .before in
     fit-kept (s .args .next) (s .args .rec .in_hand) _ (k .kept .ensures) (s .pre)
 
 counted-requires : tie.Need-counted-requires
 counted-requires c κs =
-    let g = c .before .before .before .before in
+    let after-hold = c .before .before .before in
+    let g = after-hold .before in
     let k = g .before .before .before in
-    let s = k .before .before .before .before in
-    let a = s .args in
+    let after-slice-known = k .before .before .before in
+    let s = after-slice-known .before in
     let n = k .kept .result in (
-      small (a .rec) (a .hold .now) (a .out .now) (a .counter) (a .start) (take n (a .hold .now)) (bytes s) (bytes-long s .0) (g .carry .result) _ _ (g .carry .ensures)
-          (omega (arith, length-take n (a .hold .now), k .kept .ensures, kept-most (a .next) (a .rec .in_hand), bytes-long s, s .pre .few)),
+      small (s .args .rec) (s .args .hold .now) (s .args .out .now) (s .args .counter) (s .args .start)
+          (take n (s .args .hold .now)) (bytes s) (bytes-long s .0) (g .carry .result) _ _ (g .carry .ensures)
+          (omega (
+            arith,
+            length-take n (s .args .hold .now),
+            k .kept .ensures,
+            kept-most (s .args .next) (s .args .rec .in_hand),
+            bytes-long s,
+            s .pre .few,
+          )),
       omega arith,
     )
 
@@ -57,11 +71,14 @@ same-length-2 c = search needs
 
 returns : tie.Need-returns
 returns c =
-    let g = c .before .before .before .before .before in
+    let after-slice-known3 = c .before .before .before in
+    let g = after-slice-known3 .before .before in
     let k = g .before .before .before in
-    let s = k .before .before .before .before in
-    let a = s .args in
-    comes (a .rec) (a .hold .now) (a .out .now) (a .counter) (a .start) (bytes s) (bytes-long s .0) (g .carry .result) _ _ _ (a .next) (k .kept .result) (k .kept .ensures) (hand-long s) (g .carry .ensures) (c .counted .ensures)
+    let after-slice-known = k .before .before .before in
+    let s = after-slice-known .before in
+    comes (s .args .rec) (s .args .hold .now) (s .args .out .now) (s .args .counter) (s .args .start) (bytes s)
+    (bytes-long s .0) (g .carry .result) _ _ _ (s .args .next) (k .kept .result) (k .kept .ensures) (hand-long s)
+    (g .carry .ensures) (c .counted .ensures)
 
 pub taken-spec : {M : Type 1} → statement M
 taken-spec = tie.close (tie.spec kept-requires sub-broken carry-requires counted-requires same-length same-length-2 returns)

@@ -59,14 +59,5 @@ returns-5 c =
 pub addressed-spec : {M : Type 1} → statement M
 addressed-spec =
     tie.close
-    (tie.spec
-    shared-slice-read-if1
-    returns
-    shared-slice-read-if2
-    returns-2
-    pid-of-requires
-    returns-3
-    shared-slice-read-if4
-    returns-4
-    shaped-requires
-    returns-5)
+    (tie.spec shared-slice-read-if1 returns shared-slice-read-if2 returns-2 pid-of-requires returns-3
+    shared-slice-read-if4 returns-4 shaped-requires returns-5)

@@ -28,7 +28,8 @@ returns c =
     let read = k .before .before in
     let s = read .before .before in
     sym
-    (pointer-past (s .args .packet .now) (s .args .from) (s .pre) (eq-eqb _ _ (k .if1 .taken)) (omega (arith, c .before .wide .ensures .same)))
+    (pointer-past (s .args .packet .now) (s .args .from) (s .pre) (eq-eqb _ _ (k .if1 .taken))
+    (omega (arith, c .before .wide .ensures .same)))
 
 returns-2 : tie.Need-returns-2
 returns-2 c =
@@ -36,7 +37,8 @@ returns-2 c =
     let read = k .before .before in
     let s = read .before .before in
     sym
-    (pointer-within (s .args .packet .now) (s .args .from) (s .pre) (eq-eqb _ _ (k .if1 .taken)) (omega (arith, c .before .wide .ensures .same)))
+    (pointer-within (s .args .packet .now) (s .args .from) (s .pre) (eq-eqb _ _ (k .if1 .taken))
+    (omega (arith, c .before .wide .ensures .same)))
 
 returns-3 : tie.Need-returns-3
 returns-3 c =
@@ -47,12 +49,5 @@ returns-3 c =
 pub aimed-spec : {M : Type 1} → statement M
 aimed-spec =
     tie.close
-    (tie.spec
-    shared-slice-read-counter
-    shared-slice-read-if1
-    shared-slice-read-wide
-    wide-requires
-    add-if2
-    returns
-    returns-2
-    returns-3)
+    (tie.spec shared-slice-read-counter shared-slice-read-if1 shared-slice-read-wide wide-requires add-if2 returns
+    returns-2 returns-3)

@@ -70,16 +70,5 @@ returns-6 c =
 pub shaped-spec : {M : Type 1} → statement M
 shaped-spec =
     tie.close
-    (tie.spec
-    shared-slice-read-control
-    aimed-requires
-    returns
-    returns-2
-    shared-slice-read-n
-    returns-3
-    returns-4
-    returns-5
-    wide-requires
-    add-aimed
-    aimed-requires-2
-    returns-6)
+    (tie.spec shared-slice-read-control aimed-requires returns returns-2 shared-slice-read-n returns-3 returns-4
+    returns-5 wide-requires add-aimed aimed-requires-2 returns-6)
