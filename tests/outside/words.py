@@ -67,7 +67,8 @@ def sources(room):
     for name in ("account", "tools/x86-64", "target/bin/account"):
         (copy / name).parent.mkdir(parents=True, exist_ok=True)
         shutil.copy2(TOP / name, copy / name)
-    shutil.copytree(TOP / "target/stamp", copy / "target/stamp")
+    for made in ("stamp", "rlib", "obj"):
+        shutil.copytree(TOP / "target" / made, copy / "target" / made)
     listed = [line for line in lines if line.split(":")[0] in rests]
     (copy / "crates.txt").write_text("\n".join(listed) + "\n")
     account = copy / "account"
