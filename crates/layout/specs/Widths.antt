@@ -1,6 +1,6 @@
 -- A layout: the fields of a body or an item in the order of their table, kept or reserved, each by its bits. Where a field stands follows from
 -- the widths in front of it: the first bit is the highest of the first byte.
-use Prim.Native.Nat.{ℕ, zero, suc, _+_, _-_, _*_, _/_, _%_, _<_}
+use Prim.Native.Nat.{ℕ, zero, suc, _-_, _*_, _/_, _%_, _<_}
 use mathlib.Core.Path.{_≡_}
 use mathlib.Core.Bool.{Bool, true, false}
 use mathlib.Core.List.{List, [], _∷_}
