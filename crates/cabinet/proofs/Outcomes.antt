@@ -5,13 +5,11 @@ use Prim.Native.Nat.{ℕ}
 use lib.ListN.{length}
 use lib.Dec.{eqb}
 use borrow.Author.Tests.{eqb-true}
-use Rattle.wire.specs.If.{if_then_else_}
 use Rattle.wire.proofs.IfLaws.{if-case}
 use Rattle.collector.specs.Answer as collector
 use Rattle.packet.specs.Ruling.{Ruling, refused, repeated, bare, takes, ruling}
 use Rattle.collector.specs.Refusals.{beforeOf, cannotStand, tooSmall}
 use Rattle.collector.specs.Collected.{unaltered, outcomeOf, collected}
-use Rattle.collector.specs.declared.Last.the-variants.{None, Counter}
 use Rattle.collector.specs.declared.Record as of-collector
 use Rattle.roll.specs.Answer.{Says, missing, complete, refusing}
 use Rattle.roll.specs.Roll as roll
@@ -25,38 +23,63 @@ use Rattle.cabinet.specs.declared.collect.Record.{Record}
 use Rattle.cabinet.specs.declared.rolls.Roll as numbers
 
 -- what the collector makes of the record that the numbers stand for
-pub collecting-is : (r : Record) (hold out packet : List ℕ) {r′ : of-collector.Record} {o : collector.Outcome} → r′ ≡ recordIn r → o ≡ collected r′ hold out packet
+pub collecting-is : (r : Record) (hold out packet : List ℕ) {r′ : of-collector.Record} {o : collector.Outcome}
+    → r′ ≡ recordIn r → o ≡ collected r′ hold out packet
     → Collect.outcomeSays r o ≡ collecting r hold out packet
 unfolding collecting
-collecting-is r hold out packet e is = ap (Collect.outcomeSays r) is ∙ ap (λ (x : of-collector.Record). Collect.outcomeSays r (collected x hold out packet)) e
+collecting-is r hold out packet e is =
+    ap (Collect.outcomeSays r) is
+    ∙ ap (λ (x : of-collector.Record). Collect.outcomeSays r (collected x hold out packet)) e
 
 -- what the roll that the numbers stand for makes of a section
-pub rolling-is : (r : numbers.Roll) (s : List ℕ) {r′ : of-roll.Roll} {o : roll.Outcome} → r′ ≡ rollIn r → o ≡ taking r′ s → Roll.outcomeSays r o ≡ rolling r s
+pub rolling-is : (r : numbers.Roll) (s : List ℕ) {r′ : of-roll.Roll} {o : roll.Outcome} → r′ ≡ rollIn r
+    → o ≡ taking r′ s → Roll.outcomeSays r o ≡ rolling r s
 unfolding rolling
 rolling-is r s e is = ap (Roll.outcomeSays r) is ∙ ap (λ (x : of-roll.Roll). Roll.outcomeSays r (taking x s)) e
 
 pub last-kept : (n : ℕ) → lastSays (lastIn n) ≡ n
 last-kept n = if-case (λ l. lastSays l ≡ n) (eqb n 255) (λ is. sym (eqb-true n 255 is)) (λ other. refl)
 
--- every record of numbers stands for one of the collector's and is the numbers of that: what the collector leaves unaltered is unaltered here
+-- every record of numbers stands for one of the collector's and is the numbers of that: what the collector leaves
+-- unaltered is unaltered here
 pub record-kept : (r : Record) → recordAfter r (recordIn r) ≡ r
-record-kept r = ap (λ n. record { pid = r .pid; last = n; spare = r .spare; in_hand = r .in_hand; pointer = r .pointer; delivered = r .delivered; broken = r .broken; filler = r .filler; skipped = r .skipped; «spare_counter» = r .«spare_counter» }) (last-kept (r .last))
+record-kept r =
+    ap
+    (λ n.
+    record {
+      pid = r .pid;
+      last = n;
+      spare = r .spare;
+      in_hand = r .in_hand;
+      pointer = r .pointer;
+      delivered = r .delivered;
+      broken = r .broken;
+      filler = r .filler;
+      skipped = r .skipped;
+      «spare_counter» = r .«spare_counter»;
+    })
+    (last-kept (r .last))
 
 -- ---- "the record and all lent room unaltered"
 
-unaltered-by : (x : of-collector.Record) (hold out : List ℕ) (ruled : Ruling) → (collectSays (outcomeOf x hold out ruled .said) .number ≡ 0 → ⊥) → outcomeOf x hold out ruled ≡ unaltered x hold out (outcomeOf x hold out ruled .said)
+unaltered-by : (x : of-collector.Record) (hold out : List ℕ) (ruled : Ruling)
+    → (collectSays (outcomeOf x hold out ruled .said) .number ≡ 0 → ⊥)
+    → outcomeOf x hold out ruled ≡ unaltered x hold out (outcomeOf x hold out ruled .said)
 unaltered-by x hold out (refused n) h = refl
 unaltered-by x hold out repeated h = absurd (h refl)
 unaltered-by x hold out bare h = absurd (h refl)
 unaltered-by x hold out (takes q) h = absurd (h refl)
 
 -- a call that gives a number alters nothing that was lent
-pub collect-refused : (r : Record) (hold out packet : List ℕ) → (collecting r hold out packet .answer .number ≡ 0 → ⊥) → collecting r hold out packet ≡ Collect.leaves r hold out (collecting r hold out packet .answer)
+pub collect-refused : (r : Record) (hold out packet : List ℕ) → (collecting r hold out packet .answer .number ≡ 0 → ⊥)
+    → collecting r hold out packet ≡ Collect.leaves r hold out (collecting r hold out packet .answer)
 unfolding collecting
 collect-refused r hold out packet h =
     let x = recordIn r in
     let ruled = ruling (tooSmall (length hold) (length out)) (cannotStand x hold) (x .pid) (beforeOf x) packet in
-    ap (Collect.outcomeSays r) (unaltered-by x hold out ruled h) ∙ ap (λ (y : Record). Collect.leaves y hold out (collectSays (outcomeOf x hold out ruled .said))) (record-kept r)
+    ap (Collect.outcomeSays r) (unaltered-by x hold out ruled h)
+    ∙ ap (λ (y : Record). Collect.leaves y hold out (collectSays (outcomeOf x hold out ruled .said)))
+    (record-kept r)
 
 kept-by : (r : numbers.Roll) (after : of-roll.Roll) (says : Says) → (Roll.rollAnswer says .number ≡ 0 → ⊥) → Roll.keeps r after says ≡ r
 kept-by r after (missing n) h = absurd (h refl)

@@ -22,7 +22,11 @@ marksSay came = map bit came
 unfoldable pub rollIn : Roll → of.Roll
 rollIn r = record {
   begun = isSet (r .begun);
-  «sub_table» = record { «table_id» = r .«table_id»; extension = r .extension; «transport_stream_id» = r .«transport_stream_id»; «original_network_id» = r .«original_network_id» };
+  «sub_table» = record {
+    «table_id» = r .«table_id»;
+    extension = r .extension; «transport_stream_id» = r .«transport_stream_id»;
+    «original_network_id» = r .«original_network_id»;
+  };
   version = r .version;
   last = r .last;
   marks = record { came = marksIn (r .came) };

@@ -166,7 +166,8 @@ pub extern "C" fn lohitunga_fresh(pid: u16) -> Record
 
 // One packet, with the record by value.
 fn step(rec: Record, hold: &mut [u8], out: &mut [u8], packet: &[u8]) -> Stepped
-    ensures { λ r. ⌜ leaves (r .record) (now (hold .exit)) (now (out .exit)) (r .answer) ≡ collecting rec (now (hold .entry)) (now (out .entry)) (now (packet .entry)) ⌝ }
+    ensures { λ r. ⌜ leaves (r .record) (now (hold .exit)) (now (out .exit)) (r .answer)
+        ≡ collecting rec (now (hold .entry)) (now (out .entry)) (now (packet .entry)) ⌝ }
 {
     let s = collector::step(record_in(rec), hold, out, packet);
     let after = s.record;
@@ -184,7 +185,8 @@ pub extern "C" fn lohitunga_collect(
     out: &mut [u8],
     packet: &[u8],
 ) -> CollectAnswer
-    ensures { λ r. ⌜ leaves (now (rec .exit)) (now (hold .exit)) (now (out .exit)) r ≡ collecting (now (rec .entry)) (now (hold .entry)) (now (out .entry)) (now (packet .entry)) ⌝ }
+    ensures { λ r. ⌜ leaves (now (rec .exit)) (now (hold .exit)) (now (out .exit)) r
+        ≡ collecting (now (rec .entry)) (now (hold .entry)) (now (out .entry)) (now (packet .entry)) ⌝ }
 {
     let s = step(*rec, hold, out, packet);
     *rec = s.record;

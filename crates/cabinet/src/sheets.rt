@@ -78,7 +78,8 @@ pub extern "C" fn lohitunga_to_sheet(section: &[u8], room: &mut [u8]) -> SheetAn
 
 #[no_mangle]
 pub extern "C" fn lohitunga_to_section(sheet: &[u8], room: &mut [u8]) -> SectionAnswer
-    ensures { λ r. ⌜ (r ≡ sectionSays (answer (toSection (length (now (room .entry))) (now (sheet .entry))))) × (now (room .exit) ≡ roomAfter (now (room .entry)) (toSection (length (now (room .entry))) (now (sheet .entry)))) ⌝ }
+    ensures { λ r. ⌜ (r ≡ sectionSays (answer (toSection (length (now (room .entry))) (now (sheet .entry)))))
+        × (now (room .exit) ≡ roomAfter (now (room .entry)) (toSection (length (now (room .entry))) (now (sheet .entry)))) ⌝ }
 {
     let a = turn::to_section(sheet, room);
     SectionAnswer {

@@ -48,7 +48,8 @@ module _ (s : List ℕ) (from n : ℕ) (d : List ℕ) (at : ℕ) where
   unfolding copies
   copies-fits e f = go (leb (from + n) (length s)) (leb (at + n) (length d)) refl refl (sym e ∙ f)
     where
-      go : (x y : Bool) → leb (from + n) (length s) ≡ x → leb (at + n) (length d) ≡ y → (if x then y else false) ≡ true → (from + n ≤ length s) × (at + n ≤ length d)
+      go : (x y : Bool) → leb (from + n) (length s) ≡ x → leb (at + n) (length d) ≡ y → (if x then y else false) ≡ true
+          → (from + n ≤ length s) × (at + n ≤ length d)
       go true true ex ey z = (leb-true (from + n) (length s) ex, leb-true (at + n) (length d) ey)
       go true false ex ey z = absurd (true-not-false (sym z))
       go false y ex ey z = absurd (true-not-false (sym z))
@@ -62,7 +63,8 @@ module _ (s : List ℕ) (from n : ℕ) (d : List ℕ) (at : ℕ) where
     pub fits : x ≡ false → y ≡ false → (from + n ≤ length s) × (at + n ≤ length d)
     fits h g = (had (length s) from n e h, had (length d) at n f g)
 
-    pub made : x ≡ false → y ≡ false → {o : List ℕ} → o ≡ paste d at (drop from s) n → (true ≡ copies s from n d at) × (o ≡ copied s from n d at)
+    pub made : x ≡ false → y ≡ false → {o : List ℕ} → o ≡ paste d at (drop from s) n
+        → (true ≡ copies s from n d at) × (o ≡ copied s from n d at)
     made h g k =
         let i = fits h g in
         (sym (copies-yes (i .0) (i .1)), k ∙ sym (copied-yes (i .0) (i .1)))
@@ -72,7 +74,11 @@ module _ (s : List ℕ) (from n : ℕ) (d : List ℕ) (at : ℕ) where
     full h g = (sym k, sym (copied-not k))
       where
         k : copies s from n d at ≡ false
-        k = rw (le-leb (from + n) (length s) (had (length s) from n e h), lt-leb (at + n) (length d) (lacking (length d) at n f g))
+        k =
+            rw (
+              le-leb (from + n) (length s) (had (length s) from n e h),
+              lt-leb (at + n) (length d) (lacking (length d) at n f g),
+            )
 
   module _ {x : Bool} (e : x ≡ ltb (length s) (from + n)) where
     pub none : x ≡ true → (false ≡ copies s from n d at) × (d ≡ copied s from n d at)

@@ -20,7 +20,8 @@ laid-more room at bytes s t k w =
     let tail : List ℕ = drop (at + length bytes) room in
     let e : laid room at bytes ≡ front ++ tail = sym (append-assoc (take at room) bytes tail) in
     ap (λ (l : List ℕ). paste l (at + length bytes) s t) e
-    ∙ ap (λ (l : List ℕ). (l ++ take t s) ++ drop (at + length bytes + t) (front ++ tail)) (take-at front tail (at + length bytes) long)
+    ∙ ap (λ (l : List ℕ). (l ++ take t s) ++ drop (at + length bytes + t) (front ++ tail))
+    (take-at front tail (at + length bytes) long)
     ∙ ap (λ (l : List ℕ). (front ++ take t s) ++ l)
     (sym (drop-drop t (at + length bytes) (front ++ tail))
     ∙ ap (drop t) (drop-at front tail (at + length bytes) long)

@@ -31,7 +31,8 @@ module _ (l : List ℕ) (from n to : ℕ) where
     unfolding movedDown
     moved-down-yes = rw moves-down-yes
 
-    pub down-made : {o : List ℕ} → o ≡ paste l to (drop from l) n → (true ≡ movesDown l from n to) × (o ≡ movedDown l from n to)
+    pub down-made : {o : List ℕ} → o ≡ paste l to (drop from l) n
+        → (true ≡ movesDown l from n to) × (o ≡ movedDown l from n to)
     down-made e = (sym moves-down-yes, e ∙ sym moved-down-yes)
 
   pub moves-down-fits : {r : Bool} → r ≡ movesDown l from n to → r ≡ true → (to ≤ from) × (from + n ≤ length l)
@@ -63,7 +64,8 @@ module _ (l : List ℕ) (from n to : ℕ) where
     unfolding movedUp
     moved-up-yes = rw moves-up-yes
 
-    pub up-made : {o : List ℕ} → o ≡ paste l to (drop from l) n → (true ≡ movesUp l from n to) × (o ≡ movedUp l from n to)
+    pub up-made : {o : List ℕ} → o ≡ paste l to (drop from l) n
+        → (true ≡ movesUp l from n to) × (o ≡ movedUp l from n to)
     up-made e = (sym moves-up-yes, e ∙ sym moved-up-yes)
 
   pub moves-up-fits : {r : Bool} → r ≡ movesUp l from n to → r ≡ true → (from ≤ to) × (to + n ≤ length l)
@@ -86,7 +88,8 @@ module _ (l : List ℕ) (from n to : ℕ) where
 
 -- ---- what a move leaves
 
-pasted : (l : List ℕ) (from n to : ℕ) → from + n ≤ length l → to + n ≤ length l → Moved l (paste l to (drop from l) n) from n to
+pasted : (l : List ℕ) (from n to : ℕ) → from + n ≤ length l → to + n ≤ length l
+    → Moved l (paste l to (drop from l) n) from n to
 pasted l from n to had-there fits =
     let s = drop from l in
     let long : n ≤ length s = omega (arith, length-drop from l) in
@@ -95,16 +98,18 @@ pasted l from n to had-there fits =
     record {
       before = before l s to n to low long (omega arith);
       there =
-        sym (part (paste l to s n) to n low-after)
-        ∙ ap (drop to) (take-paste l to s n low long)
-        ∙ drop-at (take to l) (take n s) to (length-take-le to l low);
+          sym (part (paste l to s n) to n low-after)
+          ∙ ap (drop to) (take-paste l to s n low long)
+          ∙ drop-at (take to l) (take n s) to (length-take-le to l low);
       behind = drop-paste l to s n low long;
     }
 
 pub moves-down : MovesDown
 moves-down l from n to low fits =
-    subst (λ (l′ : List ℕ). Moved l l′ from n to) (sym (moved-down-yes l from n to low fits)) (pasted l from n to fits (omega arith))
+    subst (λ (l′ : List ℕ). Moved l l′ from n to) (sym (moved-down-yes l from n to low fits))
+    (pasted l from n to fits (omega arith))
 
 pub moves-up : MovesUp
 moves-up l from n to high fits =
-    subst (λ (l′ : List ℕ). Moved l l′ from n to) (sym (moved-up-yes l from n to high fits)) (pasted l from n to (omega arith) fits)
+    subst (λ (l′ : List ℕ). Moved l l′ from n to) (sym (moved-up-yes l from n to high fits))
+    (pasted l from n to (omega arith) fits)

@@ -64,7 +64,10 @@ pub before : (d s : List ℕ) (at n k : ℕ) → at ≤ length d → n ≤ lengt
 before d s at n k hd hs le =
     let e : at + 0 ≡ at = omega arith in
     sym (take-take k at (paste d at s n) le)
-    ∙ ap (take k) (ap (λ (i : ℕ). take i (paste d at s n)) (sym e) ∙ front d s at n 0 hd hs (omega arith) ∙ append-nil (take at d))
+    ∙ ap (take k)
+    (ap (λ (i : ℕ). take i (paste d at s n)) (sym e)
+    ∙ front d s at n 0 hd hs (omega arith)
+    ∙ append-nil (take at d))
     ∙ take-take k at d le
 
 -- of bytes that are pasted, what stands behind the first e of them
@@ -85,7 +88,8 @@ rest s k m j low high =
     let e : k + (j - k) ≡ j = omega arith in
     let b = take m (drop k s) in
     ap (λ (i : ℕ). take i s ++ drop (j - k) b) (sym e)
-    ∙ ap (λ (l : List ℕ). l ++ drop (j - k) b) (take-add k (j - k) s ∙ ap (λ (l : List ℕ). take k s ++ l) (sym (take-take (j - k) m (drop k s) (omega arith))))
+    ∙ ap (λ (l : List ℕ). l ++ drop (j - k) b)
+    (take-add k (j - k) s ∙ ap (λ (l : List ℕ). take k s ++ l) (sym (take-take (j - k) m (drop k s) (omega arith))))
     ∙ append-assoc (take k s) (take (j - k) b) (drop (j - k) b)
     ∙ ap (λ (l : List ℕ). take k s ++ l) (take-append-drop (j - k) b)
     ∙ sym (take-add k m s)
@@ -99,11 +103,14 @@ under d s at k m j hd hs low high =
     let long : m ≤ length (drop k s) = omega (arith, length-drop k s) in
     let e : at + k + (j - k) ≡ at + j = omega arith in
     let behind-j : drop (at + j) p ≡ drop (j - k) b ++ drop (at + k + m) d =
-      ap (λ (i : ℕ). drop i p) (sym e) ∙ within d (drop k s) (at + k) m (j - k) (omega arith) long (omega arith) in
-    ap (λ (l : List ℕ). l ++ take j s ++ drop (at + j) p) (before d (drop k s) (at + k) m at (omega arith) long (omega arith))
+    ap (λ (i : ℕ). drop i p) (sym e) ∙ within d (drop k s) (at + k) m (j - k) (omega arith) long (omega arith) in
+    ap (λ (l : List ℕ). l ++ take j s ++ drop (at + j) p)
+    (before d (drop k s) (at + k) m at (omega arith) long (omega arith))
     ∙ ap (λ (l : List ℕ). take at d ++ take j s ++ l) behind-j
     ∙ sym (append-assoc (take at d ++ take j s) (drop (j - k) b) (drop (at + k + m) d))
-    ∙ ap (λ (l : List ℕ). l ++ drop (at + k + m) d) (append-assoc (take at d) (take j s) (drop (j - k) b) ∙ ap (λ (l : List ℕ). take at d ++ l) (rest s k m j low high))
+    ∙ ap (λ (l : List ℕ). l ++ drop (at + k + m) d)
+    (append-assoc (take at d) (take j s) (drop (j - k) b)
+    ∙ ap (λ (l : List ℕ). take at d ++ l) (rest s k m j low high))
     ∙ ap (λ (i : ℕ). take at d ++ take (k + m) s ++ drop i d) (add-assoc at k m)
 
 pub part : (l : List ℕ) (a k : ℕ) → a ≤ length l → drop a (take (a + k) l) ≡ take k (drop a l)
@@ -125,7 +132,8 @@ none-moved o from to n =
 
 module _ (o : List ℕ) (from to n : ℕ) (high : from ≤ to) (fits : to + n ≤ length o) where
   -- those from i on are moved, and a block from j on that ends in them or at them
-  up-more : (room : List ℕ) (i j : ℕ) → j ≤ i → i ≤ j + 32 → j + 32 ≤ n → i ≤ n → room ≡ paste o (to + i) (drop (from + i) o) (n - i)
+  up-more : (room : List ℕ) (i j : ℕ) → j ≤ i → i ≤ j + 32 → j + 32 ≤ n → i ≤ n
+      → room ≡ paste o (to + i) (drop (from + i) o) (n - i)
       → paste room (to + j) (drop (from + j) o) 32 ≡ paste o (to + j) (drop (from + j) o) (n - j)
   up-more room i j le near within-n i-n is =
       let s = drop (from + j) o in
@@ -134,9 +142,10 @@ module _ (o : List ℕ) (from to n : ℕ) (high : from ≤ to) (fits : to + n �
       let all : i - j + (n - i) ≡ n - j = omega arith in
       let long : i - j + (n - i) ≤ length s = omega (arith, length-drop (from + j) o) in
       let moved : room ≡ paste o (to + j + (i - j)) (drop (i - j) s) (n - i) =
-        is
-        ∙ ap (λ (k : ℕ). paste o k (drop (from + i) o) (n - i)) (sym e)
-        ∙ ap (λ (l : List ℕ). paste o (to + j + (i - j)) l (n - i)) (sym (drop-drop (i - j) (from + j) o ∙ ap (λ (k : ℕ). drop k o) g)) in
+      is
+      ∙ ap (λ (k : ℕ). paste o k (drop (from + i) o) (n - i)) (sym e)
+      ∙ ap (λ (l : List ℕ). paste o (to + j + (i - j)) l (n - i))
+      (sym (drop-drop (i - j) (from + j) o ∙ ap (λ (k : ℕ). drop k o) g)) in
       ap (λ (l : List ℕ). paste l (to + j) s 32) moved
       ∙ under o s (to + j) (i - j) (n - i) 32 (omega arith) long (omega arith) (omega arith)
       ∙ ap (paste o (to + j) s) all
@@ -148,7 +157,8 @@ module _ (o : List ℕ) (from to n : ℕ) (high : from ≤ to) (fits : to + n �
   up-on room i j e le same is =
       let long : n - i ≤ length (drop (from + i) o) = omega (arith, length-drop (from + i) o) in
       let front-stays : take (to + i) room ≡ take (to + i) o =
-        ap (take (to + i)) is ∙ before o (drop (from + i) o) (to + i) (n - i) (to + i) (omega arith) long (omega arith) in
+      ap (take (to + i)) is
+      ∙ before o (drop (from + i) o) (to + i) (n - i) (to + i) (omega arith) long (omega arith) in
       ap (λ (l : List ℕ). take (to + j) room ++ l ++ drop (to + j + 32) room)
       (alike room o (to + i) (from + j) 32 front-stays (omega arith) (omega arith) (omega arith))
       ∙ up-more room i j (omega arith) (omega arith) (omega arith) le is

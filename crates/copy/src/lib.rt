@@ -18,7 +18,7 @@ pub fn lacks(all: usize, at: usize, n: usize) -> bool
     all - n < at
 }
 
-// In all that follow: n bytes of src from index from go to dst from index at; dst's other bytes stay.
+// In all that follow: copies src[from..from+n] to dst[at..at+n]; dst's other bytes stay.
 fn singly(src: &[u8], from: usize, n: usize, dst: &mut [u8], at: usize)
     requires { ⌜ (from + n ≤ length (now src)) × (at + n ≤ length (now dst)) ⌝ }
     ensures { λ _. ⌜ now (dst .exit) ≡ paste (now (dst .entry)) at (drop from (now (src .entry))) n ⌝ }
@@ -82,7 +82,8 @@ fn in_blocks(long: bool, src: &[u8], from: usize, n: usize, dst: &mut [u8], at: 
 
 // Where src has the bytes and dst has room for them; otherwise dst stays. It tells which.
 fn copy_by(long: bool, src: &[u8], from: usize, n: usize, dst: &mut [u8], at: usize) -> bool
-    ensures { λ r. ⌜ (r ≡ copies (now (src .entry)) from n (now (dst .entry)) at) × (now (dst .exit) ≡ copied (now (src .entry)) from n (now (dst .entry)) at) ⌝ }
+    ensures { λ r. ⌜ (r ≡ copies (now (src .entry)) from n (now (dst .entry)) at)
+        × (now (dst .exit) ≡ copied (now (src .entry)) from n (now (dst .entry)) at) ⌝ }
 {
     if lacks(src.len(), from, n) {
         return false;
@@ -100,20 +101,22 @@ fn copy_by(long: bool, src: &[u8], from: usize, n: usize, dst: &mut [u8], at: us
 
 // For runs that are mostly long.
 pub fn copy(src: &[u8], from: usize, n: usize, dst: &mut [u8], at: usize) -> bool
-    ensures { λ r. ⌜ (r ≡ copies (now (src .entry)) from n (now (dst .entry)) at) × (now (dst .exit) ≡ copied (now (src .entry)) from n (now (dst .entry)) at) ⌝ }
+    ensures { λ r. ⌜ (r ≡ copies (now (src .entry)) from n (now (dst .entry)) at)
+        × (now (dst .exit) ≡ copied (now (src .entry)) from n (now (dst .entry)) at) ⌝ }
 {
     copy_by(true, src, from, n, dst, at)
 }
 
 // The same, for runs that are mostly under 32 bytes.
 pub fn copy_few(src: &[u8], from: usize, n: usize, dst: &mut [u8], at: usize) -> bool
-    ensures { λ r. ⌜ (r ≡ copies (now (src .entry)) from n (now (dst .entry)) at) × (now (dst .exit) ≡ copied (now (src .entry)) from n (now (dst .entry)) at) ⌝ }
+    ensures { λ r. ⌜ (r ≡ copies (now (src .entry)) from n (now (dst .entry)) at)
+        × (now (dst .exit) ≡ copied (now (src .entry)) from n (now (dst .entry)) at) ⌝ }
 {
     copy_by(false, src, from, n, dst, at)
 }
 
-// n bytes of room from index from go down to index to, which is no higher, as they were before, where room has them; otherwise it stays.
-// It tells which.
+// Copies room[from..from+n], as it was before, down to room[to..to+n], to being no higher than from, where room has the bytes;
+// otherwise room stays. It tells which.
 pub fn move_down(room: &mut [u8], from: usize, n: usize, to: usize) -> bool
     ensures { λ r. ⌜ (r ≡ movesDown (now (room .entry)) from n to) × (now (room .exit) ≡ movedDown (now (room .entry)) from n to) ⌝ }
 {
@@ -131,7 +134,7 @@ pub fn move_down(room: &mut [u8], from: usize, n: usize, to: usize) -> bool
     true
 }
 
-// The same up to index to, which is no lower, where room has place for them.
+// The same upwards, to being no lower than from, where room has place for them.
 pub fn move_up(room: &mut [u8], from: usize, n: usize, to: usize) -> bool
     ensures { λ r. ⌜ (r ≡ movesUp (now (room .entry)) from n to) × (now (room .exit) ≡ movedUp (now (room .entry)) from n to) ⌝ }
 {

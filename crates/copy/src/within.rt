@@ -1,4 +1,5 @@
-// Bytes moved within one room. In all that follow: n bytes of room from index from go to index to, as they were before; room's other bytes stay.
+// Bytes moved within one room. In all that follow: copies room[from..from+n], as it was before, to room[to..to+n];
+// room's other bytes stay.
 ghost use mathlib.Core.Path.{_≡_};
 ghost use Prim.Native.Nat.{_+_, _≤_};
 ghost use lib.ListN.{length, drop};
@@ -24,7 +25,8 @@ fn block(room: &mut [u8], from: usize, to: usize)
     singly(&bytes, 0, 32, room, to);
 }
 
-// Down, the first block first. The last one ends where the bytes end and may begin in the block before it, so that it is read before any is written.
+// Down, the first block first. The last one ends where the bytes end and may begin in the block before it, so that it is
+// read before any is written.
 pub fn down(room: &mut [u8], from: usize, n: usize, to: usize)
     requires { ⌜ (32 ≤ n) × (to ≤ from) × (from + n ≤ length (now room)) ⌝ }
     ensures { λ _. ⌜ now (room .exit) ≡ paste (now (room .entry)) to (drop from (now (room .entry))) n ⌝ }

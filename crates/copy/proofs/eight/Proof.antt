@@ -19,7 +19,17 @@ same-length : tie.Need-same-length
 same-length c = search needs
 
 returns : tie.Need-returns
-returns c = let a = c .before .before .before .before .before .before .before .before .before .before .args in through (a .src .now) (a .dst .now) _ _ (a .from) (a .at) 8 (c .before .before .before .before .before .before .before .before .before .before .pre .0) (c .before .before .before .before .before .before .singly .ensures) (c .before .before .singly2 .ensures)
+returns c =
+    let after-singly2 = c .before .before in
+    let after-bytes2 = after-singly2 .before .before .before in
+    let after-singly = after-bytes2 .before in
+    let after-slice-known = after-singly .before .before in
+    let start = after-slice-known .before .before in
+    let a = start .args in
+    through (a .src .now) (a .dst .now) _ _ (a .from) (a .at) 8 (start .pre .0) (after-singly .singly .ensures)
+    (after-singly2 .singly2 .ensures)
 
 pub eight-spec : {M : Type 1} → statement M
-eight-spec = tie.close (tie.spec slice-aggregate-singly singly-requires slice-aggregate-singly-2 singly-requires-2 same-length returns)
+eight-spec =
+    tie.close (tie.spec slice-aggregate-singly singly-requires slice-aggregate-singly-2 singly-requires-2 same-length
+    returns)

@@ -1,18 +1,18 @@
 -- The invariant: the first i bytes are copied, in whole blocks.
 use mathlib.Core.Path.{_≡_, refl, sym, ap, _∙_}
-use mathlib.Core.List.{List}
-use Prim.Native.Nat.{ℕ, _+_, _-_, _≤_, _<_}
+use Prim.Native.Nat.{_+_, _-_, _≤_}
 use native.Mathlib.Omega.{arith}
 use borrow.Author.Needs.{needs}
 use lib.ListN.{length, drop, length-drop}
-use lib.Seq.{paste, paste-zero, drop-drop}
+use lib.Seq.{paste, paste-zero}
 use Rattle.copy.specs.Copy.{block}
 use Rattle.copy.proofs.Blocks.{more, block-large}
 use Rattle.copy.proofs.in_blocks.Statement.{statement}
 use Rattle.copy.proofs.in_blocks.Tie as tie
 
 abbrev Inv-loop : tie.InvT-loop
-Inv-loop long src from n dst₀ at size i₀ dst i = (i ≤ n) × (dst ≡ paste dst₀ at (drop from src) i) × (length dst ≡ length dst₀)
+Inv-loop long src from n dst₀ at size i₀ dst i = (i ≤ n) × (dst ≡ paste dst₀ at (drop from src) i)
+    × (length dst ≡ length dst₀)
 
 abbrev μ-loop : tie.MeasureT-loop
 μ-loop long src from n dst₀ at size i₀ dst i = n - i
@@ -41,21 +41,31 @@ add-i : tie.Need-add-i Inv-loop μ-loop
 add-i c = search needs
 
 loop-less : tie.Need-loop-less Inv-loop μ-loop
-loop-less c = let e = c .before .before .before .before .before .before .size-of .ensures in let b = block-large (c .before .before .before .before .before .before .before .before .before .args .long) in omega arith
+loop-less c =
+    let after-one-block-arg = c .before .before .before in
+    let after-size-of = after-one-block-arg .before .before .before in
+    let args = after-size-of .before .before .before .args in
+    let e = after-size-of .size-of .ensures in
+    let b = block-large (args .long) in
+    omega arith
 
 loop-again : tie.Need-loop-again Inv-loop μ-loop
 loop-again c =
-    let l = c .before .before .before .before .before .loop in
-    let a = c .before .before .before .before .before .before .before .before .before .args in
-    let z = c .before .before .before .before .before .before .size-of .result in
-    let e : z ≡ block (a .long) = c .before .before .before .before .before .before .size-of .ensures in
+    let after-one-block = c .before .before in
+    let at-loop = after-one-block .before .before .before in
+    let l = at-loop .loop in
+    let after-size-of = at-loop .before in
+    let a = after-size-of .before .before .before .args in
+    let z = after-size-of .size-of .result in
+    let e : z ≡ block (a .long) = after-size-of .size-of .ensures in
     let d = a .dst .now in
     let s = drop (a .from) (a .src .now) in
     let long : a .n ≤ length s = omega (arith, length-drop (a .from) (a .src .now)) in (
       omega arith,
-      c .before .before .one-block .ensures
+      after-one-block .one-block .ensures
           ∙ ap (paste (l .dst) (a .at + l .i) (drop (a .from + l .i) (a .src .now))) (sym e)
-          ∙ more d (l .dst) (a .src .now) (a .from) (a .at) (l .i) (l .i) z (omega arith) (omega (arith, long)) (omega arith) (omega arith) (l .inv .1),
+          ∙ more d (l .dst) (a .src .now) (a .from) (a .at) (l .i) (l .i) z (omega arith) (omega (arith, long))
+          (omega arith) (omega arith) (l .inv .1),
       search needs,
     )
 
@@ -79,38 +89,26 @@ same-length c = search needs
 
 returns : tie.Need-returns Inv-loop μ-loop
 returns c =
-    let l = c .before .before .before .before .before .loop in
-    let a = c .before .before .before .before .before .before .before .before .before .args in
-    let z = c .before .before .before .before .before .before .size-of .result in
-    let e : z ≡ block (a .long) = c .before .before .before .before .before .before .size-of .ensures in
+    let after-one-block2 = c .before .before in
+    let at-loop = after-one-block2 .before .before .before in
+    let l = at-loop .loop in
+    let after-size-of = at-loop .before in
+    let a = after-size-of .before .before .before .args in
+    let z = after-size-of .size-of .result in
+    let e : z ≡ block (a .long) = after-size-of .size-of .ensures in
     let d = a .dst .now in
     let n = a .n in
     let long : n ≤ length (drop (a .from) (a .src .now)) = omega (arith, length-drop (a .from) (a .src .now)) in
     let whole : n - z + z ≡ n = omega arith in
-    c .before .before .one-block2 .ensures
+    after-one-block2 .one-block2 .ensures
     ∙ ap (paste (l .dst) (a .at + (n - z)) (drop (a .from + (n - z)) (a .src .now))) (sym e)
-    ∙ more d (l .dst) (a .src .now) (a .from) (a .at) (l .i) (n - z) z (omega arith) (omega (arith, long)) (omega arith) (omega arith) (l .inv .1)
+    ∙ more d (l .dst) (a .src .now) (a .from) (a .at) (l .i) (n - z) z (omega arith) (omega (arith, long)) (omega arith)
+    (omega arith) (l .inv .1)
     ∙ ap (paste d (a .at) (drop (a .from) (a .src .now))) whole
 
 pub in-blocks-spec : {M : Type 1} → statement M
 in-blocks-spec =
     tie.close
-    (tie.spec
-    Inv-loop
-    μ-loop
-    size-of-requires
-    loop-holds
-    sub-loop
-    add-one-block
-    add-one-block-2
-    one-block-requires
-    add-i
-    loop-less
-    loop-again
-    sub-one-block
-    add-one-block-3
-    sub-one-block-2
-    add-one-block-4
-    one-block-requires-2
-    same-length
-    returns)
+    (tie.spec Inv-loop μ-loop size-of-requires loop-holds sub-loop add-one-block add-one-block-2 one-block-requires
+    add-i loop-less loop-again sub-one-block add-one-block-3 sub-one-block-2 add-one-block-4 one-block-requires-2
+    same-length returns)

@@ -51,7 +51,8 @@ returns-2 c =
     (lacking (length (a .room .now)) (a .from) (a .n) (tested .lacks .ensures) (c .if2 .taken))
 
 few-requires : tie.Need-few-requires
-few-requires c κs = let b = c .before .before in (omega arith, omega (arith, low b, fits b), omega (arith, low b, fits b))
+few-requires c κs =
+    let b = c .before .before in (omega arith, omega (arith, low b, fits b), omega (arith, low b, fits b))
 
 same-length : tie.Need-same-length
 same-length c = search needs
@@ -77,13 +78,4 @@ returns-4 c =
 pub move-down-spec : {M : Type 1} → statement M
 move-down-spec =
     tie.close
-    (tie.spec
-    returns
-    lacks-requires
-    returns-2
-    few-requires
-    same-length
-    returns-3
-    down-requires
-    same-length-2
-    returns-4)
+    (tie.spec returns lacks-requires returns-2 few-requires same-length returns-3 down-requires same-length-2 returns-4)

@@ -51,7 +51,8 @@ returns-2 c =
     (lacking (length (a .room .now)) (a .to) (a .n) (tested .lacks .ensures) (c .if2 .taken))
 
 few-requires : tie.Need-few-requires
-few-requires c κs = let b = c .before .before in (omega arith, omega (arith, high b, fits b), omega (arith, high b, fits b))
+few-requires c κs =
+    let b = c .before .before in (omega arith, omega (arith, high b, fits b), omega (arith, high b, fits b))
 
 same-length : tie.Need-same-length
 same-length c = search needs
@@ -77,13 +78,4 @@ returns-4 c =
 pub move-up-spec : {M : Type 1} → statement M
 move-up-spec =
     tie.close
-    (tie.spec
-    returns
-    lacks-requires
-    returns-2
-    few-requires
-    same-length
-    returns-3
-    up-requires
-    same-length-2
-    returns-4)
+    (tie.spec returns lacks-requires returns-2 few-requires same-length returns-3 up-requires same-length-2 returns-4)

@@ -17,13 +17,25 @@ same-length : tie.Need-same-length
 same-length c = search needs
 
 returns : tie.Need-returns
-returns c = c .before .before .thirty-two .ensures ∙ ap (paste (c .before .before .before .before .before .before .before .args .dst .now) (c .before .before .before .before .before .before .before .args .at) (drop (c .before .before .before .before .before .before .before .args .from) (c .before .before .before .before .before .before .before .args .src .now))) (sym (ap block (c .before .before .before .before .if1 .taken)))
+returns c =
+    let after-thirty-two = c .before .before in
+    let then1 = after-thirty-two .before .before in
+    let args = then1 .before .before .before .args in
+    after-thirty-two .thirty-two .ensures
+    ∙ ap (paste (args .dst .now) (args .at) (drop (args .from) (args .src .now)))
+    (sym (ap block (then1 .if1 .taken)))
 
 same-length-2 : tie.Need-same-length-2
 same-length-2 c = search needs
 
 returns-2 : tie.Need-returns-2
-returns-2 c = c .before .before .eight .ensures ∙ ap (paste (c .before .before .before .before .before .before .before .args .dst .now) (c .before .before .before .before .before .before .before .args .at) (drop (c .before .before .before .before .before .before .before .args .from) (c .before .before .before .before .before .before .before .args .src .now))) (sym (ap block (c .before .before .before .before .if1 .left)))
+returns-2 c =
+    let after-eight = c .before .before in
+    let else1 = after-eight .before .before in
+    let args = else1 .before .before .before .args in
+    after-eight .eight .ensures
+    ∙ ap (paste (args .dst .now) (args .at) (drop (args .from) (args .src .now)))
+    (sym (ap block (else1 .if1 .left)))
 
 pub one-block-spec : {M : Type 1} → statement M
 one-block-spec =

@@ -2,11 +2,10 @@
 use mathlib.Core.Path.{_≡_, refl, sym, ap, _∙_}
 use mathlib.Core.List.{List}
 use Prim.Native.Nat.{ℕ, _+_, _-_, _≤_, _<_}
-use native.Mathlib.Nat.{le-antisymm}
 use native.Mathlib.Numerals.{add-one}
 use native.Mathlib.Omega.{arith}
 use borrow.Author.Needs.{needs}
-use lib.ListN.{length, drop, getD, set, length-set, length-drop}
+use lib.ListN.{length, drop, getD, set, length-drop}
 use lib.Seq.{paste, paste-zero, paste-suc, getD-drop}
 use Rattle.copy.proofs.singly.Statement.{statement}
 use Rattle.copy.proofs.singly.Tie as tie
@@ -18,7 +17,11 @@ abbrev μ-loop : tie.MeasureT-loop
 μ-loop src from n dst₀ at i₀ dst i = n - i
 
 loop-holds : tie.Need-loop-holds Inv-loop μ-loop
-loop-holds c = (search needs, paste-zero (c .args .dst .now) (c .args .at) (drop (c .args .from) (c .args .src .now)), refl)
+loop-holds c = (
+  search needs,
+  paste-zero (c .args .dst .now) (c .args .at) (drop (c .args .from) (c .args .src .now)),
+  refl,
+)
 
 add-dst : tie.Need-add-dst Inv-loop μ-loop
 add-dst c = search needs
@@ -39,7 +42,8 @@ loop-less : tie.Need-loop-less Inv-loop μ-loop
 loop-less c = search needs
 
 -- one store more
-more : (src d dst : List ℕ) (from at i : ℕ) → dst ≡ paste d at (drop from src) i → at + i < length d → from + i < length src
+more : (src d dst : List ℕ) (from at i : ℕ) → dst ≡ paste d at (drop from src) i → at + i < length d
+    → from + i < length src
     → set dst (at + i) (getD src (from + i) 0) ≡ paste d at (drop from src) (i + 1)
 more src d dst from at i e hd hs =
     ap (λ (l : List ℕ). set l (at + i) (getD src (from + i) 0)) e
@@ -50,8 +54,11 @@ more src d dst from at i e hd hs =
 loop-again : tie.Need-loop-again Inv-loop μ-loop
 loop-again c =
     let l = c .before .before .loop in
-    let a = c .before .before .before .args in
-    (search needs, more (a .src .now) (a .dst .now) (l .dst) (a .from) (a .at) (l .i) (l .inv .1) (omega arith) (omega arith), search needs)
+    let a = c .before .before .before .args in (
+      search needs,
+      more (a .src .now) (a .dst .now) (l .dst) (a .from) (a .at) (l .i) (l .inv .1) (omega arith) (omega arith),
+      search needs,
+    )
 
 same-length : tie.Need-same-length Inv-loop μ-loop
 same-length c = search needs
@@ -64,4 +71,6 @@ returns c =
     l .inv .1 ∙ ap (paste (a .dst .now) (a .at) (drop (a .from) (a .src .now))) e
 
 pub singly-spec : {M : Type 1} → statement M
-singly-spec = tie.close (tie.spec Inv-loop μ-loop loop-holds add-dst shared-slice-read-dst add-dst-2 slice-write-dst add-i loop-less loop-again same-length returns)
+singly-spec =
+    tie.close (tie.spec Inv-loop μ-loop loop-holds add-dst shared-slice-read-dst add-dst-2 slice-write-dst add-i
+    loop-less loop-again same-length returns)

@@ -24,8 +24,15 @@ same-length-2 c = search needs
 
 returns : tie.Need-returns
 returns c =
-    let a = c .before .before .before .before .before .before .before .before .before .before .before .before .before .before .args in
-    rw (c .before .record-after .ensures, c .answer-says .ensures) (collecting-is (a .rec) (a .hold .now) (a .out .now) (a .packet .now) (c .before .before .before .before .before .before .before .before .before .before .record-in .ensures) (c .before .before .before .before .before .before .before .step .ensures))
+    let after-slice-known4 = c .before .before .before in
+    let after-hold = after-slice-known4 .before .before .before in
+    let after-step = after-hold .before in
+    let after-record-in = after-step .before .before .before in
+    let after-slice-known = after-record-in .before .before .before in
+    let a = after-slice-known .before .args in
+    rw (c .before .record-after .ensures, c .answer-says .ensures)
+    (collecting-is (a .rec) (a .hold .now) (a .out .now) (a .packet .now) (after-record-in .record-in .ensures)
+    (after-step .step .ensures))
 
 pub step-spec : {M : Type 1} → statement M
 step-spec =

@@ -11,8 +11,9 @@ moment-of-requires c κs = search needs
 
 returns : tie.Need-returns
 returns c =
-    let local : SFits w16 (c .before .before .args .item .«local_time_offset») = search needs in
-    let next : SFits w16 (c .before .before .args .item .«next_time_offset») = search needs in
+    let args = c .before .before .args in
+    let local : SFits w16 (args .item .«local_time_offset») = search needs in
+    let next : SFits w16 (args .item .«next_time_offset») = search needs in
     rw (c .before .moment-of .ensures, toZ-ofZ local, toZ-ofZ next)
 
 pub local-time-offset-of-spec : {M : Type 1} → statement M

@@ -49,7 +49,10 @@ returns-2 : tie.Need-returns-2
 returns-2 c = rw (c .enum-told .given .1)
 
 returns-3 : tie.Need-returns-3
-returns-3 c = rw (c .before .before .before .before .answer2 .given .1, c .refused .ensures, c .before .before .number .ensures, c .before .place .ensures)
+returns-3 c =
+    let after-number = c .before .before in
+    let answer2 = after-number .before .before .answer2 in
+    rw (answer2 .given .1, c .refused .ensures, after-number .number .ensures, c .before .place .ensures)
 
 returns-4 : tie.Need-returns-4
 returns-4 c = rw (c .before .enum-told2 .given .1, c .refused2 .ensures)

@@ -40,7 +40,8 @@ loop-again c =
     let l = c .before .before .loop in (
       omega arith,
       length-set (l .numbers) (l .i) _ ∙ l .inv .1,
-      mapped-more bit (c .before .before .before .args .t1) (l .numbers) (l .i) false _ (omega arith) (omega arith) (c .of-flag .ensures) (l .inv .2),
+      mapped-more bit (c .before .before .before .args .t1) (l .numbers) (l .i) false _ (omega arith) (omega arith)
+          (c .of-flag .ensures) (l .inv .2),
     )
 
 returns : tie.Need-returns Inv-loop μ-loop

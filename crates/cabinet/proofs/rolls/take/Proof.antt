@@ -18,8 +18,11 @@ answer-says-requires c κs = search needs
 
 returns : tie.Need-returns
 returns c =
-    let a = c .before .before .before .before .before .before .args in
-    rw (c .before .kept .ensures, c .answer-says .ensures) (rolling-is (a .roll) (a .section .now) (c .before .before .before .before .roll-in .ensures) (c .before .before .before .take .ensures))
+    let after-take = c .before .before .before in
+    let roll-in = after-take .before .roll-in in
+    let a = after-take .before .before .before .args in
+    rw (c .before .kept .ensures, c .answer-says .ensures)
+    (rolling-is (a .roll) (a .section .now) (roll-in .ensures) (after-take .take .ensures))
 
 pub take-spec : {M : Type 1} → statement M
 take-spec =

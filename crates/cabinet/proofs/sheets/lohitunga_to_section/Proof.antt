@@ -24,7 +24,13 @@ same-length c = search needs
 
 returns : tie.Need-returns
 unfolding told
-returns c = (ap₂ told (c .before .section-number .ensures) (c .section-size .ensures) ∙ ap sectionSays (c .before .before .before .before .to-section .ensures .0), c .before .before .before .before .to-section .ensures .1)
+returns c =
+    let after-section-number = c .before in
+    let to-section = after-section-number .before .before .before .to-section in (
+      ap₂ told (after-section-number .section-number .ensures) (c .section-size .ensures)
+          ∙ ap sectionSays (to-section .ensures .0),
+      to-section .ensures .1,
+    )
 
 pub lohitunga-to-section-spec : {M : Type 1} → statement M
 lohitunga-to-section-spec =

@@ -31,7 +31,10 @@ returns-2 : tie.Need-returns-2
 returns-2 c = rw (← c .before .before .search .ensures, c .enum-told .given .1)
 
 returns-3 : tie.Need-returns-3
-returns-3 c = rw (← c .before .before .before .before .before .search .ensures, c .before .before .before .verdict .given .1, c .before .number2 .ensures, c .place .ensures)
+returns-3 c =
+    let after-verdict = c .before .before .before in
+    let search = after-verdict .before .before .search in
+    rw (← search .ensures, after-verdict .verdict .given .1, c .before .number2 .ensures, c .place .ensures)
 
 pub lohitunga-search-spec : {M : Type 1} → statement M
 lohitunga-search-spec =

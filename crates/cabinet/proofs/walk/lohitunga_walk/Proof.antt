@@ -16,13 +16,19 @@ enum-known-step-2 : tie.Need-enum-known-step-2
 enum-known-step-2 c = search needs
 
 returns : tie.Need-returns
-returns c = rw (c .before .before .before .step-from .ensures .moves, ← c .before .before .before .step-from .ensures .gives, c .before .step .given .1)
+returns c =
+    let step-from = c .before .before .before .step-from in
+    rw (step-from .ensures .moves, ← step-from .ensures .gives, c .before .step .given .1)
 
 returns-2 : tie.Need-returns-2
-returns-2 c = rw (c .before .before .step-from .ensures .moves, ← c .before .before .step-from .ensures .gives, c .enum-told .given .1)
+returns-2 c =
+    let step-from = c .before .before .step-from in
+    rw (step-from .ensures .moves, ← step-from .ensures .gives, c .enum-told .given .1)
 
 returns-3 : tie.Need-returns-3
-returns-3 c = rw (c .before .before .before .step-from .ensures .moves, ← c .before .before .before .step-from .ensures .gives, c .before .step2 .given .1)
+returns-3 c =
+    let step-from = c .before .before .before .step-from in
+    rw (step-from .ensures .moves, ← step-from .ensures .gives, c .before .step2 .given .1)
 
 pub lohitunga-walk-spec : {M : Type 1} → statement M
 lohitunga-walk-spec =

@@ -1,7 +1,7 @@
 -- The invariant: the first i bytes are moved, in whole blocks.
 use mathlib.Core.Path.{_≡_, refl, _∙_}
 use mathlib.Core.List.{List}
-use Prim.Native.Nat.{ℕ, _+_, _-_, _≤_}
+use Prim.Native.Nat.{ℕ, _-_, _≤_}
 use native.Mathlib.Omega.{arith}
 use borrow.Author.Needs.{needs}
 use lib.ListN.{length, drop}
@@ -11,7 +11,8 @@ use Rattle.copy.proofs.within.down.Statement.{statement}
 use Rattle.copy.proofs.within.down.Tie as tie
 
 abbrev Inv-loop : tie.InvT-loop
-Inv-loop room₀ from n to last i₀ room i = (i ≤ n) × (room ≡ paste room₀ to (drop from room₀) i) × (length room ≡ length room₀)
+Inv-loop room₀ from n to last i₀ room i = (i ≤ n) × (room ≡ paste room₀ to (drop from room₀) i)
+    × (length room ≡ length room₀)
 
 abbrev μ-loop : tie.MeasureT-loop
 μ-loop room₀ from n to last i₀ room i = n - i
@@ -81,7 +82,8 @@ loop-again c =
     let w = moved .before .before .before in
     let l = w .loop in (
       omega arith,
-      moved .block .ensures ∙ down-on (o w) (from w) (to w) (start w .pre .1) (l .room) (l .i) (omega arith) (l .inv .1),
+      moved .block .ensures
+          ∙ down-on (o w) (from w) (to w) (start w .pre .1) (l .room) (l .i) (omega arith) (l .inv .1),
       search needs,
     )
 
@@ -108,29 +110,12 @@ returns c =
     let l = w .loop in
     let p = start w .pre in
     written .singly2 .ensures
-    ∙ down-ends (o w) (from w) (to w) (p .1) (l .room) _ (l .i) (n w) (p .0) (p .2) (l .inv .0) (omega arith) (l .inv .1) (read w .singly .ensures)
+    ∙ down-ends (o w) (from w) (to w) (p .1) (l .room) _ (l .i) (n w) (p .0) (p .2) (l .inv .0) (omega arith)
+    (l .inv .1) (read w .singly .ensures)
 
 pub down-spec : {M : Type 1} → statement M
 down-spec =
     tie.close
-    (tie.spec
-    Inv-loop
-    μ-loop
-    sub-singly
-    add-singly
-    slice-aggregate-singly
-    singly-requires
-    loop-holds
-    sub-loop
-    add-block
-    add-block-2
-    block-requires
-    add-i
-    loop-less
-    loop-again
-    slice-aggregate-singly-2
-    sub-singly-2
-    add-singly-2
-    singly-requires-2
-    same-length
-    returns)
+    (tie.spec Inv-loop μ-loop sub-singly add-singly slice-aggregate-singly singly-requires loop-holds sub-loop add-block
+    add-block-2 block-requires add-i loop-less loop-again slice-aggregate-singly-2 sub-singly-2 add-singly-2
+    singly-requires-2 same-length returns)

@@ -34,10 +34,4 @@ returns c =
 pub few-spec : {M : Type 1} → statement M
 few-spec =
     tie.close
-    (tie.spec
-    slice-aggregate-singly
-    singly-requires
-    slice-aggregate-singly-2
-    singly-requires-2
-    same-length
-    returns)
+    (tie.spec slice-aggregate-singly singly-requires slice-aggregate-singly-2 singly-requires-2 same-length returns)

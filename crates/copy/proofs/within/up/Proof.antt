@@ -11,7 +11,8 @@ use Rattle.copy.proofs.within.up.Statement.{statement}
 use Rattle.copy.proofs.within.up.Tie as tie
 
 abbrev Inv-loop : tie.InvT-loop
-Inv-loop room₀ from n to first i₀ room i = (i ≤ n) × (room ≡ paste room₀ (to + i) (drop (from + i) room₀) (n - i)) × (length room ≡ length room₀)
+Inv-loop room₀ from n to first i₀ room i = (i ≤ n) × (room ≡ paste room₀ (to + i) (drop (from + i) room₀) (n - i))
+    × (length room ≡ length room₀)
 
 abbrev μ-loop : tie.MeasureT-loop
 μ-loop room₀ from n to first i₀ room i = i
@@ -74,7 +75,8 @@ loop-again c =
     let p = start w .pre in (
       omega arith,
       moved .block .ensures
-          ∙ up-on (o w) (from w) (to w) (n w) (p .1) (p .2) (l .room) (l .i) (l .i - 32) (omega arith) (l .inv .0) (l .inv .2) (l .inv .1),
+          ∙ up-on (o w) (from w) (to w) (n w) (p .1) (p .2) (l .room) (l .i) (l .i - 32) (omega arith) (l .inv .0)
+          (l .inv .2) (l .inv .1),
       search needs,
     )
 
@@ -95,24 +97,11 @@ returns c =
     let l = w .loop in
     let p = start w .pre in
     written .singly2 .ensures
-    ∙ up-ends (o w) (from w) (to w) (n w) (p .1) (p .2) (l .room) _ (l .i) (p .0) (omega arith) (l .inv .1) (read w .singly .ensures)
+    ∙ up-ends (o w) (from w) (to w) (n w) (p .1) (p .2) (l .room) _ (l .i) (p .0) (omega arith) (l .inv .1)
+    (read w .singly .ensures)
 
 pub up-spec : {M : Type 1} → statement M
 up-spec =
     tie.close
-    (tie.spec
-    Inv-loop
-    μ-loop
-    slice-aggregate-singly
-    singly-requires
-    loop-holds
-    sub-i
-    add-block
-    add-block-2
-    block-requires
-    loop-less
-    loop-again
-    slice-aggregate-singly-2
-    singly-requires-2
-    same-length
-    returns)
+    (tie.spec Inv-loop μ-loop slice-aggregate-singly singly-requires loop-holds sub-i add-block add-block-2
+    block-requires loop-less loop-again slice-aggregate-singly-2 singly-requires-2 same-length returns)
