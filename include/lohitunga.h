@@ -622,14 +622,14 @@ lohitunga_roll_answer lohitunga_roll_take(lohitunga_roll *roll, const uint8_t *s
 
 /* The stack that a call needs at most, in bytes below the caller's stack pointer, its return address included and that of memcpy and memset left out:
  *   lohitunga_roll_take            1,624
- *   lohitunga_to_sheet             1,416
+ *   lohitunga_to_sheet             1,384
  *   lohitunga_open                 1,368
  *   lohitunga_search               1,272
- *   lohitunga_to_section             920
+ *   lohitunga_to_section             904
  *   lohitunga_judge                  712
  *   lohitunga_next_entry             632
  *   lohitunga_roll_ask               304
- *   lohitunga_collect                184
+ *   lohitunga_collect                256
  *   lohitunga_read_satellite         184
  *   lohitunga_read_terrestrial       184
  *   lohitunga_read_date              136

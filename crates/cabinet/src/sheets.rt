@@ -70,7 +70,8 @@ fn section_size(a: turn::SectionAnswer) -> usize
 
 #[no_mangle]
 pub extern "C" fn lohitunga_to_sheet(section: &[u8], room: &mut [u8]) -> SheetAnswer
-    ensures { λ r. ⌜ (r ≡ sheetSays (answer (toSheet (length (now (room .entry))) (now (section .entry))))) × (now (room .exit) ≡ roomAfter (now (room .entry)) (toSheet (length (now (room .entry))) (now (section .entry)))) ⌝ }
+    ensures { λ r. ⌜ (r ≡ sheetSays (answer (toSheet (length (now (room .entry))) (now (section .entry)))))
+        × (now (room .exit) ≡ roomAfter (now (room .entry)) (toSheet (length (now (room .entry))) (now (section .entry)))) ⌝ }
 {
     let a = turn::to_sheet(section, room);
     sheet_told(a)

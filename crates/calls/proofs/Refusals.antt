@@ -13,7 +13,7 @@ use Rattle.wire.proofs.IfLaws.{if-case}
 use Rattle.tables.specs.Tables.{rowOf, rowAt}
 use Rattle.section.specs.Faults.{First}
 use Rattle.forms.specs.Form.{Form, rawRead, raw, bothRead, _then_, suchRead, such, eachRead, each}
-use Rattle.forms.specs.Fields.{Field, kept, reserved, belowRead, below, sheetField, sheetFields}
+use Rattle.forms.specs.Fields.{Field, kept, reserved, belowRead, sheetField, sheetFields}
 use Rattle.forms.specs.Lists.{timesRead, countedRead, counted}
 use Rattle.sheet.specs.Content.{Item, plain, numbers, packed, bare, frame, headOf, entryOf, sideOf, rowIn}
 use Rattle.sheet.specs.Sheet.{inOrder, sheetItem, descriptorRead, descriptor, sheetLoop, sheetEntry, sheetTop, topFor, sheetEntries, entriesFor, sheetBody, behindId, sheetRead, readFor}

@@ -92,15 +92,18 @@ module _ {M : Type 1} (𝓤 : URA M) (H : Heap 𝓤) (A : Atoms 𝓤) (at-mem : 
 
   pub next-section-promises : (κs : Lfts (next-section.ended .signature .lifetimes)) (a : Args (next-section.ended .signature) κs)
       (x : Res (next-section.ended .signature) κs) (ws : Lasts next-section.ended κs a)
-      → next-section.clauses 𝓤 H A at-mem run κs a .ensures tt x (atExit next-section.ended κs a ws) ≡ fact 𝓤 (sections.PromisedSection (a .0 .now) (a .1 .0) x)
+      → next-section.clauses 𝓤 H A at-mem run κs a .ensures tt x (atExit next-section.ended κs a ws)
+          ≡ fact 𝓤 (sections.PromisedSection (a .0 .now) (a .1 .0) x)
   next-section-promises κs a x ws = refl
 
   pub next-entry-promises : (κs : Lfts (next-entry.ended .signature .lifetimes)) (a : Args (next-entry.ended .signature) κs)
       (x : Res (next-entry.ended .signature) κs) (ws : Lasts next-entry.ended κs a)
-      → next-entry.clauses 𝓤 H A at-mem run κs a .ensures tt x (atExit next-entry.ended κs a ws) ≡ fact 𝓤 (sections.PromisedEntry (a .0 .now) (a .1 .0) x)
+      → next-entry.clauses 𝓤 H A at-mem run κs a .ensures tt x (atExit next-entry.ended κs a ws)
+          ≡ fact 𝓤 (sections.PromisedEntry (a .0 .now) (a .1 .0) x)
   next-entry-promises κs a x ws = refl
 
   pub next-descriptor-promises : (κs : Lfts (next-descriptor.ended .signature .lifetimes)) (a : Args (next-descriptor.ended .signature) κs)
       (x : Res (next-descriptor.ended .signature) κs) (ws : Lasts next-descriptor.ended κs a)
-      → next-descriptor.clauses 𝓤 H A at-mem run κs a .ensures tt x (atExit next-descriptor.ended κs a ws) ≡ fact 𝓤 (sections.PromisedDescriptor (a .0 .now) (a .1 .0) x)
+      → next-descriptor.clauses 𝓤 H A at-mem run κs a .ensures tt x (atExit next-descriptor.ended κs a ws)
+          ≡ fact 𝓤 (sections.PromisedDescriptor (a .0 .now) (a .1 .0) x)
   next-descriptor-promises κs a x ws = refl

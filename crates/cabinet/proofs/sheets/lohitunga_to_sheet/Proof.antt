@@ -15,7 +15,9 @@ same-length : tie.Need-same-length
 same-length c = search needs
 
 returns : tie.Need-returns
-returns c = (c .sheet-told .ensures ∙ ap sheetSays (c .before .before .before .to-sheet .ensures .0), c .before .before .before .to-sheet .ensures .1)
+returns c =
+    let to-sheet = c .before .before .before .to-sheet in
+    (c .sheet-told .ensures ∙ ap sheetSays (to-sheet .ensures .0), to-sheet .ensures .1)
 
 pub lohitunga-to-sheet-spec : {M : Type 1} → statement M
 lohitunga-to-sheet-spec =
