@@ -87,7 +87,7 @@ int main(int argc, char **argv) {
     }
     static uint8_t hold[LOHITUNGA_HOLD], out[LOHITUNGA_OUT];
     uint8_t packet[LOHITUNGA_PACKET];
-    lohitunga_record record = lohitunga_fresh(argc < 3 ? 0x11 : (uint16_t)strtoul(argv[2], NULL, 16));
+    lohitunga_record record = lohitunga_fresh(argc < 3 ? LOHITUNGA_PID_SDT_BAT : (uint16_t)strtoul(argv[2], NULL, 16));
     lohitunga_roll roll = lohitunga_roll_empty();
     size_t read;
     while ((read = fread(packet, 1, sizeof packet, stream)) > 0) {

@@ -11,7 +11,7 @@
  *     #include <lohitunga.h>
  *     int main(void) {
  *         static uint8_t hold[LOHITUNGA_HOLD], out[LOHITUNGA_OUT], packet[LOHITUNGA_PACKET];
- *         lohitunga_record record = lohitunga_fresh(0x11);
+ *         lohitunga_record record = lohitunga_fresh(LOHITUNGA_PID_SDT_BAT);
  *         size_t sections = 0;
  *         while (fread(packet, sizeof packet, 1, stdin) == 1)
  *             sections += lohitunga_collect(&record, hold, sizeof hold, out, sizeof out, packet, sizeof packet).sections;
@@ -44,6 +44,12 @@ extern "C" {
 #define LOHITUNGA_INTERFACE 2
 
 uint32_t lohitunga_interface(void);
+
+/* PIDs on which tables are broadcast (EN 300 468, table 1). */
+#define LOHITUNGA_PID_NIT 0x10
+#define LOHITUNGA_PID_SDT_BAT 0x11
+#define LOHITUNGA_PID_EIT 0x12
+#define LOHITUNGA_PID_TDT_TOT 0x14
 
 /* table_ids. The EIT of a schedule has sixteen each, the first of which stands here. */
 #define LOHITUNGA_TABLE_NIT_ACTUAL 0x40
