@@ -15,7 +15,7 @@ use Rattle.roll.specs.Answer.{Says, missing, complete, refusing}
 use Rattle.roll.specs.Roll as roll
 use Rattle.roll.specs.Roll.{taking}
 use Rattle.roll.specs.declared.Roll as of-roll
-use Rattle.cabinet.specs.Collect.{lastIn, lastSays, recordIn, recordAfter, collectSays, collecting}
+use Rattle.cabinet.specs.Collect.{lastIn, lastSays, countedIn, numbersWith, recordIn, recordAfter, collectSays, collecting}
 use Rattle.cabinet.specs.Collect as Collect
 use Rattle.cabinet.specs.Roll.{rollIn, rolling}
 use Rattle.cabinet.specs.Roll as Roll
@@ -44,20 +44,7 @@ last-kept n = if-case (λ l. lastSays l ≡ n) (eqb n 255) (λ is. sym (eqb-true
 -- unaltered is unaltered here
 pub record-kept : (r : Record) → recordAfter r (recordIn r) ≡ r
 record-kept r =
-    ap
-    (λ n.
-    record {
-      pid = r .pid;
-      last = n;
-      spare = r .spare;
-      in_hand = r .in_hand;
-      pointer = r .pointer;
-      delivered = r .delivered;
-      broken = r .broken;
-      filler = r .filler;
-      skipped = r .skipped;
-      «spare_counter» = r .«spare_counter»;
-    })
+    ap (λ n. numbersWith (r .pid) n (r .spare) (r .in_hand) (λ k. countedIn k r) (r .«spare_counter»))
     (last-kept (r .last))
 
 -- ---- "the record and all lent room unaltered"

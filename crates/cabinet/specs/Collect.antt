@@ -1,11 +1,13 @@
 -- The collector's record and answer in numbers.
+use mathlib.Core.Path.{_≡_}
 use Prim.Native.Nat.{ℕ}
 use mathlib.Core.List.{List, [], _∷_}
 use lib.Dec.{eqb}
 use Rattle.wire.specs.If.{if_then_else_}
+use Rattle.collector.specs.Rules.{Kind, pointer, delivered, broken, filler, skipped, done}
 use Rattle.collector.specs.Answer.{Told, refused, repeated, taken}
 use Rattle.collector.specs.Answer as collector
-use Rattle.collector.specs.Collected.{collected}
+use Rattle.collector.specs.Collected.{bytesCounted, recordWith, collected}
 use Rattle.collector.specs.declared.Last.{Last}
 use Rattle.collector.specs.declared.Last.the-variants.{None, Counter}
 use Rattle.collector.specs.declared.Record as of
@@ -21,48 +23,54 @@ abbrev pub lastSays : Last → ℕ
 lastSays None = 255
 lastSays (Counter n) = n
 
+-- ---- the counters, each by the kind of the bytes that it counts
+
+-- the bytes of a kind that the numbers count
+abbrev pub countedIn : Kind → Record → ℕ
+countedIn pointer r = r .pointer
+countedIn delivered r = r .delivered
+countedIn broken r = r .broken
+countedIn filler r = r .filler
+countedIn skipped r = r .skipped
+
+-- the numbers by the PID, the last counter or none, what is spare, the bytes in hand, the counter of each kind, and the one that is spare
+abbrev pub numbersWith : ℕ → ℕ → List ℕ → ℕ → (Kind → ℕ) → ℕ → Record
+numbersWith pid last spare held n spare-counter = record {
+  pid = pid;
+  last = last;
+  spare = spare;
+  in_hand = held;
+  pointer = n pointer;
+  delivered = n delivered;
+  broken = n broken;
+  filler = n filler;
+  skipped = n skipped;
+  «spare_counter» = spare-counter;
+}
+
+-- a counter has the same name in the numbers and in the collector's record: told without the two definitions above, so that one that stands under
+-- the name of another is seen
+abbrev pub SameName : Record → of.Record → Kind → Type 0
+SameName r x pointer = x .pointer ≡ r .pointer
+SameName r x delivered = x .delivered ≡ r .delivered
+SameName r x broken = x .broken ≡ r .broken
+SameName r x filler = x .filler ≡ r .filler
+SameName r x skipped = x .skipped ≡ r .skipped
+
+-- ---- a record in numbers
+
 -- the collector's record that the numbers stand for
 abbrev pub recordIn : Record → of.Record
-recordIn r = record {
-  pid = r .pid;
-  last = lastIn (r .last);
-  in_hand = r .in_hand;
-  pointer = r .pointer;
-  delivered = r .delivered;
-  broken = r .broken;
-  filler = r .filler;
-  skipped = r .skipped;
-}
+recordIn r = recordWith (r .pid) (lastIn (r .last)) (r .in_hand) (λ k. countedIn k r)
 
 -- the numbers for a record of the collector, in the place of the numbers before: what is spare stays as it was
 abbrev pub recordAfter : Record → of.Record → Record
-recordAfter before r = record {
-  pid = r .pid;
-  last = lastSays (r .last);
-  spare = before .spare;
-  in_hand = r .in_hand;
-  pointer = r .pointer;
-  delivered = r .delivered;
-  broken = r .broken;
-  filler = r .filler;
-  skipped = r .skipped;
-  «spare_counter» = before .«spare_counter»;
-}
+recordAfter before r =
+    numbersWith (r .pid) (lastSays (r .last)) (before .spare) (r .in_hand) (λ k. bytesCounted (done k) r) (before .«spare_counter»)
 
 -- every byte 0
 abbrev pub zeros : Record
-zeros = record {
-  pid = 0;
-  last = 0;
-  spare = 0 ∷ 0 ∷ 0 ∷ 0 ∷ 0 ∷ [];
-  in_hand = 0;
-  pointer = 0;
-  delivered = 0;
-  broken = 0;
-  filler = 0;
-  skipped = 0;
-  «spare_counter» = 0;
-}
+zeros = numbersWith 0 0 (0 ∷ 0 ∷ 0 ∷ 0 ∷ 0 ∷ []) 0 (λ k. 0) 0
 
 -- the numbers for a record of the collector where there were none before: what is spare is 0
 abbrev pub recordSays : of.Record → Record

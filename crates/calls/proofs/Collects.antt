@@ -16,12 +16,13 @@ use Rattle.packet.specs.Refusals.{Judged, refuse, has-payload, judgedBy, judged
 use Rattle.collector.specs.Refusals.{beforeOf, cannotStand, tooSmall}
 use Rattle.packet.specs.Refusals as Refusals
 use Rattle.packet.specs.Ruling as Ruled
+use Rattle.collector.specs.Rules.{byKind, done}
 use Rattle.collector.specs.Answer as collector
-use Rattle.collector.specs.Collected.{freshRecord, outcomeOf, collected}
+use Rattle.collector.specs.Collected.{bytesCounted, recordWith, freshRecord, outcomeOf, collected}
 use Rattle.history.specs.Run as beneath
 use Rattle.collector.specs.declared.Last.the-variants.{None, Counter}
 use Rattle.collector.specs.declared.Record as of
-use Rattle.cabinet.specs.Collect.{lastIn, lastSays, recordIn, recordAfter, recordSays, collectSays, Outcome, leaves, outcomeSays, collecting}
+use Rattle.cabinet.specs.Collect.{lastIn, lastSays, SameName, recordIn, recordAfter, recordSays, collectSays, Outcome, leaves, outcomeSays, collecting}
 use Rattle.cabinet.proofs.Outcomes.{last-kept, record-kept}
 use Rattle.calls.specs.Collects.{LastIs, Stands, Tells, Promised, Kept, KeepsNumbers, Call, Run, no-call, one-call, callSays, Beneath, RunsBeneath}
 use Rattle.cabinet.specs.declared.collect.Record.{Record}
@@ -77,19 +78,7 @@ told-on x hold out packet t =
 
 told-back : (x : of.Record) → Told x → recordIn (recordSays x) ≡ x
 told-back x t =
-    ap
-    (λ l.
-    record {
-      pid = x .pid;
-      last = l;
-      in_hand = x .in_hand;
-      pointer = x .pointer;
-      delivered = x .delivered;
-      broken = x .broken;
-      filler = x .filler;
-      skipped = x .skipped;
-    })
-    t
+    ap (λ l. recordWith (x .pid) l (x .in_hand) (λ k. bytesCounted (done k) x)) t
 
 -- ---- field by field
 
@@ -106,11 +95,7 @@ stands r = record {
   pid = refl;
   last = last-is (r .last);
   in-hand = refl;
-  pointer = refl;
-  delivered = refl;
-  broken = refl;
-  filler = refl;
-  skipped = refl;
+  counters = byKind (SameName r (recordIn r)) refl refl refl refl refl;
 }
 
 pub collect-tells : (t : collector.Told) → Tells t (collectSays t)

@@ -3,6 +3,7 @@
 use mathlib.Core.Path.{_≡_}
 use mathlib.Core.List.{List, [], _∷_, map}
 use Prim.Native.Nat.{ℕ}
+use Rattle.collector.specs.Rules.{Kind}
 use Rattle.collector.specs.Answer.{Told}
 use Rattle.collector.specs.Answer as Answer
 use Rattle.collector.specs.Collected.{freshRecord}
@@ -10,7 +11,7 @@ use Rattle.history.specs.Run as beneath
 use Rattle.collector.specs.declared.Last.{Last}
 use Rattle.collector.specs.declared.Last.the-variants.{None, Counter}
 use Rattle.collector.specs.declared.Record as of
-use Rattle.cabinet.specs.Collect.{lastIn, recordIn, recordSays, collectSays, Outcome, leaves, collecting}
+use Rattle.cabinet.specs.Collect.{lastIn, SameName, recordIn, recordSays, collectSays, Outcome, leaves, collecting}
 use Rattle.cabinet.specs.declared.collect.Record.{Record}
 use Rattle.cabinet.specs.declared.collect.CollectAnswer.{CollectAnswer}
 
@@ -26,11 +27,7 @@ pub record Stands (r : Record) (x : of.Record) : Type 0 where
   pub pid : x .pid ≡ r .pid
   pub last : LastIs (r .last) (x .last)
   pub in-hand : x .in_hand ≡ r .in_hand
-  pub pointer : x .pointer ≡ r .pointer
-  pub delivered : x .delivered ≡ r .delivered
-  pub broken : x .broken ≡ r .broken
-  pub filler : x .filler ≡ r .filler
-  pub skipped : x .skipped ≡ r .skipped
+  pub counters : (k : Kind) → SameName r x k
 
 -- the answer tells what is said, and is 0 elsewhere: a refusal's number; "repeated"; or taken, with the number of
 -- sections and of their

@@ -8,13 +8,13 @@ use native.Mathlib.Omega.{arith}
 use lib.ListN.{length, take, drop, length-append}
 use Rattle.wire.specs.If.{if_then_else_}
 use Rattle.copy.specs.Laid.{over}
-use Rattle.collector.specs.Rules.{Kind, pointer, delivered, broken, Fate, in-hand, done, Story, sameFate, bytesOf, countOf, handOf, marked, given, brokenOff, holding, joined, plain, goesOn, payload, delivers}
+use Rattle.collector.specs.Rules.{Kind, pointer, delivered, broken, Fate, in-hand, done, Story, sameFate, bytesOf, countOf, handOf, marked, given, brokenOff, holding, breaking, kindOf, joined, plain, goesOn, payload, delivers}
 use Rattle.collector.specs.Answer as Answer
 use Rattle.collector.specs.Answer.{came}
 use Rattle.collector.specs.Collected.{bytesCounted, recordWith, recordAfter, deliveredOf, outcomeAfter}
 use Rattle.collector.specs.Inner.Payload.{Fit}
-use Rattle.collector.specs.Inner.Stretch.{Ends, Small, pointCount, addedBy}
-use Rattle.collector.specs.Inner.Taking.{keptOf, countedOf}
+use Rattle.collector.specs.Inner.Stretch.{Ends, Small}
+use Rattle.collector.specs.Inner.Taking.{keptOf, pointCount, addedBy, countedOf}
 use Rattle.collector.specs.declared.Record.{Record}
 use Rattle.collector.specs.declared.Last.the-variants.{Counter}
 use Rattle.collector.specs.declared.Answer.the-variants.{Taken}
@@ -114,11 +114,11 @@ module _ (r : Record) (hold out : List ℕ) (counter : ℕ) (start : Bool) (h bs
       added-by e n start (λ k. countOf (done k) (S .marks))
       (sym (points-payload start h bs some) ∙ sym (zero-add _) ∙ sym (b .counts (done pointer) refl))
       (x .bytes ∙ sym (delivered-in plain (h ++ bs) s (kept-payload start h bs)) ∙ sym (zero-add _) ∙ sym (b .counts (done delivered) refl))
-      (ap (λ (z : ℕ). n + z) (x .counts broken refl refl) ∙ sym (b .counts (done broken) refl))
-      (λ k p d o. x .counts k p d
+      (ap (λ (z : ℕ). n + z) (x .counts breaking) ∙ sym (b .counts (done broken) refl))
+      (λ rest o. x .counts rest
       ∙ sym (zero-add _)
-      ∙ ap (λ (t : Bool). (if t then n else 0) + countOf (done k) (s .marks)) (sym o)
-      ∙ sym (b .counts (done k) refl))
+      ∙ ap (λ (t : Bool). (if t then n else 0) + countOf (done (kindOf rest)) (s .marks)) (sym o)
+      ∙ sym (b .counts (done (kindOf rest)) refl))
 
   taken-to : Ends s hold out 0 hold′ out′ e → (n : ℕ) (S : Story ℕ) → Beside plain (lost n) [] s S → (r′ : Record)
       → r′ ≡ countedOf r counter e n start

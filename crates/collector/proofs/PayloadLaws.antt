@@ -12,12 +12,12 @@ use Rattle.wire.specs.If.{if_then_else_}
 use Rattle.wire.specs.Each.{Each}
 use Rattle.wire.proofs.EachLaws.{each-of}
 use Rattle.copy.specs.Laid.{over}
-use Rattle.collector.specs.Rules.{Kind, delivered, Fate, pointer, broken, done, in-hand, Story, sameFate, bytesOf, countOf, handOf, marked, given, brokenOff, holding, joined, plain, goesOn, sectionsIn, started, payload, delivers}
+use Rattle.collector.specs.Rules.{Kind, delivered, Fate, pointer, broken, done, in-hand, Story, sameFate, bytesOf, countOf, handOf, marked, given, brokenOff, holding, kindOf, joined, plain, goesOn, sectionsIn, started, payload, delivers}
 use Rattle.collector.specs.Inner.Stretch.{gainOf, Ends, Small, bothOf}
 use Rattle.collector.specs.Inner.Payload.{Fit, frontOf}
 use Rattle.collector.specs.declared.stretch.Gain.{Gain}
 use Rattle.collector.specs.declared.payload.Front.{Front}
-use Rattle.collector.proofs.Counters.{gain-with, one-of, small-by}
+use Rattle.collector.proofs.Counters.{one-of, rest-apart, gain-with, small-by}
 use Rattle.collector.proofs.MarkLaws.{flatten-append, bytesOf-more, settled-hand}
 use Rattle.collector.proofs.SectionLoop.{ends-as}
 use Rattle.collector.proofs.Simulation.{Beside, beside-broken, beside-goes, beside-sections}
@@ -58,7 +58,7 @@ small-of l s k w e =
     let f = few-in delivers plain l s k in
     let at-most : (j : Kind) → countOf (done j) (s .marks) ≤ 5000 = λ j. omega (arith, one-of (λ g. countOf g (s .marks)) j, sum) in
     small-by _ (omega (arith, e .sections, at-most delivered)) (omega (arith, e .bytes, at-most delivered))
-    (λ j p q. omega (arith, e .counts j p q, at-most j))
+    (λ rest. omega (arith, e .counts rest, at-most (kindOf rest)))
 
 -- ---- the stretch that goes to the section in hand
 
@@ -179,10 +179,10 @@ module _ (p : ℕ) (h l l₂ : List ℕ) where
               length-append (front h l .sections) (back l₂ .sections),
             );
         bytes = omega (arith, x .bytes, y .bytes, long);
-        counts = λ k q d.
-            let apart : one p (done k) ≡ 0 = ap (λ (t : Bool). length (if t then p ∷ [] else [])) q in
-            gain-with (b .in_hand) (a .sections + b .sections) (a .bytes + b .bytes) (λ j. gainOf a j + gainOf b j) k q d
-            ∙ omega (arith, x .counts k q d, y .counts k q d, count-both (done k) refl, apart);
+        counts = λ rest.
+            let apart : one p (done (kindOf rest)) ≡ 0 = ap (λ (t : Bool). length (if t then p ∷ [] else [])) (rest-apart rest .0) in
+            gain-with (b .in_hand) (a .sections + b .sections) (a .bytes + b .bytes) (λ r. gainOf a r + gainOf b r) rest
+            ∙ omega (arith, x .counts rest, y .counts rest, count-both (done (kindOf rest)) refl, apart);
         the-hold = y .the-hold ∙ ap (λ (z : List ℕ). over (handOf (back l₂)) z) kept ∙ ap (λ (z : List ℕ). over z hold) (sym hand);
         the-out =
             y .the-out

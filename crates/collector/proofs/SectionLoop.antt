@@ -13,12 +13,12 @@ use Rattle.wire.specs.If.{if_then_else_}
 use Rattle.wire.specs.Sections.{totalOf}
 use Rattle.copy.specs.Laid.{over, laid}
 use Rattle.copy.proofs.LaidLaws.{laid-none, laid-more}
-use Rattle.collector.specs.Rules.{Fate, delivered, broken, filler, done, in-hand, Mark, Story, sameFate, bytesOf, handOf, marked, given, settled, brokenOff, finished, holding, begin, inside, outside, filling, Next, begun, plain, stretch, sectionsIn, delivers}
+use Rattle.collector.specs.Rules.{Fate, delivered, broken, filler, done, in-hand, Mark, Story, sameFate, bytesOf, handOf, marked, given, settled, brokenOff, finished, holding, begin, inside, outside, filling, kindOf, Next, begun, plain, stretch, sectionsIn, delivers}
 use Rattle.collector.specs.Inner.Stretch.{LookSays, gainWith, Ends}
 use Rattle.collector.specs.declared.stretch.Look.{Look}
 use Rattle.collector.specs.declared.stretch.Look.the-variants.{Going, Over, Whole}
 use Rattle.collector.specs.declared.stretch.Gain.{Gain}
-use Rattle.collector.proofs.Counters.{gain-with}
+use Rattle.collector.proofs.Counters.{gain-with, rest-apart}
 use Rattle.collector.proofs.MarkLaws.{flatten-snoc, bytesOf-more, bytesOf-marked, marked-append, settled-append, settled-marked}
 use Rattle.collector.proofs.ByteRuns.{place, all, all-none, hand-all, pass, grow-short, grow-going, law-over, law-whole}
 
@@ -72,7 +72,7 @@ rest-of f g secs l e =
 -- the answer where m bytes have the fate g, behind so many sections with so many bytes
 abbrev pub answerOf : Fate → ℕ → ℕ → ℕ → Gain
 answerOf g sections bytes m =
-    gainWith (if sameFate in-hand g then m else 0) sections bytes (λ k. if sameFate (done k) g then m else 0)
+    gainWith (if sameFate in-hand g then m else 0) sections bytes (λ rest. if sameFate (done (kindOf rest)) g then m else 0)
 
 if-long : (t : Bool) (l : List ℕ) (m : ℕ) → m ≡ length l → (if t then m else 0) ≡ length (if t then l else [])
 if-long true l m e = e
@@ -86,10 +86,10 @@ ends-made g secs l hold out at hold′ out′ n b m number bytes long eh eo = re
   in-hand = if-long (sameFate in-hand g) l m long ∙ ap length (sym (rest-of in-hand g secs l refl));
   sections = number;
   bytes = bytes;
-  counts = λ k p d.
-      gain-with (if sameFate in-hand g then m else 0) n b (λ j. if sameFate (done j) g then m else 0) k p d
-      ∙ if-long (sameFate (done k) g) l m long
-      ∙ ap length (sym (rest-of (done k) g secs l d));
+  counts = λ rest.
+      gain-with (if sameFate in-hand g then m else 0) n b (λ r. if sameFate (done (kindOf r)) g then m else 0) rest
+      ∙ if-long (sameFate (done (kindOf rest)) g) l m long
+      ∙ ap length (sym (rest-of (done (kindOf rest)) g secs l (rest-apart rest .1)));
   the-hold = eh ∙ ap (λ (x : List ℕ). over x hold) (sym (rest-of in-hand g secs l refl));
   the-out = eo;
 }

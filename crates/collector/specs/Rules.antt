@@ -18,6 +18,14 @@ pub data Kind : Type 0 where
   filler : Kind
   skipped : Kind
 
+-- kind by kind: there is no other
+abbrev pub byKind : (P : Kind → Type 0) → P pointer → P delivered → P broken → P filler → P skipped → (k : Kind) → P k
+byKind P p d b f s pointer = p
+byKind P p d b f s delivered = d
+byKind P p d b f s broken = b
+byKind P p d b f s filler = f
+byKind P p d b f s skipped = s
+
 pub data Fate : Type 0 where
   in-hand : Fate
   done : Kind → Fate

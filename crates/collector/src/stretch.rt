@@ -16,14 +16,15 @@ pub enum Look {
     Whole(usize),
 }
 
-// What came of a stretch: the bytes in hand after it, the finished sections' number and bytes, and the bytes of three fates.
+// What came of a stretch: the bytes in hand after it, the finished sections' number and bytes, and the other bytes by how
+// the stretch's rest went.
 pub struct Gain {
     pub in_hand: usize,
     pub sections: usize,
     pub bytes: usize,
-    pub broken: usize,
-    pub filler: usize,
-    pub skipped: usize,
+    pub breaking: usize,
+    pub filling: usize,
+    pub skipping: usize,
 }
 
 // One stretch after another.
@@ -35,9 +36,9 @@ pub fn both(a: Gain, b: Gain) -> Gain
         in_hand: b.in_hand,
         sections: a.sections + b.sections,
         bytes: a.bytes + b.bytes,
-        broken: a.broken + b.broken,
-        filler: a.filler + b.filler,
-        skipped: a.skipped + b.skipped,
+        breaking: a.breaking + b.breaking,
+        filling: a.filling + b.filling,
+        skipping: a.skipping + b.skipping,
     }
 }
 
@@ -97,9 +98,9 @@ pub fn sections(packet: &[u8], from: usize, hold: &mut [u8], out: &mut [u8], at:
                 in_hand: 0,
                 sections: n,
                 bytes: o - at,
-                broken: 0,
-                filler: left,
-                skipped: 0,
+                breaking: 0,
+                filling: left,
+                skipping: 0,
             };
         }
         let look = looked(packet, 0, packet, i, left);
@@ -110,9 +111,9 @@ pub fn sections(packet: &[u8], from: usize, hold: &mut [u8], out: &mut [u8], at:
                     in_hand: left,
                     sections: n,
                     bytes: o - at,
-                    broken: 0,
-                    filler: 0,
-                    skipped: 0,
+                    breaking: 0,
+                    filling: 0,
+                    skipping: 0,
                 };
             }
             Look::Over => {
@@ -120,9 +121,9 @@ pub fn sections(packet: &[u8], from: usize, hold: &mut [u8], out: &mut [u8], at:
                     in_hand: 0,
                     sections: n,
                     bytes: o - at,
-                    broken: left,
-                    filler: 0,
-                    skipped: 0,
+                    breaking: left,
+                    filling: 0,
+                    skipping: 0,
                 };
             }
             Look::Whole(t) => {
@@ -137,15 +138,15 @@ pub fn sections(packet: &[u8], from: usize, hold: &mut [u8], out: &mut [u8], at:
         in_hand: 0,
         sections: n,
         bytes: o - at,
-        broken: 0,
-        filler: 0,
-        skipped: 0,
+        breaking: 0,
+        filling: 0,
+        skipping: 0,
     }
 }
 
-// "bytes go to the section in hand; after its end, filler. Nothing in hand: skipped." The m bytes are
-// packet[from..from+m], n are in hand, and keep says whether a section that is still unfinished stays in hand. The hold
-// is written only where its bytes stay in hand.
+// "bytes go to the section in hand; after its end, filler"; with nothing in hand there is no section for them. The m bytes
+// are packet[from..from+m], n are in hand, and keep says whether a section that is still unfinished stays in hand. The
+// hold is written only where its bytes stay in hand.
 pub fn go_on(
     hold: &mut [u8],
     n: usize,
@@ -166,13 +167,13 @@ pub fn go_on(
         in_hand: 0,
         sections: 0,
         bytes: 0,
-        broken: 0,
-        filler: 0,
-        skipped: 0,
+        breaking: 0,
+        filling: 0,
+        skipping: 0,
     };
     if n == 0 {
         let mut r = none;
-        r.skipped = m;
+        r.skipping = m;
         return r;
     }
     let look = looked(hold, n, packet, from, m);
@@ -184,12 +185,12 @@ pub fn go_on(
                 r.in_hand = n + m;
                 return r;
             }
-            r.broken = n + m;
+            r.breaking = n + m;
             r
         }
         Look::Over => {
             let mut r = none;
-            r.broken = n + m;
+            r.breaking = n + m;
             r
         }
         Look::Whole(t) => {
@@ -198,7 +199,7 @@ pub fn go_on(
             let mut r = none;
             r.sections = 1;
             r.bytes = t;
-            r.filler = m - (t - n);
+            r.filling = m - (t - n);
             r
         }
     }

@@ -13,9 +13,9 @@ ghost use Rattle.collector.specs.Rules.{holding, joined, plain, payload,
 ghost use Rattle.collector.specs.Refusals.{lastBefore, beforeOf};
 ghost use Rattle.collector.specs.Answer.{came};
 ghost use Rattle.collector.specs.Collected.{outcomeAfter, outcomeOf};
-ghost use Rattle.collector.specs.Inner.Stretch.{Small, pointCount};
+ghost use Rattle.collector.specs.Inner.Stretch.{Small};
 ghost use Rattle.collector.specs.Inner.Payload.{Fit};
-ghost use Rattle.collector.specs.Inner.Taking.{keptOf, countedOf};
+ghost use Rattle.collector.specs.Inner.Taking.{keptOf, pointCount, countedOf};
 
 // "a counter equal to the last"
 fn is_repeat(last: Last, counter: u8) -> bool
@@ -50,9 +50,9 @@ fn counted(rec: Record, counter: u8, e: Gain, broken: usize, start: bool) -> Rec
 {
     let point = point_count(start);
     let bytes = e.bytes as u32;
-    let lost = (broken + e.broken) as u32;
-    let filler = e.filler as u32;
-    let skipped = e.skipped as u32;
+    let lost = (broken + e.breaking) as u32;
+    let filler = e.filling as u32;
+    let skipped = e.skipping as u32;
     Record {
         pid: rec.pid,
         last: Last::Counter(counter),

@@ -1,7 +1,9 @@
 -- `collector::taking::counted` meets its contract.
-use mathlib.Core.Path.{refl, ap, _∙_}
+use mathlib.Core.Path.{_≡_, refl, ap, _∙_}
 use Prim.Native.Nat.{ℕ, _+_, _%_, _^_}
 use borrow.Author.Needs.{needs}
+use Rattle.collector.specs.Rules.{byKind, done}
+use Rattle.collector.specs.Collected.{bytesCounted}
 use Rattle.collector.proofs.Counters.{same-record}
 use Rattle.collector.proofs.taking.counted.Statement.{statement}
 use Rattle.collector.proofs.taking.counted.Tie as tie
@@ -45,9 +47,10 @@ returns c =
     let point = after-struct-known2 .before .before in
     let a = point .before .args in
     same-record _ _ refl refl refl
+    (byKind (λ j. bytesCounted (done j) _ ≡ bytesCounted (done j) _)
     (k .wrapping-add-u32 .ensures ∙ ap (λ (n : ℕ). (a .rec .pointer + n) % 2 ^ 32) (point .point-count .ensures))
     (after-wrapping-add-u322 .wrapping-add-u322 .ensures) (wrapping-add-u323 .ensures)
-    (c .before .wrapping-add-u324 .ensures) (c .wrapping-add-u325 .ensures)
+    (c .before .wrapping-add-u324 .ensures) (c .wrapping-add-u325 .ensures))
 
 pub counted-spec : {M : Type 1} → statement M
 counted-spec =
