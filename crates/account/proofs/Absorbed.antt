@@ -12,21 +12,21 @@ use borrow.Author.Tests.{leb-true, leb-false, le-leb, lt-leb, lt-ltb, le-ltb, lt
 use Rattle.wire.specs.If.{if_then_else_}
 use Rattle.wire.proofs.IfLaws.{if-case, true-not-false}
 use Rattle.account.specs.Entered.{firstPid, freshAccount, Kept, keptAs, entered, enteredAll, pieces}
-use Rattle.account.specs.Heard.{State, stateAs, startPlace, accountFor, toFront, waits, absorbed, finished, Fits, brought, heardAs, endedBy, endedOf}
+use Rattle.account.specs.Heard.{State, stateAs, startProgress, accountFor, toFront, waits, absorbed, finished, Fits, brought, heardAs, endedBy, endedOf}
 use Rattle.account.specs.Input.{Heard, none-yet, one-more, lastRead, OverAtTheEnd, accountOf, restOf, wholeAccount, endOf}
-use Rattle.account.specs.declared.place.Place.{Place}
-use Rattle.account.specs.declared.place.Stage.{Stage}
-use Rattle.account.specs.declared.place.Stage.the-variants.{Reading, Over}
-use Rattle.account.specs.declared.place.Stage.the-variants as Stage
-use Rattle.account.specs.declared.place.Ended.the-variants.{NoPackets}
-use Rattle.account.specs.declared.place.Ended.the-variants as Ended
+use Rattle.account.specs.declared.progress.Progress.{Progress}
+use Rattle.account.specs.declared.progress.Stage.{Stage}
+use Rattle.account.specs.declared.progress.Stage.the-variants.{Reading, Over}
+use Rattle.account.specs.declared.progress.Stage.the-variants as Stage
+use Rattle.account.specs.declared.progress.Ended.the-variants.{NoPackets}
+use Rattle.account.specs.declared.progress.Ended.the-variants as Ended
 use Rattle.account.specs.declared.reading.Got.{Got}
 use Rattle.account.specs.declared.reading.Got.the-variants.{Bytes, Again, End, Failed}
 use Rattle.account.proofs.Cuts.{pieces-front, pid-front, rest-more, account-more, account-none}
 use Rattle.account.proofs.Stands.{entering}
 
 -- so far this input has come: its whole packets are entered, and what is left of it stands at the buffer's front
-record Reads (input hold₀ out₀ : List ℕ) (p : Place) (buf hold out : List ℕ) : Type 0 where
+record Reads (input hold₀ out₀ : List ℕ) (p : Progress) (buf hold out : List ℕ) : Type 0 where
   begun : p .begun ≡ leb 188 (length input)
   left : p .left ≡ length input % 188
   rest : take (p .left) buf ≡ drop (length input - p .left) input
@@ -61,7 +61,7 @@ front-moved from n buf k =
     length-take-le n (drop from buf) (omega (arith, length-drop from buf)) in
     take-append-le n (take n (drop from buf)) (drop n buf) (omega arith) ∙ take-take n n (drop from buf) (omega arith)
 
-module _ {input hold₀ out₀ : List ℕ} {p : Place} {buf hold out : List ℕ}
+module _ {input hold₀ out₀ : List ℕ} {p : Progress} {buf hold out : List ℕ}
     (x : Reads input hold₀ out₀ p buf hold out) where
   -- ---- begun, or not
 
@@ -145,7 +145,7 @@ module _ {input hold₀ out₀ : List ℕ} {p : Place} {buf hold out : List ℕ}
         (pieces (size i / 188) (input ++ new)))
 
     abbrev ReadsAt : State → Type 0
-    ReadsAt s = Reads (input ++ new) hold₀ out₀ (s .place) (s .buf) (s .hold) (s .out)
+    ReadsAt s = Reads (input ++ new) hold₀ out₀ (s .progress) (s .buf) (s .hold) (s .out)
 
     reads-long : 188 ≤ n → ReadsAt (entering n (stateAs p buf hold out))
     reads-long k =
@@ -254,11 +254,11 @@ module _ {input hold₀ out₀ : List ℕ} {p : Place} {buf hold out : List ℕ}
       (restOf input) .account)
       (sym w ∙ ap (λ (n : ℕ). eqb n 0) (x .left))
 
-  ends : endedOf (finished (stateAs p buf hold out) .place) ≡ endOf input hold₀ out₀
+  ends : endedOf (finished (stateAs p buf hold out) .progress) ≡ endOf input hold₀ out₀
   ends = by (p .begun) (eqb (p .left) 0) refl refl
     where
       by : (t u : Bool) → p .begun ≡ t → eqb (p .left) 0 ≡ u
-          → endedOf (finished (stateAs p buf hold out) .place) ≡ endOf input hold₀ out₀
+          → endedOf (finished (stateAs p buf hold out) .progress) ≡ endOf input hold₀ out₀
       by true true e w = (λ i. endedBy Over (e i) ((if e i then (if w i then same else piece) else same) .account))
           ∙ ap Ended.Account (ends-whole e w)
           ∙ ends-as e
@@ -269,7 +269,7 @@ module _ {input hold₀ out₀ : List ℕ} {p : Place} {buf hold out : List ℕ}
           ∙ ends-none e
 
 -- before the first read
-reads-none : (hold out buf : List ℕ) → Reads [] hold out startPlace buf hold out
+reads-none : (hold out buf : List ℕ) → Reads [] hold out startProgress buf hold out
 reads-none hold out buf = record {
   begun = refl;
   left = refl;
@@ -290,24 +290,24 @@ not-stage : {s : Stage} (k : Stage) → (stageNumber s ≡ stageNumber k → ⊥
 not-stage k f e = f (ap stageNumber e)
 
 -- while reading goes on, it stands in the input that has come; when it is over, it comes to what that input comes to
-record Told (hold₀ out₀ input : List ℕ) (s : State) : Type 0 where
-  going : s .place .stage ≡ Reading → Reads input hold₀ out₀ (s .place) (s .buf) (s .hold) (s .out)
-  over : s .place .stage ≡ Over → endedOf (s .place) ≡ endOf input hold₀ out₀
+record GoingOrOver (hold₀ out₀ input : List ℕ) (s : State) : Type 0 where
+  going : s .progress .stage ≡ Reading → Reads input hold₀ out₀ (s .progress) (s .buf) (s .hold) (s .out)
+  over : s .progress .stage ≡ Over → endedOf (s .progress) ≡ endOf input hold₀ out₀
 
 -- no byte came
-told-none : {hold₀ out₀ : List ℕ} {s : State} (input : List ℕ) → Told hold₀ out₀ input s
-    → Told hold₀ out₀ (input ++ []) s
-told-none {hold₀} {out₀} {s} input x = subst (λ (l : List ℕ). Told hold₀ out₀ l s) (sym (append-nil input)) x
+with-no-byte : {hold₀ out₀ : List ℕ} {s : State} (input : List ℕ) → GoingOrOver hold₀ out₀ input s
+    → GoingOrOver hold₀ out₀ (input ++ []) s
+with-no-byte {hold₀} {out₀} {s} input x = subst (λ (l : List ℕ). GoingOrOver hold₀ out₀ l s) (sym (append-nil input)) x
 
-told-after : {input hold₀ out₀ : List ℕ} {p : Place} {buf hold out : List ℕ} → p .stage ≡ Reading
+after-a-read : {input hold₀ out₀ : List ℕ} {p : Progress} {buf hold out : List ℕ} → p .stage ≡ Reading
     → Reads input hold₀ out₀ p buf hold out
     → (got : Got) → Fits (p .left) got (length buf)
-    → Told hold₀ out₀ (input ++ brought (p .left) buf got) (heardAs got (stateAs p buf hold out))
-told-after {input} {hold₀} {out₀} {p} {buf} {hold} {out} w x (Bytes n) k =
+    → GoingOrOver hold₀ out₀ (input ++ brought (p .left) buf got) (heardAs got (stateAs p buf hold out))
+after-a-read {input} {hold₀} {out₀} {p} {buf} {hold} {out} w x (Bytes n) k =
     let m : ℕ = p .left + n in
     let s : State = stateAs p buf hold out in
-    subst (λ (l : List ℕ). Told hold₀ out₀ (input ++ l) (heardAs (Bytes n) s)) (drop-take (p .left) n buf (omega arith))
-    (if-case (Told hold₀ out₀ (input ++ drop (p .left) (take m buf))) (ltb m 188) {x = waits m s} {y = entering m s}
+    subst (λ (l : List ℕ). GoingOrOver hold₀ out₀ (input ++ l) (heardAs (Bytes n) s)) (drop-take (p .left) n buf (omega arith))
+    (if-case (GoingOrOver hold₀ out₀ (input ++ drop (p .left) (take m buf))) (ltb m 188) {x = waits m s} {y = entering m s}
     (λ e.
     record {
       going = λ _. reads-short x m (omega arith) k (ltb-true _ _ e);
@@ -318,53 +318,53 @@ told-after {input} {hold₀} {out₀} {p} {buf} {hold} {out} w x (Bytes n) k =
       going = λ _. reads-long x m (omega arith) k (ltb-false _ _ e);
       over = λ z. absurd (not-stage Over (λ y. omega arith) z);
     }))
-told-after {input} w x Again k =
-    told-none input (record { going = λ _. x; over = λ z. absurd (not-stage Over (λ y. omega arith) (sym w ∙ z)) })
-told-after {input} w x End k =
-    told-none input (record { going = λ z. absurd (not-stage Reading (λ y. omega arith) z); over = λ _. ends x })
-told-after {input} w x Failed k =
-    told-none input
+after-a-read {input} w x Again k =
+    with-no-byte input (record { going = λ _. x; over = λ z. absurd (not-stage Over (λ y. omega arith) (sym w ∙ z)) })
+after-a-read {input} w x End k =
+    with-no-byte input (record { going = λ z. absurd (not-stage Reading (λ y. omega arith) z); over = λ _. ends x })
+after-a-read {input} w x Failed k =
+    with-no-byte input
     (record {
       going = λ z. absurd (not-stage Reading (λ y. omega arith) z);
       over = λ z. absurd (not-stage Over (λ y. omega arith) z);
     })
 
-told : {hold₀ out₀ input : List ℕ} {reads : ℕ} {s : State} → Heard hold₀ out₀ input reads s → Told hold₀ out₀ input s
-told (none-yet {buf = buf} k h o) = record {
+going-or-over : {hold₀ out₀ input : List ℕ} {reads : ℕ} {s : State} → Heard hold₀ out₀ input reads s → GoingOrOver hold₀ out₀ input s
+going-or-over (none-yet {buf = buf} k h o) = record {
   going = λ _. reads-none _ _ buf;
   over = λ z. absurd (not-stage Over (λ y. omega arith) z);
 }
-told (one-more x w buf got l b) =
-    told-after w (reads-again (told x .going w) buf (b .kept)) got (subst (Fits _ got) (sym l) (b .fits))
+going-or-over (one-more x w buf got l b) =
+    after-a-read w (reads-again (going-or-over x .going w) buf (b .kept)) got (subst (Fits _ got) (sym l) (b .fits))
 
 -- whatever the reads brought, and however it was cut: reading comes to what the input comes to
 pub reads-end : {hold₀ out₀ input : List ℕ} {reads : ℕ} {s : State} → Heard hold₀ out₀ input reads s
-    → s .place .stage ≡ Over → endedOf (s .place) ≡ endOf input hold₀ out₀
-reads-end x e = told x .over e
+    → s .progress .stage ≡ Over → endedOf (s .progress) ≡ endOf input hold₀ out₀
+reads-end x e = going-or-over x .over e
 
 -- ---- why it is over
 
 absorbs-on : (n : ℕ) (s : State) (k : Stage) → (stageNumber Reading ≡ stageNumber k → ⊥)
-    → absorbed n s .place .stage ≡ k → ⊥
+    → absorbed n s .progress .stage ≡ k → ⊥
 absorbs-on n s k f =
-    if-case (λ (z : State). z .place .stage ≡ k → ⊥) (ltb n 188) {x = waits n s} {y = entering n s} (λ _. not-stage k f)
+    if-case (λ (z : State). z .progress .stage ≡ k → ⊥) (ltb n 188) {x = waits n s} {y = entering n s} (λ _. not-stage k f)
     (λ _. not-stage k f)
 
-over-by : (got : Got) (s : State) → s .place .stage ≡ Reading → heardAs got s .place .stage ≡ Over → got ≡ End
-over-by (Bytes n) s w e = absurd (absorbs-on (s .place .left + n) s Over (λ y. omega arith) e)
+over-by : (got : Got) (s : State) → s .progress .stage ≡ Reading → heardAs got s .progress .stage ≡ Over → got ≡ End
+over-by (Bytes n) s w e = absurd (absorbs-on (s .progress .left + n) s Over (λ y. omega arith) e)
 over-by Again s w e = absurd (not-stage Over (λ y. omega arith) (sym w ∙ e))
 over-by End s w e = refl
 over-by Failed s w e = absurd (not-stage Over (λ y. omega arith) e)
 
-failed-by : (got : Got) (s : State) → s .place .stage ≡ Reading → heardAs got s .place .stage ≡ Stage.Failed
+failed-by : (got : Got) (s : State) → s .progress .stage ≡ Reading → heardAs got s .progress .stage ≡ Stage.Failed
     → got ≡ Failed
-failed-by (Bytes n) s w e = absurd (absorbs-on (s .place .left + n) s Stage.Failed (λ y. omega arith) e)
+failed-by (Bytes n) s w e = absurd (absorbs-on (s .progress .left + n) s Stage.Failed (λ y. omega arith) e)
 failed-by Again s w e = absurd (not-stage Stage.Failed (λ y. omega arith) (sym w ∙ e))
 failed-by End s w e = absurd (not-stage Stage.Failed (λ y. omega arith) e)
 failed-by Failed s w e = refl
 
 ends-heard : {hold₀ out₀ input : List ℕ} {reads : ℕ} {s : State} (x : Heard hold₀ out₀ input reads s)
-    → (s .place .stage ≡ Over → lastRead x ≡ some End) × (s .place .stage ≡ Stage.Failed → lastRead x ≡ some Failed)
+    → (s .progress .stage ≡ Over → lastRead x ≡ some End) × (s .progress .stage ≡ Stage.Failed → lastRead x ≡ some Failed)
 ends-heard (none-yet k h o) = (
   λ e. absurd (not-stage Over (λ y. omega arith) e),
   λ e. absurd (not-stage Stage.Failed (λ y. omega arith) e),
@@ -373,5 +373,5 @@ ends-heard (one-more x w buf got l b) = (λ e. ap some (over-by got _ w e), λ e
 
 pub over-at-the-end : OverAtTheEnd
 over-at-the-end hold₀ out₀ p x =
-    let stage = ap (λ (q : Place). q .stage) (x .place-is) in
+    let stage = ap (λ (q : Progress). q .stage) (x .progress-is) in
     (λ e. ends-heard (x .heard) .0 (stage ∙ e), λ e. ends-heard (x .heard) .1 (stage ∙ e))

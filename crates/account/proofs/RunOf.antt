@@ -15,7 +15,7 @@ use Rattle.collector.specs.Rules.{holding, plain, storyAfter, delivers}
 use Rattle.packet.specs.Refusals.{_when_, refusals, firstOf, judgedBy, judged}
 use Rattle.collector.specs.Refusals.{cannotStand, beforeOf, tooSmall}
 use Rattle.packet.specs.Ruling as Ruled
-use Rattle.collector.specs.Answer.{Told, refused, repeated, taken, Outcome}
+use Rattle.collector.specs.Answer.{Reply, refusedWith, repeated, taken, Outcome}
 use Rattle.collector.specs.Collected.{outcomeOf, collected, deliveredOf}
 use Rattle.collector.specs.declared.Record.{Record}
 use Rattle.history.specs.Run.{Promised, Call, Run, no-call, one-call, Fare, fareOf, ruledFare, lentOf, beforeAfter, ruledIn, rulingOn, faresFrom, ruledTaken, cut, handedBy, handed}
@@ -39,8 +39,8 @@ pub packets-are : (k : Kept) (ps : List (List ℕ)) → map (λ c. c .packet) (c
 packets-are k [] = refl
 packets-are k (p ∷ ps) = ap (λ (l : List (List ℕ)). p ∷ l) (packets-are (entered k p) ps)
 
-tallied-rec : (a : Account) (r : Record) (said : Told) → tallied a r said .rec ≡ r
-tallied-rec a r (refused n) = refl
+tallied-rec : (a : Account) (r : Record) (said : Reply) → tallied a r said .rec ≡ r
+tallied-rec a r (refusedWith n) = refl
 tallied-rec a r repeated = refl
 tallied-rec a r (taken n b) = refl
 
@@ -57,7 +57,7 @@ runs k (p ∷ ps) =
 
 -- the PID stays
 outcome-pid : (r : Record) (hold out : List ℕ) (z : Ruling) → outcomeOf r hold out z .rec .pid ≡ r .pid
-outcome-pid r hold out (Ruled.refused n) = refl
+outcome-pid r hold out (Ruled.refuses n) = refl
 outcome-pid r hold out Ruled.repeated = refl
 outcome-pid r hold out Ruled.bare = refl
 outcome-pid r hold out (Ruled.takes q) = refl
@@ -73,8 +73,8 @@ pid-stays k (p ∷ ps) =
 
 -- ---- what the account counts
 
-abbrev sectionsBy : Told → ℕ
-sectionsBy (refused n) = 0
+abbrev sectionsBy : Reply → ℕ
+sectionsBy (refusedWith n) = 0
 sectionsBy repeated = 0
 sectionsBy (taken n b) = n
 
@@ -90,10 +90,10 @@ more a n m e = omega arith
 same : (a n : ℕ) → a ≡ n % 2 ^ 64 → a ≡ (n + 0) % 2 ^ 64
 same a n e = omega arith
 
-tally-one : (a : Account) (t r f s : ℕ) → Tally a t r f s → (rec : Record) (said : Told)
+tally-one : (a : Account) (t r f s : ℕ) → Tally a t r f s → (rec : Record) (said : Reply)
     → Tally (tallied a rec said) (t + oneTaken (fareOf said)) (r + oneRepeated (fareOf said))
     (f + oneRefused (fareOf said)) (s + sectionsBy said)
-tally-one a t r f s x rec (refused n) = record {
+tally-one a t r f s x rec (refusedWith n) = record {
   taken-is = same _ t (x .taken-is);
   repeated-is = same _ r (x .repeated-is);
   refused-is = more _ f 1 (x .refused-is);
@@ -117,8 +117,8 @@ length-cut : (n : ℕ) (bs : List ℕ) → length (cut n bs) ≡ n
 length-cut zero bs = refl
 length-cut (suc n) bs = ap suc (length-cut n (drop (totalOf bs) bs))
 
-handed-by : (said : Told) (out : List ℕ) → length (handedBy said out) ≡ sectionsBy said
-handed-by (refused n) out = refl
+handed-by : (said : Reply) (out : List ℕ) → length (handedBy said out) ≡ sectionsBy said
+handed-by (refusedWith n) out = refl
 handed-by repeated out = refl
 handed-by (taken n b) out = length-cut n (take b out)
 
@@ -136,7 +136,7 @@ tally-all k [] t r f s x = record {
   sections-is = same _ s (x .sections-is);
 }
 tally-all k (p ∷ ps) t r f s x =
-    let said : Told = outcome k p .said in
+    let said : Reply = outcome k p .said in
     let ks : List Call = callsFrom (entered k p) ps in
     let y = tally-all (entered k p) ps (t + oneTaken (fareOf said)) (r + oneRepeated (fareOf said))
     (f + oneRefused (fareOf said)) (s + sectionsBy said)
@@ -177,7 +177,7 @@ room-enough pid size before p n k =
 
 -- an out room grows only
 outcome-room : (r : Record) (hold out : List ℕ) (z : Ruling) → length out ≤ length (outcomeOf r hold out z .out)
-outcome-room r hold out (Ruled.refused n) = omega arith
+outcome-room r hold out (Ruled.refuses n) = omega arith
 outcome-room r hold out Ruled.repeated = omega arith
 outcome-room r hold out Ruled.bare = omega arith
 outcome-room r hold out (Ruled.takes q) =

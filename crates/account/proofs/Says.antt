@@ -18,7 +18,7 @@ use Rattle.packet.specs.Refusals.{_when_, refusals, firstOf, judgedBy, judged}
 use Rattle.collector.specs.Collected.{freshRecord}
 use Rattle.collector.proofs.MarkLaws.{flatten-append, flatten-one}
 use Rattle.history.specs.History.{Byte, valueOf, historyOf}
-use Rattle.history.specs.Run.{Promised, Call, Run, Fare, refused, ruledFare, Lent, lentOf, beforeAfter, rulingOn, faresFrom, ruledTaken, handed}
+use Rattle.history.specs.Run.{Promised, Call, Run, Fare, refusedBy, ruledFare, Lent, lentOf, beforeAfter, rulingOn, faresFrom, ruledTaken, handed}
 use Rattle.history.specs.Demand3.{Counted, storyBy, deliveredIn}
 use Rattle.history.proofs.Demand3.{by-packets-alone, counters-are-fates, delivered-in-order}
 use Rattle.account.specs.Entered.{firstPid, freshAccount, Kept, keptAs, entered, enteredAll, pieces}
@@ -26,11 +26,11 @@ use Rattle.account.specs.Heard.{State, endedOf}
 use Rattle.account.specs.Input.{Heard, none-yet, one-more, CameTo, accountOf, restOf, wholeAccount, endOf}
 use Rattle.account.specs.Lines.{packetsOf, Cut, CutAt188, pidIn, lent, faresIn, LastPieceRefused, storyIn, oneTaken, oneRepeated, oneRefused, total, Lines, IsRun, Says}
 use Rattle.account.specs.declared.tally.Account.{Account}
-use Rattle.account.specs.declared.place.Place.{Place}
-use Rattle.account.specs.declared.place.Stage.the-variants.{Over}
-use Rattle.account.specs.declared.place.Ended.{Ended}
-use Rattle.account.specs.declared.place.Ended.the-variants.{NoPackets}
-use Rattle.account.specs.declared.place.Ended.the-variants as Ended
+use Rattle.account.specs.declared.progress.Progress.{Progress}
+use Rattle.account.specs.declared.progress.Stage.the-variants.{Over}
+use Rattle.account.specs.declared.progress.Ended.{Ended}
+use Rattle.account.specs.declared.progress.Ended.the-variants.{NoPackets}
+use Rattle.account.specs.declared.progress.Ended.the-variants as Ended
 use Rattle.account.proofs.Cuts.{entered-append, pid-front}
 use Rattle.account.proofs.Absorbed.{reads-end}
 use Rattle.account.proofs.RunOf.{callsFrom, packets-are, runs, pid-stays, Tally, faresBy, tally-all, fares-are, taken-are}
@@ -86,7 +86,7 @@ cut-at-188 input =
 -- ---- a last piece
 
 short-refused : (pid size : ℕ) (before : Before) (x : Lent) → (length (x .packet) ≡ 188 → ⊥)
-    → ruledFare (rulingOn pid size before x) ≡ refused 41
+    → ruledFare (rulingOn pid size before x) ≡ refusedBy 41
 unfolding judged
 short-refused pid size before x k =
     let p : List ℕ = x .packet in
@@ -98,7 +98,7 @@ short-refused pid size before x k =
     (ne-eqb (length p) 188 k)
 
 fares-short : (pid size : ℕ) (before : Before) (xs : List Lent) (x : Lent) → (length (x .packet) ≡ 188 → ⊥)
-    → faresFrom pid size before (xs ++ x ∷ []) ≡ faresFrom pid size before xs ++ (refused 41 ∷ [])
+    → faresFrom pid size before (xs ++ x ∷ []) ≡ faresFrom pid size before xs ++ (refusedBy 41 ∷ [])
 fares-short pid size before [] x k = ap (λ (f : Fare). f ∷ []) (short-refused pid size before x k)
 fares-short pid size before (y ∷ xs) x k =
     ap (λ (l : List Fare). ruledFare (rulingOn pid size before y) ∷ l)
@@ -227,10 +227,10 @@ end-says input hold out h o =
     (λ e. ltb-true _ _ e) (λ e. whole-says input hold out (ltb-false _ _ e) h o)
 
 -- where reading is over, what the program says is so of the bytes that the reads brought
-pub account-says : (hold₀ out₀ : List ℕ) (p : Place) (x : CameTo hold₀ out₀ p) → p .stage ≡ Over
+pub account-says : (hold₀ out₀ : List ℕ) (p : Progress) (x : CameTo hold₀ out₀ p) → p .stage ≡ Over
     → Says (x .input) (endedOf p)
 account-says hold₀ out₀ p x e =
     let rooms = rooms-are (x .heard) in
     let end : endedOf p ≡ endOf (x .input) hold₀ out₀ =
-    ap endedOf (sym (x .place-is)) ∙ reads-end (x .heard) (ap (λ (q : Place). q .stage) (x .place-is) ∙ e) in
+    ap endedOf (sym (x .progress-is)) ∙ reads-end (x .heard) (ap (λ (q : Progress). q .stage) (x .progress-is) ∙ e) in
     subst (Says (x .input)) (sym end) (end-says (x .input) hold₀ out₀ (rooms .0) (rooms .1))

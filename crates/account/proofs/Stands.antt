@@ -12,8 +12,8 @@ use Rattle.account.specs.Heard.{State, accountFor, waits, moved, absorbe
 use Rattle.account.specs.Input.{Heard, none-yet, one-more}
 use Rattle.account.specs.declared.reading.Got.{Got}
 use Rattle.account.specs.declared.reading.Got.the-variants.{Bytes, Again, End, Failed}
-use Rattle.account.specs.declared.place.Stage.{Stage}
-use Rattle.account.specs.declared.place.Stage.the-variants as Stage
+use Rattle.account.specs.declared.progress.Stage.{Stage}
+use Rattle.account.specs.declared.progress.Stage.the-variants as Stage
 
 pub still-reading : (s : Stage) → isOver s ≡ false → s ≡ Stage.Reading
 still-reading Stage.Reading e = refl
@@ -27,21 +27,21 @@ over-not-reading s e w = true-not-false (sym e ∙ ap isOver w)
 abbrev pub entering : ℕ → State → State
 entering n s =
     moved n (s .buf)
-    (enteredAll (keptAs (accountFor (s .place) (s .buf)) (s .hold) (s .out)) (pieces (n / 188) (s .buf)))
+    (enteredAll (keptAs (accountFor (s .progress) (s .buf)) (s .hold) (s .out)) (pieces (n / 188) (s .buf)))
 
 -- less than a packet is left
-left-absorbed : (n : ℕ) (s : State) → absorbed n s .place .left < 188
+left-absorbed : (n : ℕ) (s : State) → absorbed n s .progress .left < 188
 left-absorbed n s =
-    if-case (λ (z : State). z .place .left < 188) (ltb n 188) {x = waits n s} {y = entering n s} (λ e. ltb-true n 188 e)
+    if-case (λ (z : State). z .progress .left < 188) (ltb n 188) {x = waits n s} {y = entering n s} (λ e. ltb-true n 188 e)
     (λ e. omega arith)
 
-left-after : (g : Got) (s : State) → s .place .left < 188 → heardAs g s .place .left < 188
-left-after (Bytes n) s k = left-absorbed (s .place .left + n) s
+left-after : (g : Got) (s : State) → s .progress .left < 188 → heardAs g s .progress .left < 188
+left-after (Bytes n) s k = left-absorbed (s .progress .left + n) s
 left-after Again s k = k
 left-after End s k = k
 left-after Failed s k = k
 
 pub left-few : {hold₀ out₀ input : List ℕ} {reads : ℕ} {s : State} → Heard hold₀ out₀ input reads s
-    → s .place .left < 188
+    → s .progress .left < 188
 left-few (none-yet k h o) = omega arith
 left-few (one-more x w buf got l b) = left-after got _ (left-few x)

@@ -2,7 +2,7 @@
 use mathlib.Core.List.{List, [], _∷_}
 use Prim.Native.Nat.{ℕ, zero, suc, _+_, _*_, _%_, _^_}
 use lib.ListN.{take, drop, getD}
-use Rattle.collector.specs.Answer.{Told, refused, repeated, taken, Outcome}
+use Rattle.collector.specs.Answer.{Reply, refusedWith, repeated, taken, Outcome}
 use Rattle.collector.specs.Collected.{freshRecord, collected}
 use Rattle.collector.specs.declared.Record.{Record}
 use Rattle.account.specs.declared.tally.Account.{Account}
@@ -26,8 +26,8 @@ abbrev pub keptAs : Account → List ℕ → List ℕ → Kept
 keptAs a hold out = record { account = a; hold = hold; out = out }
 
 -- one packet more, which left the record r and had this answer
-abbrev pub tallied : Account → Record → Told → Account
-tallied a r (refused n) = record { rec = r; taken = a .taken; repeated = a .repeated; refused = (a .refused + 1) % 2 ^ 64; sections = a .sections }
+abbrev pub tallied : Account → Record → Reply → Account
+tallied a r (refusedWith n) = record { rec = r; taken = a .taken; repeated = a .repeated; refused = (a .refused + 1) % 2 ^ 64; sections = a .sections }
 tallied a r repeated = record { rec = r; taken = a .taken; repeated = (a .repeated + 1) % 2 ^ 64; refused = a .refused; sections = a .sections }
 tallied a r (taken sections bytes) = record {
   rec = r;

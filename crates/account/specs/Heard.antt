@@ -1,4 +1,4 @@
--- What one read may come to, and what each outcome makes of all that is kept between reads: the place, the buffer, the
+-- What one read may come to, and what each outcome makes of all that is kept between reads: the progress, the buffer, the
 -- hold and the out room. Which bytes a read brings is the one thing that nothing here fixes.
 use mathlib.Core.Path.{_≡_}
 use mathlib.Core.Bool.{Bool, true, false}
@@ -12,11 +12,11 @@ use Rattle.account.specs.Entered.{firstPid, freshAccount, Kept, keptAs, 
 use Rattle.account.specs.declared.tally.Account.{Account}
 use Rattle.account.specs.declared.reading.Got.{Got}
 use Rattle.account.specs.declared.reading.Got.the-variants.{Bytes, Again, End, Failed}
-use Rattle.account.specs.declared.place.Place.{Place}
-use Rattle.account.specs.declared.place.Stage.{Stage}
-use Rattle.account.specs.declared.place.Stage.the-variants as Stage
-use Rattle.account.specs.declared.place.Ended.{Ended}
-use Rattle.account.specs.declared.place.Ended.the-variants as Ended
+use Rattle.account.specs.declared.progress.Progress.{Progress}
+use Rattle.account.specs.declared.progress.Stage.{Stage}
+use Rattle.account.specs.declared.progress.Stage.the-variants as Stage
+use Rattle.account.specs.declared.progress.Ended.{Ended}
+use Rattle.account.specs.declared.progress.Ended.the-variants as Ended
 
 -- ---- what a read came to
 
@@ -58,23 +58,23 @@ brought left buf got = take (sizeOf got) (drop left buf)
 -- ---- what is kept between reads
 
 pub record State : Type 0 where
-  pub place : Place
+  pub progress : Progress
   pub buf : List ℕ
   pub hold : List ℕ
   pub out : List ℕ
 
-abbrev pub stateAs : Place → List ℕ → List ℕ → List ℕ → State
-stateAs p buf hold out = record { place = p; buf = buf; hold = hold; out = out }
+abbrev pub stateAs : Progress → List ℕ → List ℕ → List ℕ → State
+stateAs p buf hold out = record { progress = p; buf = buf; hold = hold; out = out }
 
-abbrev pub placeAs : Bool → ℕ → Account → Stage → Place
-placeAs begun left a stage = record { begun = begun; left = left; account = a; stage = stage }
+abbrev pub progressAs : Bool → ℕ → Account → Stage → Progress
+progressAs begun left a stage = record { begun = begun; left = left; account = a; stage = stage }
 
 -- before the first read
-abbrev pub startPlace : Place
-startPlace = placeAs false 0 (freshAccount 0) Stage.Reading
+abbrev pub startProgress : Progress
+startProgress = progressAs false 0 (freshAccount 0) Stage.Reading
 
 -- the account so far, or a fresh one for "the PID .. of the first" packet, which stands at the front of the bytes
-abbrev pub accountFor : Place → List ℕ → Account
+abbrev pub accountFor : Progress → List ℕ → Account
 accountFor p bytes = if p .begun then p .account else freshAccount (firstPid bytes)
 
 -- the n bytes from index from on, at the front; the bytes behind those stay
@@ -83,43 +83,43 @@ toFront buf from n = take n (drop from buf) ++ drop n buf
 
 -- less than a packet is there: it stays where it is
 abbrev pub waits : ℕ → State → State
-waits n s = stateAs (placeAs (s .place .begun) n (s .place .account) Stage.Reading) (s .buf) (s .hold) (s .out)
+waits n s = stateAs (progressAs (s .progress .begun) n (s .progress .account) Stage.Reading) (s .buf) (s .hold) (s .out)
 
 -- the whole packets among the first n bytes are entered, and what is left of them stands at the front
 abbrev pub moved : ℕ → List ℕ → Kept → State
 moved n buf k =
-    stateAs (placeAs true (n % 188) (k .account) Stage.Reading) (toFront buf (n - n % 188) (n % 188)) (k .hold) (k .out)
+    stateAs (progressAs true (n % 188) (k .account) Stage.Reading) (toFront buf (n - n % 188) (n % 188)) (k .hold) (k .out)
 
 -- the buffer's first n bytes have come
 abbrev pub absorbed : ℕ → State → State
 absorbed n s =
     if ltb n 188 then waits n s
     else moved n (s .buf)
-    (enteredAll (keptAs (accountFor (s .place) (s .buf)) (s .hold) (s .out)) (pieces (n / 188) (s .buf)))
+    (enteredAll (keptAs (accountFor (s .progress) (s .buf)) (s .hold) (s .out)) (pieces (n / 188) (s .buf)))
 
 -- "A last piece under 188 bytes counts as refused (41)": it is entered too, and the collector refuses it
 abbrev pub withPiece : ℕ → List ℕ → Kept → Kept
 withPiece left buf k = if eqb left 0 then k else entered k (take left buf)
 
-abbrev pub lastPiece : Place → List ℕ → List ℕ → List ℕ → Kept
+abbrev pub lastPiece : Progress → List ℕ → List ℕ → List ℕ → Kept
 lastPiece p buf hold out =
     if p .begun then withPiece (p .left) buf (keptAs (p .account) hold out) else keptAs (p .account) hold out
 
 abbrev pub finishedAs : State → Kept → State
 finishedAs s k =
-    stateAs (placeAs (s .place .begun) (s .place .left) (k .account) Stage.Over) (s .buf) (k .hold) (k .out)
+    stateAs (progressAs (s .progress .begun) (s .progress .left) (k .account) Stage.Over) (s .buf) (k .hold) (k .out)
 
 -- the input is at its end
 abbrev pub finished : State → State
-finished s = finishedAs s (lastPiece (s .place) (s .buf) (s .hold) (s .out))
+finished s = finishedAs s (lastPiece (s .progress) (s .buf) (s .hold) (s .out))
 
 -- each outcome of a read, from the state with the buffer as the read left it
 abbrev pub heardAs : Got → State → State
-heardAs (Bytes n) s = absorbed (s .place .left + n) s
+heardAs (Bytes n) s = absorbed (s .progress .left + n) s
 heardAs Again s = s
 heardAs End s = finished s
 heardAs Failed s =
-    stateAs (placeAs (s .place .begun) (s .place .left) (s .place .account) Stage.Failed) (s .buf) (s .hold) (s .out)
+    stateAs (progressAs (s .progress .begun) (s .progress .left) (s .progress .account) Stage.Failed) (s .buf) (s .hold) (s .out)
 
 -- ---- when it is over
 
@@ -134,5 +134,5 @@ endedBy Stage.Reading begun a = Ended.Failed
 endedBy Stage.Over begun a = if begun then Ended.Account a else Ended.NoPackets
 endedBy Stage.Failed begun a = Ended.Failed
 
-abbrev pub endedOf : Place → Ended
+abbrev pub endedOf : Progress → Ended
 endedOf p = endedBy (p .stage) (p .begun) (p .account)

@@ -7,15 +7,15 @@ use lib.Dec.{ltb, eqb}
 use lib.ListN.{length, drop}
 use Rattle.wire.specs.If.{if_then_else_}
 use Rattle.account.specs.Entered.{firstPid, freshAccount, Kept, keptAs, entered, enteredAll, pieces}
-use Rattle.account.specs.Heard.{Behind, brought, State, stateAs, startPlace, heardAs}
+use Rattle.account.specs.Heard.{Behind, brought, State, stateAs, startProgress, heardAs}
 use Rattle.account.specs.declared.reading.Got.{Got}
 use Rattle.account.specs.declared.reading.Got.the-variants.{End, Failed}
-use Rattle.account.specs.declared.place.Place.{Place}
-use Rattle.account.specs.declared.place.Stage.the-variants.{Reading, Over}
-use Rattle.account.specs.declared.place.Stage.the-variants as Stage
-use Rattle.account.specs.declared.place.Ended.{Ended}
-use Rattle.account.specs.declared.place.Ended.the-variants.{NoPackets}
-use Rattle.account.specs.declared.place.Ended.the-variants as Ended
+use Rattle.account.specs.declared.progress.Progress.{Progress}
+use Rattle.account.specs.declared.progress.Stage.the-variants.{Reading, Over}
+use Rattle.account.specs.declared.progress.Stage.the-variants as Stage
+use Rattle.account.specs.declared.progress.Ended.{Ended}
+use Rattle.account.specs.declared.progress.Ended.the-variants.{NoPackets}
+use Rattle.account.specs.declared.progress.Ended.the-variants as Ended
 use Rattle.account.specs.declared.tally.Account.{Account}
 
 -- From the start, with a buffer of 65,536 bytes and rooms as small as the collector takes them: the bytes that the reads
@@ -23,11 +23,11 @@ use Rattle.account.specs.declared.tally.Account.{Account}
 -- to is heard.
 pub data Heard (hold₀ out₀ : List ℕ) : List ℕ → ℕ → State → Type 0 where
   none-yet : {buf : List ℕ} → length buf ≡ 65536 → length hold₀ ≡ 4096 → length out₀ ≡ 4280
-      → Heard hold₀ out₀ [] 0 (stateAs startPlace buf hold₀ out₀)
-  one-more : {input : List ℕ} {reads : ℕ} {s : State} → Heard hold₀ out₀ input reads s → s .place .stage ≡ Reading
-      → (buf : List ℕ) (got : Got) → length buf ≡ length (s .buf) → Behind (s .place .left) (s .buf) buf got
-      → Heard hold₀ out₀ (input ++ brought (s .place .left) buf got) (suc reads)
-      (heardAs got (stateAs (s .place) buf (s .hold) (s .out)))
+      → Heard hold₀ out₀ [] 0 (stateAs startProgress buf hold₀ out₀)
+  one-more : {input : List ℕ} {reads : ℕ} {s : State} → Heard hold₀ out₀ input reads s → s .progress .stage ≡ Reading
+      → (buf : List ℕ) (got : Got) → length buf ≡ length (s .buf) → Behind (s .progress .left) (s .buf) buf got
+      → Heard hold₀ out₀ (input ++ brought (s .progress .left) buf got) (suc reads)
+      (heardAs got (stateAs (s .progress) buf (s .hold) (s .out)))
 
 -- what the last read came to
 abbrev pub lastRead : {hold₀ out₀ input : List ℕ} {reads : ℕ} {s : State} → Heard hold₀ out₀ input reads s → Option Got
@@ -35,18 +35,18 @@ lastRead (none-yet b h o) = none
 lastRead (one-more x e buf got l b) = some got
 
 -- where reading came to: it goes on only where 2^64 - 1 reads were made
-pub record CameTo (hold₀ out₀ : List ℕ) (p : Place) : Type 0 where
+pub record CameTo (hold₀ out₀ : List ℕ) (p : Progress) : Type 0 where
   pub input : List ℕ
   pub reads : ℕ
   pub state : State
   pub heard : Heard hold₀ out₀ input reads state
-  pub place-is : state .place ≡ p
+  pub progress-is : state .progress ≡ p
   pub all-reads : p .stage ≡ Reading → reads ≡ 2 ^ 64 - 1
 
 -- "Reads packets on standard input": reading is over only where a read met the end of the input, and is said to have
 -- failed only where one failed
 abbrev pub OverAtTheEnd : Type 0
-OverAtTheEnd = (hold₀ out₀ : List ℕ) (p : Place) (x : CameTo hold₀ out₀ p)
+OverAtTheEnd = (hold₀ out₀ : List ℕ) (p : Progress) (x : CameTo hold₀ out₀ p)
     → (p .stage ≡ Over → lastRead (x .heard) ≡ some End) × (p .stage ≡ Stage.Failed → lastRead (x .heard) ≡ some Failed)
 
 -- ---- what an input comes to, however it was cut into reads

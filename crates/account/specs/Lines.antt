@@ -12,12 +12,12 @@ use Rattle.collector.specs.Rules.{Kind, in-hand, done, Story, countOf, delivers
 use Rattle.collector.specs.Collected.{bytesCounted, freshRecord}
 use Rattle.history.specs.History.{Byte, historyOf}
 use Rattle.history.specs.Demand3.{deliveredIn}
-use Rattle.history.specs.Run.{Promised, Call, Run, Fare, refused, repeated, taken, Lent, faresFrom, ruledTaken}
+use Rattle.history.specs.Run.{Promised, Call, Run, Fare, refusedBy, repeated, taken, Lent, faresFrom, ruledTaken}
 use Rattle.account.specs.Entered.{pieces}
 use Rattle.account.specs.Input.{restOf}
 use Rattle.account.specs.declared.tally.Account.{Account}
-use Rattle.account.specs.declared.place.Ended.{Ended}
-use Rattle.account.specs.declared.place.Ended.the-variants as Ended
+use Rattle.account.specs.declared.progress.Ended.{Ended}
+use Rattle.account.specs.declared.progress.Ended.the-variants as Ended
 
 -- the packets of an input in order: each 188 bytes, and "a last piece under 188 bytes"
 abbrev pub packetsOf : List ℕ → List (List ℕ)
@@ -52,7 +52,7 @@ faresIn input = faresFrom (pidIn input) 4096 noneBefore (lentIn input)
 abbrev pub LastPieceRefused : Type 0
 LastPieceRefused = (input : List ℕ) → (length input % 188 ≡ 0 → ⊥)
     → faresIn input
-    ≡ faresFrom (pidIn input) 4096 noneBefore (map lent (pieces (length input / 188) input)) ++ (refused 41 ∷ [])
+    ≡ faresFrom (pidIn input) 4096 noneBefore (map lent (pieces (length input / 188) input)) ++ (refusedBy 41 ∷ [])
 
 -- the fate of every payload byte of the packets taken, and the sections delivered
 abbrev pub storyIn : List ℕ → Story Byte
@@ -61,17 +61,17 @@ storyIn input = historyOf delivers (ruledTaken (pidIn input) 4096 noneBefore (le
 -- ---- counting
 
 abbrev pub oneTaken : Fare → ℕ
-oneTaken (refused n) = 0
+oneTaken (refusedBy n) = 0
 oneTaken repeated = 0
 oneTaken taken = 1
 
 abbrev pub oneRepeated : Fare → ℕ
-oneRepeated (refused n) = 0
+oneRepeated (refusedBy n) = 0
 oneRepeated repeated = 1
 oneRepeated taken = 0
 
 abbrev pub oneRefused : Fare → ℕ
-oneRefused (refused n) = 1
+oneRefused (refusedBy n) = 1
 oneRefused repeated = 0
 oneRefused taken = 0
 

@@ -7,7 +7,7 @@ use lib.Dec.{eqb}
 use borrow.Author.Tests.{eqb-true}
 use Rattle.wire.proofs.IfLaws.{if-case}
 use Rattle.collector.specs.Answer as collector
-use Rattle.packet.specs.Ruling.{Ruling, refused, repeated, bare, takes, ruling}
+use Rattle.packet.specs.Ruling.{Ruling, refuses, repeated, bare, takes, ruling}
 use Rattle.collector.specs.Refusals.{beforeOf, cannotStand, tooSmall}
 use Rattle.collector.specs.Collected.{unaltered, outcomeOf, collected}
 use Rattle.collector.specs.declared.Record as of-collector
@@ -52,7 +52,7 @@ record-kept r =
 unaltered-by : (x : of-collector.Record) (hold out : List ℕ) (ruled : Ruling)
     → (collectSays (outcomeOf x hold out ruled .said) .number ≡ 0 → ⊥)
     → outcomeOf x hold out ruled ≡ unaltered x hold out (outcomeOf x hold out ruled .said)
-unaltered-by x hold out (refused n) h = refl
+unaltered-by x hold out (refuses n) h = refl
 unaltered-by x hold out repeated h = absurd (h refl)
 unaltered-by x hold out bare h = absurd (h refl)
 unaltered-by x hold out (takes q) h = absurd (h refl)

@@ -5,7 +5,7 @@ use mathlib.Core.List.{List, [], _∷_}
 use lib.Dec.{eqb}
 use Rattle.wire.specs.If.{if_then_else_}
 use Rattle.collector.specs.Rules.{Kind, pointer, delivered, broken, filler, skipped, done}
-use Rattle.collector.specs.Answer.{Told, refused, repeated, taken}
+use Rattle.collector.specs.Answer.{Reply, refusedWith, repeated, taken}
 use Rattle.collector.specs.Answer as collector
 use Rattle.collector.specs.Collected.{bytesCounted, recordWith, collected}
 use Rattle.collector.specs.declared.Last.{Last}
@@ -77,8 +77,8 @@ abbrev pub recordSays : of.Record → Record
 recordSays r = recordAfter zeros r
 
 -- a refusal's number; "repeated"; or taken, with the number of sections and of their bytes
-abbrev pub collectSays : Told → CollectAnswer
-collectSays (refused k) = record { number = k; repeated = 0; sections = 0; size = 0 }
+abbrev pub collectSays : Reply → CollectAnswer
+collectSays (refusedWith k) = record { number = k; repeated = 0; sections = 0; size = 0 }
 collectSays repeated = record { number = 0; repeated = 1; sections = 0; size = 0 }
 collectSays (taken n b) = record { number = 0; repeated = 0; sections = n; size = b }
 

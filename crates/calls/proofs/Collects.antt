@@ -11,7 +11,7 @@ use lib.Dec.{eqb}
 use borrow.Author.Tests.{ne-eqb, eqb-true, eqb-false}
 use Rattle.wire.proofs.IfLaws.{if-case}
 use Rattle.packet.specs.Header.{control}
-use Rattle.packet.specs.Ruling.{Before, repeats, Ruling, refused, repeated, takes, ruledBy, ruling}
+use Rattle.packet.specs.Ruling.{Before, repeats, Ruling, refuses, repeated, takes, ruledBy, ruling}
 use Rattle.packet.specs.Refusals.{Judged, refuse, has-payload, judgedBy, judged, firstOf, refusals}
 use Rattle.collector.specs.Refusals.{beforeOf, cannotStand, tooSmall}
 use Rattle.packet.specs.Refusals as Refusals
@@ -24,7 +24,7 @@ use Rattle.collector.specs.declared.Last.the-variants.{None, Counter}
 use Rattle.collector.specs.declared.Record as of
 use Rattle.cabinet.specs.Collect.{lastIn, lastSays, SameName, recordIn, recordAfter, recordSays, collectSays, Outcome, leaves, outcomeSays, collecting}
 use Rattle.cabinet.proofs.Outcomes.{last-kept, record-kept}
-use Rattle.calls.specs.Collects.{LastIs, Stands, Tells, Promised, Kept, KeepsNumbers, Call, Run, no-call, one-call, callSays, Beneath, RunsBeneath}
+use Rattle.calls.specs.Collects.{LastIs, Stands, Tells, tells-refused, tells-repeated, tells-taken, Promised, Kept, KeepsNumbers, Call, Run, no-call, one-call, callSays, Beneath, RunsBeneath}
 use Rattle.cabinet.specs.declared.collect.Record.{Record}
 
 -- ---- a taken packet's counter has four bits
@@ -35,7 +35,7 @@ SmallJudged Refusals.bare = Unit {0}
 SmallJudged (has-payload at start counter) = counter < 16
 
 abbrev Small : Ruling → Type 0
-Small (refused n) = Unit {0}
+Small (refuses n) = Unit {0}
 Small repeated = Unit {0}
 Small Ruled.bare = Unit {0}
 Small (takes q) = q .counter < 16
@@ -58,25 +58,25 @@ small few unfit pid before packet =
 
 -- ---- a record that its numbers tell
 
-abbrev Told : of.Record → Type 0
-Told x = lastIn (lastSays (x .last)) ≡ x .last
+abbrev NumbersTell : of.Record → Type 0
+NumbersTell x = lastIn (lastSays (x .last)) ≡ x .last
 
 told-counter : (n : ℕ) → n < 16 → lastIn n ≡ Counter n
 told-counter n h = rw (ne-eqb n 255 (λ e. omega arith))
 
-told-after : (x : of.Record) (hold out : List ℕ) (ruled : Ruling) → Small ruled → Told x
-    → Told (outcomeOf x hold out ruled .rec)
-told-after x hold out (refused n) s t = t
+told-after : (x : of.Record) (hold out : List ℕ) (ruled : Ruling) → Small ruled → NumbersTell x
+    → NumbersTell (outcomeOf x hold out ruled .rec)
+told-after x hold out (refuses n) s t = t
 told-after x hold out repeated s t = t
 told-after x hold out Ruled.bare s t = t
 told-after x hold out (takes q) s t = told-counter (q .counter) s
 
-told-on : (x : of.Record) (hold out packet : List ℕ) → Told x → Told (collected x hold out packet .rec)
+told-on : (x : of.Record) (hold out packet : List ℕ) → NumbersTell x → NumbersTell (collected x hold out packet .rec)
 told-on x hold out packet t =
     told-after x hold out (ruling (tooSmall (length hold) (length out)) (cannotStand x hold) (x .pid) (beforeOf x) packet)
     (small (tooSmall (length hold) (length out)) (cannotStand x hold) (x .pid) (beforeOf x) packet) t
 
-told-back : (x : of.Record) → Told x → recordIn (recordSays x) ≡ x
+told-back : (x : of.Record) → NumbersTell x → recordIn (recordSays x) ≡ x
 told-back x t =
     ap (λ l. recordWith (x .pid) l (x .in_hand) (λ k. bytesCounted (done k) x)) t
 
@@ -98,10 +98,10 @@ stands r = record {
   counters = byKind (SameName r (recordIn r)) refl refl refl refl refl;
 }
 
-pub collect-tells : (t : collector.Told) → Tells t (collectSays t)
-collect-tells (collector.refused k) = Tells.refused refl refl refl refl
-collect-tells collector.repeated = Tells.repeated refl refl refl refl
-collect-tells (collector.taken n b) = Tells.taken refl refl refl refl
+pub collect-tells : (t : collector.Reply) → Tells t (collectSays t)
+collect-tells (collector.refusedWith k) = tells-refused refl refl refl refl
+collect-tells collector.repeated = tells-repeated refl refl refl refl
+collect-tells (collector.taken n b) = tells-taken refl refl refl refl
 
 -- ---- what stays of the numbers
 
@@ -115,7 +115,7 @@ same-meaning r r′ spare counter e =
     spare-alike = rw (spare, counter)
 
 pid-kept : (x : of.Record) (hold out : List ℕ) (ruled : Ruling) → outcomeOf x hold out ruled .rec .pid ≡ x .pid
-pid-kept x hold out (refused n) = refl
+pid-kept x hold out (refuses n) = refl
 pid-kept x hold out repeated = refl
 pid-kept x hold out Ruled.bare = refl
 pid-kept x hold out (takes q) = refl
@@ -144,7 +144,7 @@ keeps-numbers r hold out packet o is =
 -- ---- a run, call by call
 
 -- one call, in numbers, is that of the collector
-says-on : (x : of.Record) (hold out packet : List ℕ) → Told x
+says-on : (x : of.Record) (hold out packet : List ℕ) → NumbersTell x
     → collecting (recordSays x) hold out packet ≡ outcomeSays (recordSays x) (collected x hold out packet)
 unfolding collecting
 says-on x hold out packet t =
@@ -156,7 +156,7 @@ call-beneath : (r : Record) (o : collector.Outcome) (r₁ : Record) (hold₁ : L
 call-beneath r o r₁ hold₁ k e = rw (ap (λ (z : Outcome). z .hold) e, ap (λ (z : Outcome). z .out) e)
 
 -- the calls before, in numbers, with this one in front
-calls-on : (k : Call) (ks : List Call) (said : collector.Told) (under : List beneath.Call)
+calls-on : (k : Call) (ks : List Call) (said : collector.Reply) (under : List beneath.Call)
     → k .answer ≡ collectSays said → ks ≡ map callSays under
     → k ∷ ks ≡ map callSays (record { packet = k .packet; out = k .out; out′ = k .out′; said = said } ∷ under)
 calls-on k ks said under e is = rw (← is, ← e)
@@ -175,7 +175,7 @@ more ks r r₁ hold₁ k o is e b = record {
   record-stands = b .record-stands;
 }
 
-runs : (x : of.Record) (hold : List ℕ) (calls : List Call) (r r′ : Record) (hold′ : List ℕ) → Told x → r ≡ recordSays x
+runs : (x : of.Record) (hold : List ℕ) (calls : List Call) (r r′ : Record) (hold′ : List ℕ) → NumbersTell x → r ≡ recordSays x
     → Run Promised r hold calls r′ hold′ → Beneath x hold calls r′ hold′
 runs x hold [] r r′ hold′ t is no-call = record {
   under = [];

@@ -7,7 +7,7 @@ use lib.Seq.{take-append-seam}
 use Rattle.wire.specs.Each.{Each}
 use Rattle.wire.specs.Sections.{WholeSection}
 use Rattle.copy.specs.Laid.{over}
-use Rattle.packet.specs.Ruling.{Carried, Ruling, refused, repeated, takes, ruling}
+use Rattle.packet.specs.Ruling.{Carried, Ruling, refuses, repeated, takes, ruling}
 use Rattle.packet.specs.Ruling as Ruled
 use Rattle.collector.specs.Rules.{Story, plain, holding, storyAfter, delivered, delivers}
 use Rattle.collector.specs.Refusals.{beforeOf, cannotStand, tooSmall}
@@ -61,7 +61,7 @@ storyOf r hold q = storyAfter delivers plain (beforeOf r) (holding (take (r .in_
 
 by-ruling : (before : Record) (r : of.Record) (hold out : List ℕ) (z : Ruling)
     → Hands (outcomeSays before (outcomeOf r hold out z))
-by-ruling before r hold out (refused n) = none-out out
+by-ruling before r hold out (refuses n) = none-out out
 by-ruling before r hold out repeated = none-out out
 by-ruling before r hold out Ruled.bare = none-out out
 by-ruling before r hold out (takes q) =

@@ -4,7 +4,7 @@ use mathlib.Core.Path.{_≡_}
 use mathlib.Core.List.{List, [], _∷_, map}
 use Prim.Native.Nat.{ℕ}
 use Rattle.collector.specs.Rules.{Kind}
-use Rattle.collector.specs.Answer.{Told}
+use Rattle.collector.specs.Answer.{Reply}
 use Rattle.collector.specs.Answer as Answer
 use Rattle.collector.specs.Collected.{freshRecord}
 use Rattle.history.specs.Run as beneath
@@ -32,12 +32,12 @@ pub record Stands (r : Record) (x : of.Record) : Type 0 where
 -- the answer tells what is said, and is 0 elsewhere: a refusal's number; "repeated"; or taken, with the number of
 -- sections and of their
 -- bytes
-pub data Tells : Told → CollectAnswer → Type 0 where
-  refused : {k : ℕ} {a : CollectAnswer} → a .number ≡ k → a .repeated ≡ 0 → a .sections ≡ 0 → a .size ≡ 0
-      → Tells (Answer.refused k) a
-  repeated : {a : CollectAnswer} → a .number ≡ 0 → a .repeated ≡ 1 → a .sections ≡ 0 → a .size ≡ 0
+pub data Tells : Reply → CollectAnswer → Type 0 where
+  tells-refused : {k : ℕ} {a : CollectAnswer} → a .number ≡ k → a .repeated ≡ 0 → a .sections ≡ 0 → a .size ≡ 0
+      → Tells (Answer.refusedWith k) a
+  tells-repeated : {a : CollectAnswer} → a .number ≡ 0 → a .repeated ≡ 1 → a .sections ≡ 0 → a .size ≡ 0
       → Tells Answer.repeated a
-  taken : {n b : ℕ} {a : CollectAnswer} → a .number ≡ 0 → a .repeated ≡ 0 → a .sections ≡ n → a .size ≡ b
+  tells-taken : {n b : ℕ} {a : CollectAnswer} → a .number ≡ 0 → a .repeated ≡ 0 → a .sections ≡ n → a .size ≡ b
       → Tells (Answer.taken n b) a
 
 -- ---- calls

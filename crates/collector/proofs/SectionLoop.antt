@@ -171,7 +171,7 @@ module _ (secs : List (List ℕ)) where
 
 -- ---- where the loop stands: the sections of which secs came, up to index i of the packet, are in out up to index o
 
-pub record Turn (packet : List ℕ) (from : ℕ) (hold₀ out₀ : List ℕ) (at : ℕ) (hold out : List ℕ) (i o n : ℕ) : Type 0 where
+pub record Reached (packet : List ℕ) (from : ℕ) (hold₀ out₀ : List ℕ) (at : ℕ) (hold out : List ℕ) (i o n : ℕ) : Type 0 where
   pub secs : List (List ℕ)
   pub inside-packet : i ≤ length packet
   pub few : n ≤ i
@@ -186,7 +186,7 @@ pub record Turn (packet : List ℕ) (from : ℕ) (hold₀ out₀ : List ℕ) (at
 
 -- at the start no section has come
 pub none-yet : (packet : List ℕ) (from : ℕ) (hold out : List ℕ) (at : ℕ) → from ≤ length packet
-    → at + (length packet - from) ≤ length out → Turn packet from hold out at hold out from at 0
+    → at + (length packet - from) ≤ length out → Reached packet from hold out at hold out from at 0
 unfolding flatten
 none-yet packet from hold out at k w =
     record {
@@ -211,7 +211,7 @@ look-here p i r r′ k says e =
     (subst (LookSays (take (length p - i) (drop i p))) e says)
 
 module _ {p : List ℕ} {from : ℕ} {hold₀ out₀ : List ℕ} {at : ℕ} {hold out : List ℕ} {i o n : ℕ}
-    (x : Turn p from hold₀ out₀ at hold out i o n) where
+    (x : Reached p from hold₀ out₀ at hold out i o n) where
   abbrev End : List ℕ → Gain → Type 0
   End hold′ r = Ends (sectionsIn delivers plain (holding []) (drop from p)) hold₀ out₀ at hold′ out r
 
@@ -287,7 +287,7 @@ module _ {p : List ℕ} {from : ℕ} {hold₀ out₀ : List ℕ} {at : ℕ} {hol
         more = flatten-snoc (x .secs) (take t (drop i p))
 
         pub again : at ≤ length out₀ → (out′ : List ℕ) → out′ ≡ paste out o (drop i p) t
-            → Turn p from hold₀ out₀ at hold out′ (i + t) (o + t) (n + 1)
+            → Reached p from hold₀ out₀ at hold out′ (i + t) (o + t) (n + 1)
         again fits out′ w = record {
           secs = x .secs ++ (take t (drop i p) ∷ []);
           inside-packet = omega (arith, whole-in, x .inside-packet);

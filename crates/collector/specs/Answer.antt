@@ -7,13 +7,13 @@ use Rattle.collector.specs.declared.Answer.{Answer}
 use Rattle.collector.specs.declared.Answer.the-variants.{Refused, Repeated, Taken}
 
 -- a refusal has its number; a taken packet the number of finished sections, and their bytes
-pub data Told : Type 0 where
-  refused : ℕ → Told
-  repeated : Told
-  taken : ℕ → ℕ → Told
+pub data Reply : Type 0 where
+  refusedWith : ℕ → Reply
+  repeated : Reply
+  taken : ℕ → ℕ → Reply
 
-abbrev pub told : Answer → Told
-told (Refused refusal) = refused (numberOf refusal)
+abbrev pub told : Answer → Reply
+told (Refused refusal) = refusedWith (numberOf refusal)
 told Repeated = repeated
 told (Taken sections bytes) = taken sections bytes
 
@@ -22,7 +22,7 @@ pub record Outcome : Type 0 where
   pub rec : Record
   pub hold : List ℕ
   pub out : List ℕ
-  pub said : Told
+  pub said : Reply
 
 abbrev pub came : Record → List ℕ → List ℕ → Answer → Outcome
 came r hold out answer = record { rec = r; hold = hold; out = out; said = told answer }

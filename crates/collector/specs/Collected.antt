@@ -4,10 +4,10 @@ use Prim.Native.Nat.{ℕ, _+_, _%_, _^_}
 use lib.ListN.{length, take}
 use Rattle.copy.specs.Laid.{over}
 use Rattle.collector.specs.Rules.{Kind, pointer, delivered, broken, filler, skipped, Fate, in-hand, done, Story, countOf, handOf, holding, plain, storyAfter, sectionsOf, delivers}
-use Rattle.packet.specs.Ruling.{Ruling, refused, repeated, bare, takes, ruling}
+use Rattle.packet.specs.Ruling.{Ruling, refuses, repeated, bare, takes, ruling}
 use Rattle.collector.specs.Refusals.{beforeOf, cannotStand, tooSmall}
 use Rattle.collector.specs.Answer as Answer
-use Rattle.collector.specs.Answer.{Told, Outcome}
+use Rattle.collector.specs.Answer.{Reply, Outcome}
 use Rattle.collector.specs.declared.Record.{Record}
 use Rattle.collector.specs.declared.Last.{Last}
 use Rattle.collector.specs.declared.Last.the-variants.{None, Counter}
@@ -39,7 +39,7 @@ abbrev pub freshRecord : ℕ → Record
 freshRecord pid = recordWith pid None 0 (λ k. 0)
 
 -- "the record and all lent room unaltered"
-abbrev pub unaltered : Record → List ℕ → List ℕ → Told → Outcome
+abbrev pub unaltered : Record → List ℕ → List ℕ → Reply → Outcome
 unaltered r hold out said = record { rec = r; hold = hold; out = out; said = said }
 
 -- "the counter then becomes the last"; "five 32-bit counters that run round past 4,294,967,295 to 0"
@@ -63,7 +63,7 @@ outcomeAfter r hold out counter s = record {
 }
 
 abbrev pub outcomeOf : Record → List ℕ → List ℕ → Ruling → Outcome
-outcomeOf r hold out (refused n) = unaltered r hold out (Answer.refused n)
+outcomeOf r hold out (refuses n) = unaltered r hold out (Answer.refusedWith n)
 outcomeOf r hold out repeated = unaltered r hold out Answer.repeated
 outcomeOf r hold out bare = unaltered r hold out (Answer.taken 0 0)
 outcomeOf r hold out (takes q) = outcomeAfter r hold out (q .counter) (storyAfter delivers plain (beforeOf r) (holding (take (r .in_hand) hold)) q)

@@ -70,7 +70,7 @@ or-none true = refl
 or-none false = refl
 
 abbrev Taking : ℕ → Ruling → Type 0
-Taking size (Ruled.refused n) = Unit {0}
+Taking size (Ruled.refuses n) = Unit {0}
 Taking size repeated = Unit {0}
 Taking size Ruled.bare = Unit {0}
 Taking size (takes q) = (q .counter ≤ 15) × (4096 ≤ size)
@@ -245,7 +245,7 @@ module _ {pid size : ℕ} {r : Record} {hold : List ℕ} {h : History} (g : Agre
 
   went-by : (z : Ruling) → Taking size z → Went pid size h z (outcomeOf r hold out z)
   unfolding flatten
-  went-by (Ruled.refused n) x = record {
+  went-by (Ruled.refuses n) x = record {
     fare = refl;
     agrees = g;
     before = refl;

@@ -8,7 +8,7 @@ use lib.ListN.{length}
 use Rattle.packet.specs.Ruling.{Ruling, takes, ruling}
 use Rattle.collector.specs.Refusals.{beforeOf, cannotStand, tooSmall}
 use Rattle.packet.specs.Ruling as Ruled
-use Rattle.collector.specs.Answer.{Told, Outcome, refused, repeated, taken}
+use Rattle.collector.specs.Answer.{Reply, Outcome, refusedWith, repeated, taken}
 use Rattle.collector.specs.Collected.{unaltered, outcomeOf}
 use Rattle.collector.specs.declared.Record.{Record}
 use Rattle.history.specs.Run.{Promised, fareOf, ruledFare}
@@ -17,14 +17,14 @@ use Rattle.history.specs.Demand1.{RefusesFirst, RefusedUnaltered}
 use Rattle.history.proofs.FaresByTable.{fareNumber, refused-exactly-if}
 
 pub fare-is : (r : Record) (hold out : List ℕ) (z : Ruling) → fareOf (outcomeOf r hold out z .said) ≡ ruledFare z
-fare-is r hold out (Ruled.refused n) = refl
+fare-is r hold out (Ruled.refuses n) = refl
 fare-is r hold out Ruled.repeated = refl
 fare-is r hold out Ruled.bare = refl
 fare-is r hold out (takes q) = refl
 
 -- an answer is a refusal exactly if that is how its packet fares
-pub said-refused : (n : ℕ) (t : Told) → (t ≡ refused n) ↔ (fareOf t ≡ R.refused n)
-said-refused n (refused m) = (λ e. ap fareOf e, λ e. let same : m ≡ n = cc in ap refused same)
+pub said-refused : (n : ℕ) (t : Reply) → (t ≡ refusedWith n) ↔ (fareOf t ≡ R.refusedBy n)
+said-refused n (refusedWith m) = (λ e. ap fareOf e, λ e. let same : m ≡ n = cc in ap refusedWith same)
 said-refused n repeated = (λ e. ap fareOf e, λ e. let z : _≡_ {A = ℕ} 1 0 = ap fareNumber e in absurd (omega arith))
 said-refused n (taken sections bytes) = (
   λ e. ap fareOf e,
@@ -40,9 +40,9 @@ refuses-first r hold out packet o x n =
     (λ e. row .0 (sym fare ∙ says .0 e), λ f. says .1 (fare ∙ row .1 f))
 
 unaltered-by : (r : Record) (hold out : List ℕ) (z : Ruling) (n : ℕ)
-    → fareOf (outcomeOf r hold out z .said) ≡ R.refused n → outcomeOf r hold out z ≡ unaltered r hold out (refused n)
-unaltered-by r hold out (Ruled.refused m) n e =
-    let same : m ≡ n = cc in ap (λ (k : ℕ). unaltered r hold out (refused k)) same
+    → fareOf (outcomeOf r hold out z .said) ≡ R.refusedBy n → outcomeOf r hold out z ≡ unaltered r hold out (refusedWith n)
+unaltered-by r hold out (Ruled.refuses m) n e =
+    let same : m ≡ n = cc in ap (λ (k : ℕ). unaltered r hold out (refusedWith k)) same
 unaltered-by r hold out Ruled.repeated n e = let z : _≡_ {A = ℕ} 1 0 = ap fareNumber e in absurd (omega arith)
 unaltered-by r hold out Ruled.bare n e = let z : _≡_ {A = ℕ} 2 0 = ap fareNumber e in absurd (omega arith)
 unaltered-by r hold out (takes q) n e = let z : _≡_ {A = ℕ} 2 0 = ap fareNumber e in absurd (omega arith)

@@ -15,7 +15,7 @@ use Rattle.packet.specs.Ruling.{Before, noneBefore, Carried}
 use Rattle.collector.specs.Refusals.{tooSmall}
 use Rattle.collector.specs.Rules.{Kind, delivered, Fate, done, kinds, sumIn, sumOf, Mark, Story, sameFate, bytesOf, countOf, delivers}
 use Rattle.packet.specs.Refusals.{_when_, refusals}
-use Rattle.collector.specs.Answer.{refused}
+use Rattle.collector.specs.Answer.{refusedWith}
 use Rattle.collector.specs.Collected.{bytesCounted, freshRecord}
 use Rattle.collector.specs.declared.Record.{Record}
 use Rattle.wire.proofs.EachLaws.{each-of}
@@ -205,7 +205,7 @@ no-43 small pid p =
     (other 41 _ (λ e. omega arith), (other 42 _ (λ e. omega arith), ((λ e w. true-not-false (sym e)), rest)))
 
 never-each : (pid size : ℕ) (ks : List Call) → pid ≤ 8191 → Each (RefusedIf pid size) ks
-    → Each (λ k. k .said ≡ refused 43 → ⊥) ks
+    → Each (λ k. k .said ≡ refusedWith 43 → ⊥) ks
 never-each pid size [] w x = tt
 never-each pid size (k ∷ ks) w x = (
   λ e. no-43 (tooSmall size (length (k .out))) pid (k .packet)

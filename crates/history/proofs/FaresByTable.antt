@@ -24,12 +24,12 @@ use Rattle.history.specs.Run as R
 use Rattle.history.specs.Demand1.{First}
 
 abbrev pub fareNumber : Fare → ℕ
-fareNumber (R.refused n) = 0
+fareNumber (R.refusedBy n) = 0
 fareNumber R.repeated = 1
 fareNumber taken = 2
 
 abbrev numberIn : Fare → ℕ
-numberIn (R.refused n) = n
+numberIn (R.refusedBy n) = n
 numberIn R.repeated = 0
 numberIn taken = 0
 
@@ -60,7 +60,7 @@ never-first n (row ∷ rows) x f = ⊎-elim (λ u. x .0 (u .0) (u .1)) (λ u. ne
 
 -- ---- of a packet that no row refuses
 
-new-unrefused : (n : ℕ) (q : Carried ℕ) (t : Bool) → ruledFare (if t then Ruled.repeated else takes q) ≡ R.refused n
+new-unrefused : (n : ℕ) (q : Carried ℕ) (t : Bool) → ruledFare (if t then Ruled.repeated else takes q) ≡ R.refusedBy n
     → ⊥
 new-unrefused n q true e = let z : _≡_ {A = ℕ} 1 0 = ap fareNumber e in omega arith
 new-unrefused n q false e = let z : _≡_ {A = ℕ} 2 0 = ap fareNumber e in omega arith
@@ -91,18 +91,18 @@ module _ (small unfit : Bool) (pid : ℕ) (before : Before) (p : List ℕ) where
 
   -- ---- refused exactly with the first row that applies
 
-  unrefused : (n : ℕ) (t : Bool) → ruledFare (passedOn t) ≡ R.refused n → ⊥
+  unrefused : (n : ℕ) (t : Bool) → ruledFare (passedOn t) ≡ R.refusedBy n → ⊥
   unrefused n true e = let z : _≡_ {A = ℕ} 2 0 = ap fareNumber e in omega arith
   unrefused n false e = new-unrefused n here (repeats before (counterOf p)) e
 
-  refused-at : (n : ℕ) (o : Option ℕ) → (ruledFare (ruledBy before p (judgedBy o p)) ≡ R.refused n) ↔ (o ≡ some n)
-  refused-at n (some m) = (λ e. ap some (ap numberIn e), λ e. let same : m ≡ n = cc in ap R.refused same)
+  refused-at : (n : ℕ) (o : Option ℕ) → (ruledFare (ruledBy before p (judgedBy o p)) ≡ R.refusedBy n) ↔ (o ≡ some n)
+  refused-at n (some m) = (λ e. ap some (ap numberIn e), λ e. let same : m ≡ n = cc in ap R.refusedBy same)
   refused-at n none = (
     λ e. absurd (unrefused n (eqb (control p) 2) e),
     λ e. let z : _≡_ {A = ℕ} 0 1 = cc in absurd (omega arith),
   )
 
-  pub refused-exactly-if : (n : ℕ) → (ruledFare (ruling small unfit pid before p) ≡ R.refused n) ↔ First n rows
+  pub refused-exactly-if : (n : ℕ) → (ruledFare (ruling small unfit pid before p) ≡ R.refusedBy n) ↔ First n rows
   unfolding judged
   refused-exactly-if n =
       let a = refused-at n (firstOf rows) in

@@ -15,7 +15,7 @@ use Rattle.packet.specs.Ruling.{Before, noneBefore, Ruling, takes, ruling}
 use Rattle.collector.specs.Rules.{in-hand, done, Story, countOf, handOf, holding, plain, storyAfter, delivers}
 use Rattle.collector.specs.Refusals.{lastOf, beforeOf, cannotStand, tooSmall}
 use Rattle.packet.specs.Ruling as Ruled
-use Rattle.collector.specs.Answer.{Told, refused, repeated, taken, Outcome}
+use Rattle.collector.specs.Answer.{Reply, refusedWith, repeated, taken, Outcome}
 use Rattle.collector.specs.Collected.{recordWith, freshRecord, outcomeOf, collected, deliveredOf}
 use Rattle.collector.specs.declared.Record.{Record}
 use Rattle.collector.specs.declared.Last.{Last}
@@ -34,10 +34,10 @@ use Rattle.history.proofs.Demand3.{refused-exactly-if, taken-exactly-if
 -- ---- fares
 
 -- fares that are refused alike and taken alike
-same-fare : (f g : Fare) → ((n : ℕ) → (f ≡ R.refused n) ↔ (g ≡ R.refused n)) → (f ≡ R.taken) ↔ (g ≡ R.taken) → f ≡ g
-same-fare (R.refused n) g a b = sym (a n .0 refl)
+same-fare : (f g : Fare) → ((n : ℕ) → (f ≡ R.refusedBy n) ↔ (g ≡ R.refusedBy n)) → (f ≡ R.taken) ↔ (g ≡ R.taken) → f ≡ g
+same-fare (R.refusedBy n) g a b = sym (a n .0 refl)
 same-fare R.taken g a b = sym (b .0 refl)
-same-fare R.repeated (R.refused n) a b = a n .1 refl
+same-fare R.repeated (R.refusedBy n) a b = a n .1 refl
 same-fare R.repeated R.repeated a b = refl
 same-fare R.repeated R.taken a b = b .1 refl
 
@@ -103,7 +103,7 @@ behind-over bytes room = drop-append-seam bytes (drop (length bytes) room)
 stays-by : (r : Record) (hold out : List ℕ) (z : Ruling) → let o : Outcome = outcomeOf r hold out z in
     (drop (toldBy (o .said)) (o .out) ≡ drop (toldBy (o .said)) out)
     × (drop (o .rec .in_hand) (o .hold) ≡ drop (o .rec .in_hand) hold)
-stays-by r hold out (Ruled.refused n) = (refl, refl)
+stays-by r hold out (Ruled.refuses n) = (refl, refl)
 stays-by r hold out Ruled.repeated = (refl, refl)
 stays-by r hold out Ruled.bare = (refl, refl)
 stays-by r hold out (takes q) =
@@ -156,13 +156,13 @@ cut-long zero bs = refl
 cut-long (suc n) bs = ap suc (cut-long n (drop (totalOf bs) bs))
 
 -- an answer is fixed by how the packet fares, by the number of sections handed out and by the bytes that it tells
-same-told : (a b : Told) (out out₂ : List ℕ) → fareOf a ≡ fareOf b → length (handedBy a out) ≡ length (handedBy b out₂)
+same-told : (a b : Reply) (out out₂ : List ℕ) → fareOf a ≡ fareOf b → length (handedBy a out) ≡ length (handedBy b out₂)
     → toldBy a ≡ toldBy b → a ≡ b
-same-told (refused n) b out out₂ f s t = sym (said-refused n b .1 (sym f))
-same-told repeated (refused n) out out₂ f s t = let z : _≡_ {A = ℕ} 1 0 = ap fareNumber f in absurd (omega arith)
+same-told (refusedWith n) b out out₂ f s t = sym (said-refused n b .1 (sym f))
+same-told repeated (refusedWith n) out out₂ f s t = let z : _≡_ {A = ℕ} 1 0 = ap fareNumber f in absurd (omega arith)
 same-told repeated repeated out out₂ f s t = refl
 same-told repeated (taken m n) out out₂ f s t = let z : _≡_ {A = ℕ} 1 2 = ap fareNumber f in absurd (omega arith)
-same-told (taken m n) (refused k) out out₂ f s t = let z : _≡_ {A = ℕ} 2 0 = ap fareNumber f in absurd (omega arith)
+same-told (taken m n) (refusedWith k) out out₂ f s t = let z : _≡_ {A = ℕ} 2 0 = ap fareNumber f in absurd (omega arith)
 same-told (taken m n) repeated out out₂ f s t = let z : _≡_ {A = ℕ} 2 1 = ap fareNumber f in absurd (omega arith)
 same-told (taken m n) (taken k l) out out₂ f s t = λ i. taken
     ((sym (cut-long m (take n out)) ∙ s ∙ cut-long k (take l out₂)) i) (t i)
@@ -171,8 +171,8 @@ same-told (taken m n) (taken k l) out out₂ f s t = λ i. taken
 rebuilt : (n : ℕ) (room was : List ℕ) → drop n room ≡ drop n was → room ≡ take n room ++ drop n was
 rebuilt n room was e = sym (take-append-drop n room) ∙ ap (λ (l : List ℕ). take n room ++ l) e
 
-bytes-told : (t : Told) (out : List ℕ) → take (toldBy t) out ≡ bytesBy t out
-bytes-told (refused n) out = refl
+bytes-told : (t : Reply) (out : List ℕ) → take (toldBy t) out ≡ bytesBy t out
+bytes-told (refusedWith n) out = refl
 bytes-told repeated out = refl
 bytes-told (taken sections bytes) out = refl
 

@@ -4,7 +4,7 @@ use mathlib.Core.Path.{_≡_, refl, sym, ap, _∙_}
 use mathlib.Core.List.{List, [], _∷_}
 use Prim.Native.Nat.{ℕ}
 use Rattle.packet.proofs.Once.{refusalAt, refusal-at}
-use Rattle.collector.specs.Answer.{Told, refused, repeated, taken, told, Outcome, came}
+use Rattle.collector.specs.Answer.{Reply, refusedWith, repeated, taken, told, Outcome, came}
 use Rattle.collector.specs.Collected.{collected}
 use Rattle.collector.specs.declared.Record.{Record}
 use Rattle.collector.specs.declared.Answer.{Answer}
@@ -13,8 +13,8 @@ use Rattle.history.specs.Run.{Call, Input, RunOn, no-call, one-call}
 
 -- ---- two answers that tell the same are equal
 
-answerAt : Told → Answer
-answerAt (refused n) = Refused (refusalAt n)
+answerAt : Reply → Answer
+answerAt (refusedWith n) = Refused (refusalAt n)
 answerAt repeated = Repeated
 answerAt (taken sections bytes) = Taken sections bytes
 

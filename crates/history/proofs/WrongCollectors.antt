@@ -11,7 +11,7 @@ use Rattle.packet.specs.Ruling.{noneBefore, follows, Carried, repeats}
 use Rattle.collector.specs.Rules.{filler, sizeOf}
 use Rattle.packet.specs.Refusals.{judged}
 use Rattle.collector.specs.Refusals.{cannotStand}
-use Rattle.collector.specs.Answer.{Outcome, refused, repeated, taken}
+use Rattle.collector.specs.Answer.{Outcome, refusedWith, repeated, taken}
 use Rattle.collector.specs.Collected.{freshRecord, collected}
 use Rattle.history.specs.History.{Byte, valueOf, payloadsFrom, BreakAfter, Unbroken, Among, none-left, left-out, had}
 use Rattle.history.specs.Run.{Call, no-call, one-call, Fare, saidTaken, NotRefused, NotRepeated, handed}
@@ -32,13 +32,13 @@ unfolding repeats
 not-repeated = inr refl
 
 abbrev fareNumber : Fare → ℕ
-fareNumber (R.refused n) = 0
+fareNumber (R.refusedBy n) = 0
 fareNumber R.repeated = 1
 fareNumber R.taken = 2
 
 pub refuses-every-shut-out : (n : ℕ) → TakenExactlyIf (RefusesEvery n) → ⊥
 refuses-every-shut-out n h =
-    let o : Outcome = record { rec = freshRecord 20; hold = hold₀; out = out₀; said = refused n } in
+    let o : Outcome = record { rec = freshRecord 20; hold = hold₀; out = out₀; said = refusedWith n } in
     let x = h 20 hold₀ (callOf (worked 0) o ∷ []) (freshRecord 20) hold₀ (one-call refl no-call) in
     let z : _≡_ {A = ℕ} 0 2 = ap fareNumber (x .0 .1 (not-refused, not-repeated)) in
     omega arith

@@ -4,7 +4,7 @@ use mathlib.Core.Path.{_≡_}
 use mathlib.Core.List.{List, [], _∷_, _++_, map, flatten}
 use Prim.Native.Nat.{ℕ, _+_, _-_}
 use lib.ListN.{length, replicate}
-use Rattle.collector.specs.Answer.{Told, refused, repeated, taken}
+use Rattle.collector.specs.Answer.{Reply, refusedWith, repeated, taken}
 use Rattle.collector.specs.Collected.{freshRecord, collected}
 use Rattle.collector.specs.declared.Record.{Record}
 use Rattle.collector.specs.declared.Last.{Last}
@@ -15,11 +15,11 @@ use Rattle.history.specs.WrongCollectors.{worked, hold₀, out₀}
 -- a packet, what is answered to it, and the bytes that it hands out
 pub record Step : Type 0 where
   pub packet : List ℕ
-  pub answer : Told
+  pub answer : Reply
   pub bytes : List ℕ
 
 infix 70 _gives_
-abbrev pub _gives_ : List ℕ → Told → Step
+abbrev pub _gives_ : List ℕ → Reply → Step
 packet gives answer = record { packet = packet; answer = answer; bytes = [] }
 
 -- taken, with these sections
@@ -39,12 +39,12 @@ pub record Story : Type 0 where
 -- ---- what a story comes to
 
 pub record Ending : Type 0 where
-  pub answers : List Told
+  pub answers : List Reply
   pub bytes : List (List ℕ)
   pub left : Record
 
 -- the answers to the packets, the bytes handed out, and the record after them
-abbrev pub answersTo : Record → List ℕ → List ℕ → List Step → List Told
+abbrev pub answersTo : Record → List ℕ → List ℕ → List Step → List Reply
 answersTo r hold out [] = []
 answersTo r hold out (s ∷ ss) =
     collected r hold out (s .packet) .said
@@ -125,12 +125,12 @@ the-worked-packet = fromFresh 20 (recordOf 20 (Counter 0) 0 1 8 0 175 0) (worked
 abbrev pub in-this-order : Story
 in-this-order =
     fromFresh 20 (recordOf 20 (Counter 0) 0 0 0 0 0 184)
-    (filled (0x46 ∷ 0xC0 ∷ 0x15 ∷ 0x40 ∷ []) gives refused 44
-    ∷ filled (0x47 ∷ 0xC0 ∷ 0x15 ∷ 0x40 ∷ []) gives refused 45
-    ∷ filled (0x47 ∷ 0x40 ∷ 0x15 ∷ 0x40 ∷ []) gives refused 46
-    ∷ filled (0x47 ∷ 0x40 ∷ 0x14 ∷ 0x40 ∷ []) gives refused 47
-    ∷ filled (0x47 ∷ 0x40 ∷ 0x14 ∷ 0x00 ∷ []) gives refused 48
-    ∷ filled (0x47 ∷ 0x40 ∷ 0x14 ∷ 0x10 ∷ []) gives refused 49
+    (filled (0x46 ∷ 0xC0 ∷ 0x15 ∷ 0x40 ∷ []) gives refusedWith 44
+    ∷ filled (0x47 ∷ 0xC0 ∷ 0x15 ∷ 0x40 ∷ []) gives refusedWith 45
+    ∷ filled (0x47 ∷ 0x40 ∷ 0x15 ∷ 0x40 ∷ []) gives refusedWith 46
+    ∷ filled (0x47 ∷ 0x40 ∷ 0x14 ∷ 0x40 ∷ []) gives refusedWith 47
+    ∷ filled (0x47 ∷ 0x40 ∷ 0x14 ∷ 0x00 ∷ []) gives refusedWith 48
+    ∷ filled (0x47 ∷ 0x40 ∷ 0x14 ∷ 0x10 ∷ []) gives refusedWith 49
     ∷ filled (0x47 ∷ 0x00 ∷ 0x14 ∷ 0x10 ∷ []) gives taken 0 0
     ∷ [])
 
@@ -138,17 +138,17 @@ in-this-order =
 abbrev pub a-small-hold : Story
 a-small-hold =
     unchanged (freshRecord 8192) (replicate 4095 0) out₀
-    ((0x46 ∷ []) gives refused 41
-    ∷ filled (0x46 ∷ []) gives refused 42
+    ((0x46 ∷ []) gives refusedWith 41
+    ∷ filled (0x46 ∷ []) gives refusedWith 42
     ∷ [])
 
 abbrev pub a-small-out : Story
-a-small-out = unchanged (freshRecord 20) hold₀ (replicate 4279 0) (worked 0 gives refused 42 ∷ [])
+a-small-out = unchanged (freshRecord 20) hold₀ (replicate 4279 0) (worked 0 gives refusedWith 42 ∷ [])
 
 -- "record can't stand", with these bytes in hand at the start of its hold: 43 comes before 44
 abbrev pub unfit : ℕ → Last → ℕ → List ℕ → Story
 unfit pid last in-hand held =
-    unchanged (recordOf pid last in-hand 0 0 0 0 0) (held ++ hold₀) out₀ (filled (0x46 ∷ []) gives refused 43 ∷ [])
+    unchanged (recordOf pid last in-hand 0 0 0 0 0) (held ++ hold₀) out₀ (filled (0x46 ∷ []) gives refusedWith 43 ∷ [])
 
 -- one that can stand
 abbrev pub fit : ℕ → List ℕ → Story
@@ -161,8 +161,8 @@ all-bits-of-the-pid =
     fromFresh 8191 (recordOf 8191 (Counter 1) 0 2 0 0 366 0)
     (filled (0x47 ∷ 0x5F ∷ 0xFF ∷ 0x10 ∷ 0x00 ∷ []) gives taken 0 0
     ∷ filled (0x47 ∷ 0x7F ∷ 0xFF ∷ 0x11 ∷ 0x00 ∷ []) gives taken 0 0
-    ∷ filled (0x47 ∷ 0x4F ∷ 0xFF ∷ 0x12 ∷ 0x00 ∷ []) gives refused 46
-    ∷ filled (0x47 ∷ 0x5F ∷ 0x7F ∷ 0x12 ∷ 0x00 ∷ []) gives refused 46
+    ∷ filled (0x47 ∷ 0x4F ∷ 0xFF ∷ 0x12 ∷ 0x00 ∷ []) gives refusedWith 46
+    ∷ filled (0x47 ∷ 0x5F ∷ 0x7F ∷ 0x12 ∷ 0x00 ∷ []) gives refusedWith 46
     ∷ [])
 
 -- transport_error_indicator without the start flag; scrambling control 01 and 10; "11 with length above 182; or 10 with
@@ -170,12 +170,12 @@ all-bits-of-the-pid =
 abbrev pub each-control : Story
 each-control =
     fromFresh 20 (recordOf 20 (Counter 0) 0 0 0 0 0 1)
-    (filled (0x47 ∷ 0x80 ∷ 0x14 ∷ 0x10 ∷ []) gives refused 45
-    ∷ filled (0x47 ∷ 0x00 ∷ 0x14 ∷ 0x50 ∷ []) gives refused 47
-    ∷ filled (0x47 ∷ 0x00 ∷ 0x14 ∷ 0x90 ∷ []) gives refused 47
-    ∷ filled (0x47 ∷ 0x00 ∷ 0x14 ∷ 0x30 ∷ 183 ∷ []) gives refused 48
-    ∷ filled (0x47 ∷ 0x00 ∷ 0x14 ∷ 0x20 ∷ 182 ∷ []) gives refused 48
-    ∷ filled (0x47 ∷ 0x00 ∷ 0x14 ∷ 0x20 ∷ 184 ∷ []) gives refused 48
+    (filled (0x47 ∷ 0x80 ∷ 0x14 ∷ 0x10 ∷ []) gives refusedWith 45
+    ∷ filled (0x47 ∷ 0x00 ∷ 0x14 ∷ 0x50 ∷ []) gives refusedWith 47
+    ∷ filled (0x47 ∷ 0x00 ∷ 0x14 ∷ 0x90 ∷ []) gives refusedWith 47
+    ∷ filled (0x47 ∷ 0x00 ∷ 0x14 ∷ 0x30 ∷ 183 ∷ []) gives refusedWith 48
+    ∷ filled (0x47 ∷ 0x00 ∷ 0x14 ∷ 0x20 ∷ 182 ∷ []) gives refusedWith 48
+    ∷ filled (0x47 ∷ 0x00 ∷ 0x14 ∷ 0x20 ∷ 184 ∷ []) gives refusedWith 48
     ∷ filled (0x47 ∷ 0x40 ∷ 0x14 ∷ 0x20 ∷ 183 ∷ []) gives taken 0 0
     ∷ filled (0x47 ∷ 0x00 ∷ 0x14 ∷ 0x30 ∷ 182 ∷ []) gives taken 0 0
     ∷ [])
@@ -185,8 +185,8 @@ abbrev pub pointer-at-its-limit : Story
 pointer-at-its-limit =
     fromFresh 20 (recordOf 20 (Counter 0) 0 1 0 0 1 2)
     (starts 0 (2 ∷ 1 ∷ 2 ∷ 0xFF ∷ []) gives taken 0 0
-    ∷ starts 1 (3 ∷ 1 ∷ 2 ∷ 0xFF ∷ []) gives refused 49
-    ∷ starts 1 (0 ∷ []) gives refused 49
+    ∷ starts 1 (3 ∷ 1 ∷ 2 ∷ 0xFF ∷ []) gives refusedWith 49
+    ∷ starts 1 (0 ∷ []) gives refusedWith 49
     ∷ [])
 
 -- ---- fates

@@ -9,7 +9,7 @@ use Prim.Native.Nat.{ℕ}
 use lib.ListN.{length}
 use Rattle.packet.specs.Refusals.{Row, refusals}
 use Rattle.collector.specs.Refusals.{cannotStand, tooSmall}
-use Rattle.collector.specs.Answer.{Outcome, refused}
+use Rattle.collector.specs.Answer.{Outcome, refusedWith}
 use Rattle.collector.specs.Collected.{unaltered}
 use Rattle.collector.specs.declared.Record.{Record}
 use Rattle.history.specs.Run.{Collector}
@@ -24,9 +24,9 @@ module _ (C : Collector) where
   abbrev pub RefusesFirst : Type 0
   RefusesFirst = (r : Record) (hold out packet : List ℕ) (o : Outcome) → C r hold out packet o
       → (n : ℕ)
-      → (o .said ≡ refused n) ↔ First n (refusals (tooSmall (length hold) (length out)) (cannotStand r hold) (r .pid) packet)
+      → (o .said ≡ refusedWith n) ↔ First n (refusals (tooSmall (length hold) (length out)) (cannotStand r hold) (r .pid) packet)
 
   -- "the record and all lent room unaltered"
   abbrev pub RefusedUnaltered : Type 0
   RefusedUnaltered = (r : Record) (hold out packet : List ℕ) (o : Outcome) → C r hold out packet o
-      → (n : ℕ) → o .said ≡ refused n → o ≡ unaltered r hold out (refused n)
+      → (n : ℕ) → o .said ≡ refusedWith n → o ≡ unaltered r hold out (refusedWith n)

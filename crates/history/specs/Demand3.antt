@@ -10,7 +10,7 @@ use Rattle.packet.specs.Ruling.{Before, noneBefore, Carried}
 use Rattle.collector.specs.Refusals.{tooSmall}
 use Rattle.collector.specs.Rules.{Kind, delivered, in-hand, done, sumOf, Mark, Story, bytesOf, countOf, handOf, sectionsOf, delivers}
 use Rattle.packet.specs.Refusals.{refusals}
-use Rattle.collector.specs.Answer.{refused}
+use Rattle.collector.specs.Answer.{refusedWith}
 use Rattle.collector.specs.Collected.{bytesCounted, freshRecord}
 use Rattle.collector.specs.declared.Record.{Record}
 use Rattle.history.specs.History.{Byte, valueOf, historyOf, payloadsFrom, Unbroken, Among}
@@ -28,7 +28,7 @@ TakenCallByCall pid size before (k ∷ ks) =
 -- demand 1 of the packets of a run, whose record can stand exactly if its PID is one
 abbrev pub RefusedIf : ℕ → ℕ → Call → Type 0
 RefusedIf pid size k = (n : ℕ)
-    → (k .said ≡ refused n) ↔ First n (refusals (tooSmall size (length (k .out))) (ltb 8191 pid) pid (k .packet))
+    → (k .said ≡ refusedWith n) ↔ First n (refusals (tooSmall size (length (k .out))) (ltb 8191 pid) pid (k .packet))
 
 -- the packets taken that have payload, by the packets alone, and their bytes' fates
 abbrev pub takenByRule : ℕ → List ℕ → List Call → List (Carried ℕ)
@@ -94,7 +94,7 @@ module _ (C : Collector) where
 
   -- a run never leaves a record that can't stand
   abbrev pub NeverUnfit : Type 0
-  NeverUnfit = OverRuns (λ pid hold calls r hold′. pid ≤ 8191 → Each (λ k. k .said ≡ refused 43 → ⊥) calls)
+  NeverUnfit = OverRuns (λ pid hold calls r hold′. pid ≤ 8191 → Each (λ k. k .said ≡ refusedWith 43 → ⊥) calls)
 
   -- "one fate, fixed by document 01's rules from those packets alone"
   abbrev pub OneFateEach : Type 0

@@ -15,7 +15,7 @@ use Rattle.packet.specs.Ruling.{Before, Carried, handsOn, repeats, Ruling, load
 use Rattle.packet.specs.Refusals.{refusals}
 use Rattle.packet.specs.Ruling as Ruled
 use Rattle.collector.specs.Refusals.{tooSmall}
-use Rattle.collector.specs.Answer.{Told, Outcome}
+use Rattle.collector.specs.Answer.{Reply, Outcome}
 use Rattle.collector.specs.Answer as Answer
 use Rattle.collector.specs.Collected.{collected}
 use Rattle.collector.specs.declared.Record.{Record}
@@ -35,7 +35,7 @@ pub record Call : Type 0 where
   pub packet : List ℕ
   pub out : List ℕ
   pub out′ : List ℕ
-  pub said : Told
+  pub said : Reply
 
 -- what a caller brings to a call, besides the record and the hold
 pub record Input : Type 0 where
@@ -63,24 +63,24 @@ pub record RunOn (r : Record) (hold : List ℕ) (xs : List Input) : Type 0 where
 -- ---- how a packet fares, by the packets and the rooms' sizes alone
 
 pub data Fare : Type 0 where
-  refused : ℕ → Fare
+  refusedBy : ℕ → Fare
   repeated : Fare
   taken : Fare
 
-abbrev pub fareOf : Told → Fare
-fareOf (Answer.refused n) = refused n
+abbrev pub fareOf : Reply → Fare
+fareOf (Answer.refusedWith n) = refusedBy n
 fareOf Answer.repeated = repeated
 fareOf (Answer.taken sections bytes) = taken
 
 abbrev pub ruledFare : Ruling → Fare
-ruledFare (Ruled.refused n) = refused n
+ruledFare (Ruled.refuses n) = refusedBy n
 ruledFare Ruled.repeated = repeated
 ruledFare Ruled.bare = taken
 ruledFare (Ruled.takes q) = taken
 
 -- "the packets taken", by what the answers say: of each that has payload its counter, its start flag and its payload
 abbrev pub ifSaidTaken : Fare → List ℕ → List (Carried ℕ)
-ifSaidTaken (refused n) packet = []
+ifSaidTaken (refusedBy n) packet = []
 ifSaidTaken repeated packet = []
 ifSaidTaken taken packet =
     if eqb (control packet) 2 then []
@@ -100,13 +100,13 @@ lentOf k = record { packet = k .packet; room = length (k .out) }
 
 -- what counts for the next packet
 abbrev pub beforeAfter : Before → Ruling → Before
-beforeAfter before (Ruled.refused n) = before
+beforeAfter before (Ruled.refuses n) = before
 beforeAfter before Ruled.repeated = before
 beforeAfter before Ruled.bare = before
 beforeAfter before (Ruled.takes q) = handsOn q
 
 abbrev pub ruledIn : Ruling → List (Carried ℕ)
-ruledIn (Ruled.refused n) = []
+ruledIn (Ruled.refuses n) = []
 ruledIn Ruled.repeated = []
 ruledIn Ruled.bare = []
 ruledIn (Ruled.takes q) = q ∷ []
@@ -139,8 +139,8 @@ abbrev pub cut : ℕ → List ℕ → List (List ℕ)
 cut zero bs = []
 cut (suc n) bs = take (totalOf bs) bs ∷ cut n (drop (totalOf bs) bs)
 
-abbrev pub handedBy : Told → List ℕ → List (List ℕ)
-handedBy (Answer.refused n) out = []
+abbrev pub handedBy : Reply → List ℕ → List (List ℕ)
+handedBy (Answer.refusedWith n) out = []
 handedBy Answer.repeated out = []
 handedBy (Answer.taken sections bytes) out = cut sections (take bytes out)
 
@@ -149,13 +149,13 @@ handed [] = []
 handed (k ∷ ks) = handedBy (k .said) (k .out′) ++ handed ks
 
 -- the bytes that an answer speaks of
-abbrev pub bytesBy : Told → List ℕ → List ℕ
-bytesBy (Answer.refused n) out = []
+abbrev pub bytesBy : Reply → List ℕ → List ℕ
+bytesBy (Answer.refusedWith n) out = []
 bytesBy Answer.repeated out = []
 bytesBy (Answer.taken sections bytes) out = take bytes out
 
 -- how many bytes it says there are
-abbrev pub toldBy : Told → ℕ
-toldBy (Answer.refused n) = 0
+abbrev pub toldBy : Reply → ℕ
+toldBy (Answer.refusedWith n) = 0
 toldBy Answer.repeated = 0
 toldBy (Answer.taken sections bytes) = bytes

@@ -6,7 +6,7 @@ use lib.ListN.{replicate}
 use Rattle.wire.specs.If.{if_then_else_}
 use Rattle.packet.specs.Header.{counterOf}
 use Rattle.collector.specs.Rules.{filler, done, sameKind}
-use Rattle.collector.specs.Answer.{Outcome, refused, repeated, taken}
+use Rattle.collector.specs.Answer.{Outcome, refusedWith, repeated, taken}
 use Rattle.collector.specs.Collected.{bytesCounted, recordWith, unaltered, collected}
 use Rattle.collector.specs.declared.Record.{Record}
 use Rattle.collector.specs.declared.Last.{Last}
@@ -15,7 +15,7 @@ use Rattle.history.specs.Run.{Collector}
 
 -- "one that refuses every packet"
 abbrev pub RefusesEvery : ℕ → Collector
-RefusesEvery n r hold out packet o = o ≡ unaltered r hold out (refused n)
+RefusesEvery n r hold out packet o = o ≡ unaltered r hold out (refusedWith n)
 
 -- ".. or calls it repeated"
 abbrev pub CallsRepeated : Collector

@@ -53,7 +53,7 @@ loadOf packet from start counter = record { counter = counter; start = start; by
 
 -- "Control 10: taken, no payload, nothing changes. Else a counter equal to the last: "repeated", nothing changes. Else taken."
 pub data Ruling : Type 0 where
-  refused : ℕ → Ruling
+  refuses : ℕ → Ruling
   repeated : Ruling
   bare : Ruling
   takes : Carried ℕ → Ruling
@@ -62,7 +62,7 @@ abbrev pub ruledOn : Before → Carried ℕ → Ruling
 ruledOn before q = if repeats before (q .counter) then repeated else takes q
 
 abbrev pub ruledBy : Before → List ℕ → Judged → Ruling
-ruledBy before packet (refuse n) = refused n
+ruledBy before packet (refuse n) = refuses n
 ruledBy before packet Refusals.bare = bare
 ruledBy before packet (has-payload from start counter) = ruledOn before (loadOf packet from start counter)
 

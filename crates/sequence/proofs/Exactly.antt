@@ -83,7 +83,7 @@ module _ (r : Roll) (s : List ℕ) where
   -- ---- a step, by the four tests
 
   pub data Went : Type 0 where
-    refused : {k p : ℕ} → FirstFor r s k p → Went
+    first-applies : {k p : ℕ} → FirstFor r s k p → Went
     took : another r s ≡ false → isCurrent s ≡ true → taking r s ≡ answering (rollAfter r s) → Went
 
   only-83 : (j : ℕ) → 83 < j → Applies r s j → ⊥
@@ -106,19 +106,19 @@ module _ (r : Roll) (s : List ℕ) where
   went = go (isAccepted (judged s)) (hasNoSubTable s) (another r s) (isCurrent s) refl refl refl refl
     where
       go : (a n b c : Bool) → isAccepted (judged s) ≡ a → hasNoSubTable s ≡ n → another r s ≡ b → isCurrent s ≡ c → Went
-      go false n b c p q u v = refused (of-the-judge (refused-exactly-if s _ _ .0 (is-refused (judged s) p)))
+      go false n b c p q u v = first-applies (of-the-judge (refused-exactly-if s _ _ .0 (is-refused (judged s) p)))
       go true true b c p q u v =
           let a = is-accepted (judged s) p in
           let x = accepted-exactly-if s .0 a in
-          refused (of-the-roll (x .0) (x .1) (no-sub-table (no-sub-table-ids s a .0 q)) only-83)
+          first-applies (of-the-roll (x .0) (x .1) (no-sub-table (no-sub-table-ids s a .0 q)) only-83)
       go true false true c p q u v =
           let a = is-accepted (judged s) p in
           let x = accepted-exactly-if s .0 a in
-          refused (of-the-roll (x .0) (x .1) (another-applies u) (not-83 a q))
+          first-applies (of-the-roll (x .0) (x .1) (another-applies u) (not-83 a q))
       go true false false false p q u v =
           let a = is-accepted (judged s) p in
           let x = accepted-exactly-if s .0 a in
-          refused (of-the-roll (x .0) (x .1) (not-current (versionIn s) (not-current-is s v)) (not-82 a q u))
+          first-applies (of-the-roll (x .0) (x .1) (not-current (versionIn s) (not-current-is s v)) (not-82 a q u))
       go true false false true p q u v = took u v (rw (p, q, u, v))
 
 -- ---- what is answered is no refusal
@@ -154,7 +154,7 @@ refuses-exactly-if r s o is k p = (
 )
   where
     to : Went r s → taking r s .says ≡ refusing k p → FirstFor r s k p
-    to (refused {k = j} f) e =
+    to (first-applies {k = j} f) e =
         let same = same-refusal (sym (ap (λ (x : Outcome). x .says) (first-refuses r s f)) ∙ e) in
         subst (λ i. FirstFor r s i p) (same .0) (subst (λ i. FirstFor r s j i) (same .1) f)
     to (took u v t) e = absurd (asked-no-refusal (rollAfter r s) k p (sym (ap (λ (x : Outcome). x .says) t) ∙ e))
@@ -268,7 +268,7 @@ pub takes-else : TakesElse Promised
 takes-else r s o is b w none = go (went r s)
   where
     go : Went r s → AfterTaking r s o
-    go (refused f) = absurd (none _ _ f)
+    go (first-applies f) = absurd (none _ _ f)
     go (took u v t) = subst (AfterTaking r s) (sym (is ∙ t)) (taken-by r s b w u v)
 
 pub after-whole : (r : Roll) (s : List ℕ) → Whole (r .marks) → Whole (rollAfter r s .marks)

@@ -9,7 +9,7 @@ use Rattle.roll.specs.Roll.{Outcome, taking}
 use Rattle.sequence.specs.Step.{AfterTaking, Roller}
 use Rattle.sequence.specs.Alike.{Alike, empty, begun, Fixed}
 use Rattle.head.proofs.HeadLaws.{version-is, ids-compared}
-use Rattle.sequence.proofs.Exactly.{Went, refused, took, went, first-refuses, took-none, taken-by, after-whole}
+use Rattle.sequence.proofs.Exactly.{Went, first-applies, took, went, first-refuses, took-none, taken-by, after-whole}
 use Rattle.sequence.proofs.WholeSequence.{answers-once}
 use Rattle.roll.specs.declared.Roll.{Roll}
 
@@ -42,7 +42,7 @@ pub fixed : (take : Roller) → Fixed take
 fixed take refuses keeps else r s o is b w w' = go (went r s)
   where
     go : Went r s → (o .says ≡ taking r s .says) × Alike (o .roll) (taking r s .roll)
-    go (refused {k} {p} f) =
+    go (first-applies {k} {p} f) =
         let e = first-refuses r s f in
         rw (keeps r s o is k p f, e) (refuses r s o is k p .1 f, alike-itself r w)
     go (took u v t) =

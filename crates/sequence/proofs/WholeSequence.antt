@@ -16,7 +16,7 @@ use Rattle.roll.specs.Marks.{has, unmarked, marked, smallest, smallestMissing}
 use Rattle.head.specs.SubTable.{subTableOf, compared, sameIds}
 use Rattle.head.specs.Head.{versionIn, numberIn, lastIn}
 use Rattle.roll.specs.Roll.{another, startsAfresh, begunWith, continued, rollAfter, asked, Outcome, answering, taking}
-use Rattle.sequence.specs.Sequence.{belongs, unrefused, takenOf, Come, just, earlier, Answered, nothing, some, Kept, Agrees, empty, begun, Next, took, refused, AllBytes, none, more, Run, start, step, MarksAre, EachFares, AnswersAre}
+use Rattle.sequence.specs.Sequence.{belongs, unrefused, takenOf, Come, just, earlier, Answered, nothing, some, Kept, Agrees, empty, begun, Next, took, unchanged, AllBytes, none, more, Run, start, step, MarksAre, EachFares, AnswersAre}
 use Rattle.sequence.specs.Promise.{Promised, PromisedAsked}
 use Rattle.sequence.specs.Step.{Answers, all, least}
 use Rattle.sequence.proofs.MarkLaws.{unmarked-has-none, unmarked-whole, marked-whole, marked-has, marked-only, marked-more}
@@ -127,7 +127,7 @@ next {t} {r} g s b = go (taken-or-refused r s t (another-agrees g s))
           took p (subst (λ (o : Outcome). Answered (s ∷ t) (o .says)) (sym e) (agrees-answers a)),
           λ _. subst (λ (o : Outcome). Agrees (s ∷ t) (o .roll)) (sym e) a,
         )
-    go (inr (p, y)) = (refused p (y .number) (y .place) (y .first) (y .same), λ q. absurd (false≢true (sym p ∙ q)))
+    go (inr (p, y)) = (unchanged p (y .number) (y .place) (y .first) (y .same), λ q. absurd (false≢true (sym p ∙ q)))
 
 run-agrees : {given : List (List ℕ)} {r : Roll} → Run Promised given r → Agrees (takenOf given) r
 unfolding takenOf
@@ -140,7 +140,7 @@ run-agrees (step {given} {r} x s b o is) =
         → (unrefused (takenOf given) s ≡ true → Agrees (s ∷ takenOf given) (taking r s .roll))
         → Agrees (takenOf (s ∷ given)) (taking r s .roll)
     go g (took p w) a = rw p (a p)
-    go g (refused p k j f same) a = rw p (subst (λ (o : Outcome). Agrees (takenOf given) (o .roll)) (sym same) g)
+    go g (unchanged p k j f same) a = rw p (subst (λ (o : Outcome). Agrees (takenOf given) (o .roll)) (sym same) g)
 
 pub marks-are : MarksAre Promised
 marks-are given r x = run-agrees x

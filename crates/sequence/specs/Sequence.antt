@@ -79,7 +79,7 @@ pub data Agrees : List (List ℕ) → Roll → Type 0 where
 -- that of those taken; else refused with the first that applies, "itself unchanged"
 pub data Next (t : List (List ℕ)) (r : Roll) (s : List ℕ) (o : Outcome) : Type 0 where
   took : unrefused t s ≡ true → Answered (s ∷ t) (o .says) → Next t r s o
-  refused : unrefused t s ≡ false → (k p : ℕ) → FirstRefusal t s k p → o ≡ refusal r k p → Next t r s o
+  unchanged : unrefused t s ≡ false → (k p : ℕ) → FirstRefusal t s k p → o ≡ refusal r k p → Next t r s o
 
 -- ---- calls, one after the other
 

@@ -7,12 +7,12 @@ use borrow.Author.Needs.{needs}
 use lib.ListN.{length}
 use Rattle.account.specs.Heard.{stateAs, Behind, Fits, brought}
 use Rattle.account.specs.Input.{Heard, none-yet, one-more}
-use Rattle.account.specs.declared.place.Place.{Place}
+use Rattle.account.specs.declared.progress.Progress.{Progress}
 use Rattle.account.proofs.Stands.{still-reading, over-not-reading, left-few}
 use Rattle.account.proofs.input.account_of.Statement.{statement}
 use Rattle.account.proofs.input.account_of.Tie as tie
 
-record Stands (buf₀ hold₀ out₀ buf hold out : List ℕ) (p : Place) (turns : ℕ) : Type 0 where
+record Stands (buf₀ hold₀ out₀ buf hold out : List ℕ) (p : Progress) (turns : ℕ) : Type 0 where
   input : List ℕ
   reads : ℕ
   heard : Heard hold₀ out₀ input reads (stateAs p buf hold out)
@@ -39,7 +39,7 @@ loop-holds c =
       reads = 0;
       heard =
           subst
-          (λ (p : Place). Heard (s .args .hold .now) (s .args .out .now) [] 0
+          (λ (p : Progress). Heard (s .args .hold .now) (s .args .out .now) [] 0
           (stateAs p (s .args .buf .now) (s .args .hold .now) (s .args .out .now)))
           (sym (c .start .ensures)) (none-yet (s .pre .0) (s .pre .1) (s .pre .2));
       count = refl;
@@ -68,7 +68,7 @@ returns c =
       reads = l .inv .reads;
       state = stateAs (l .p) (l .buf) (l .hold) (l .out);
       heard = l .inv .heard;
-      place-is = refl;
+      progress-is = refl;
       all-reads = λ e. absurd (over-not-reading (l .p .stage) (sym (c .before .is-over .ensures) ∙ c .if1 .taken) e);
     }
 
@@ -156,7 +156,7 @@ returns-2 c =
       reads = l .inv .reads;
       state = stateAs (l .p) (l .buf) (l .hold) (l .out);
       heard = l .inv .heard;
-      place-is = refl;
+      progress-is = refl;
       all-reads = λ e. omega (arith, l .inv .count);
     }
 

@@ -1,14 +1,15 @@
--- `collector::stretch::sections` meets its contract: the invariant is `Turn`, and each way out of a turn is a law of `Turns`.
+-- `collector::stretch::sections` meets its contract: the invariant is `Reached`, and each way out of a turn is a law of
+-- `SectionLoop`.
 use Prim.Native.Nat.{ℕ, _-_, _≤_}
 use native.Mathlib.Omega.{arith}
 use borrow.Author.Needs.{needs}
 use lib.ListN.{length}
-use Rattle.collector.proofs.SectionLoop.{Turn, none-yet, end-all, end-filler, end-going, end-over, whole-in, again}
+use Rattle.collector.proofs.SectionLoop.{Reached, none-yet, end-all, end-filler, end-going, end-over, whole-in, again}
 use Rattle.collector.proofs.stretch.sections.Statement.{statement}
 use Rattle.collector.proofs.stretch.sections.Tie as tie
 
 abbrev Inv-loop : tie.InvT-loop
-Inv-loop packet from hold₀ out₀ at i₀ o₀ n₀ hold out i o n = Turn packet from hold₀ out₀ at hold out i o n
+Inv-loop packet from hold₀ out₀ at i₀ o₀ n₀ hold out i o n = Reached packet from hold₀ out₀ at hold out i o n
 
 abbrev μ-loop : tie.MeasureT-loop
 μ-loop packet from hold₀ out₀ at i₀ o₀ n₀ hold out i o n = length packet - i

@@ -9,7 +9,7 @@ ghost use mathlib.Core.Path.{_≡_};
 ghost use Prim.Native.Nat.{_+_, _≤_, _<_};
 ghost use lib.ListN.{length};
 ghost use Rattle.account.specs.Entered.{firstPid, keptAs};
-ghost use Rattle.account.specs.Heard.{startPlace, toFront, accountFor, stateAs, absorbed, lastPiece, finished, heardAs, Fits, isOver, endedOf};
+ghost use Rattle.account.specs.Heard.{startProgress, toFront, accountFor, stateAs, absorbed, lastPiece, finished, heardAs, Fits, isOver, endedOf};
 
 // What reading came to: an error, fewer than 188 bytes in all, or the account.
 pub enum Ended {
@@ -27,7 +27,7 @@ pub enum Stage {
 
 // Whether a first packet came, the bytes at the front of the buffer that are not entered yet, the account, and the stage.
 // Only `start` and `heard` hand one out, so that reading can be over only because a read said so.
-pub struct Place {
+pub struct Progress {
     begun: bool,
     left: usize,
     account: Account,
@@ -35,12 +35,12 @@ pub struct Place {
 }
 
 // Before the first read.
-pub fn start() -> Place
-    ensures { λ r. ⌜ r ≡ startPlace ⌝ }
+pub fn start() -> Progress
+    ensures { λ r. ⌜ r ≡ startProgress ⌝ }
 {
     let account = tally::fresh(0);
     let stage = Stage::Reading;
-    Place {
+    Progress {
         begun: false,
         left: 0,
         account,
@@ -69,7 +69,7 @@ fn to_front(buf: &mut [u8], from: usize, n: usize)
 }
 
 // The account so far, or a fresh one where the first packet has just come.
-fn account_for(p: Place, bytes: &[u8]) -> Account
+fn account_for(p: Progress, bytes: &[u8]) -> Account
     requires { ⌜ 188 ≤ length (now bytes) ⌝ }
     ensures { λ r. ⌜ r ≡ accountFor p (now (bytes .entry)) ⌝ }
 {
@@ -81,14 +81,14 @@ fn account_for(p: Place, bytes: &[u8]) -> Account
 }
 
 // The buffer's first n bytes have come, of which the first are those that were left.
-fn absorb(p: Place, buf: &mut [u8], hold: &mut [u8], out: &mut [u8], n: usize) -> Place
+fn absorb(p: Progress, buf: &mut [u8], hold: &mut [u8], out: &mut [u8], n: usize) -> Progress
     requires { ⌜ n ≤ length (now buf) ⌝ }
     ensures { λ r. ⌜ stateAs r (now (buf .exit)) (now (hold .exit)) (now (out .exit))
         ≡ absorbed n (stateAs p (now (buf .entry)) (now (hold .entry)) (now (out .entry))) ⌝ }
 {
     if n < 188 {
         let account = p.account;
-        return Place {
+        return Progress {
             begun: p.begun,
             left: n,
             account,
@@ -99,7 +99,7 @@ fn absorb(p: Place, buf: &mut [u8], hold: &mut [u8], out: &mut [u8], n: usize) -
     let account = tally::enter_all(a, hold, out, buf, n);
     let left = n % 188;
     to_front(buf, n - left, left);
-    Place {
+    Progress {
         begun: true,
         left,
         account,
@@ -108,7 +108,7 @@ fn absorb(p: Place, buf: &mut [u8], hold: &mut [u8], out: &mut [u8], n: usize) -
 }
 
 // "A last piece under 188 bytes counts as refused (41)"
-fn last_piece(p: Place, buf: &[u8], hold: &mut [u8], out: &mut [u8]) -> Account
+fn last_piece(p: Progress, buf: &[u8], hold: &mut [u8], out: &mut [u8]) -> Account
     requires { ⌜ p .left ≤ length (now buf) ⌝ }
     ensures { λ r. ⌜ keptAs r (now (hold .exit)) (now (out .exit))
         ≡ lastPiece p (now (buf .entry)) (now (hold .entry)) (now (out .entry)) ⌝ }
@@ -125,13 +125,13 @@ fn last_piece(p: Place, buf: &[u8], hold: &mut [u8], out: &mut [u8]) -> Account
 }
 
 // The input is at its end.
-fn finish(p: Place, buf: &[u8], hold: &mut [u8], out: &mut [u8]) -> Place
+fn finish(p: Progress, buf: &[u8], hold: &mut [u8], out: &mut [u8]) -> Progress
     requires { ⌜ p .left ≤ length (now buf) ⌝ }
     ensures { λ r. ⌜ stateAs r (now (buf .entry)) (now (hold .exit)) (now (out .exit))
         ≡ finished (stateAs p (now (buf .entry)) (now (hold .entry)) (now (out .entry))) ⌝ }
 {
     let account = last_piece(p, buf, hold, out);
-    Place {
+    Progress {
         begun: p.begun,
         left: p.left,
         account,
@@ -139,8 +139,8 @@ fn finish(p: Place, buf: &[u8], hold: &mut [u8], out: &mut [u8]) -> Place
     }
 }
 
-// What a read, made to the index left of the buffer, makes of the place, the buffer and the rooms.
-pub fn heard(p: Place, came: Came, buf: &mut [u8], hold: &mut [u8], out: &mut [u8]) -> Place
+// What a read, made to the index left of the buffer, makes of the progress, the buffer and the rooms.
+pub fn heard(p: Progress, came: Came, buf: &mut [u8], hold: &mut [u8], out: &mut [u8]) -> Progress
     requires { ⌜ Fits (p .left) (came .got) (length (now buf)) ⌝ }
     ensures { λ r. ⌜ stateAs r (now (buf .exit)) (now (hold .exit)) (now (out .exit))
         ≡ heardAs (came .got) (stateAs p (now (buf .entry)) (now (hold .entry)) (now (out .entry))) ⌝ }
@@ -153,7 +153,7 @@ pub fn heard(p: Place, came: Came, buf: &mut [u8], hold: &mut [u8], out: &mut [u
         Got::End => finish(p, buf, hold, out),
         Got::Failed => {
             let account = p.account;
-            Place {
+            Progress {
                 begun: p.begun,
                 left,
                 account,
@@ -164,13 +164,13 @@ pub fn heard(p: Place, came: Came, buf: &mut [u8], hold: &mut [u8], out: &mut [u
 }
 
 // Where the next read goes.
-pub fn left_of(p: Place) -> usize
+pub fn left_of(p: Progress) -> usize
     ensures { λ r. ⌜ r ≡ p .left ⌝ }
 {
     p.left
 }
 
-pub fn is_over(p: Place) -> bool
+pub fn is_over(p: Progress) -> bool
     ensures { λ r. ⌜ r ≡ isOver (p .stage) ⌝ }
 {
     let stage = p.stage;
@@ -182,7 +182,7 @@ pub fn is_over(p: Place) -> bool
 }
 
 // "input under 188 bytes prints only `no packets`"
-pub fn ending_of(p: Place) -> Ended
+pub fn ending_of(p: Progress) -> Ended
     ensures { λ r. ⌜ r ≡ endedOf p ⌝ }
 {
     let stage = p.stage;

@@ -1,8 +1,8 @@
--- `account::place::first_pid` meets its contract.
+-- `account::progress::first_pid` meets its contract.
 use native.Mathlib.Omega.{arith}
 use borrow.Author.Needs.{needs}
-use Rattle.account.proofs.place.first_pid.Statement.{statement}
-use Rattle.account.proofs.place.first_pid.Tie as tie
+use Rattle.account.proofs.progress.first_pid.Statement.{statement}
+use Rattle.account.proofs.progress.first_pid.Tie as tie
 
 shared-slice-read-result : tie.Need-shared-slice-read-result
 shared-slice-read-result c = search needs

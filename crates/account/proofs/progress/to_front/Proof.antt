@@ -1,4 +1,4 @@
--- `account::place::to_front` meets its contract: the bytes moved so far are right, and those behind them stand where they stood.
+-- `account::progress::to_front` meets its contract: the bytes moved so far are right, and those behind them stand where they stood.
 use mathlib.Core.Path.{_≡_, refl, sym, ap, _∙_}
 use mathlib.Core.List.{List, [], _∷_, _++_}
 use Prim.Native.Nat.{ℕ, _+_, _-_, _≤_, _<_}
@@ -7,8 +7,8 @@ use native.Mathlib.Omega.{arith}
 use lib.ListN.{length, take, drop, getD, set, length-set, length-drop, take-append-drop}
 use lib.Seq.{take-suc, take-suc-set, drop-set-lt, drop-drop, getD-drop}
 use Rattle.account.specs.Heard.{toFront}
-use Rattle.account.proofs.place.to_front.Statement.{statement}
-use Rattle.account.proofs.place.to_front.Tie as tie
+use Rattle.account.proofs.progress.to_front.Statement.{statement}
+use Rattle.account.proofs.progress.to_front.Tie as tie
 
 record Front (buf₀ : List ℕ) (from n : ℕ) (buf : List ℕ) (i : ℕ) : Type 0 where
   few : i ≤ n

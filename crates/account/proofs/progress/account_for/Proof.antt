@@ -1,12 +1,12 @@
--- `account::place::account_for` meets its contract.
+-- `account::progress::account_for` meets its contract.
 use mathlib.Core.Path.{sym, ap, _∙_}
 use mathlib.Core.Bool.{Bool}
 use borrow.Author.Needs.{needs}
 use Rattle.wire.specs.If.{if_then_else_}
 use Rattle.account.specs.Entered.{firstPid, freshAccount}
 use Rattle.account.specs.declared.tally.Account.{Account}
-use Rattle.account.proofs.place.account_for.Statement.{statement}
-use Rattle.account.proofs.place.account_for.Tie as tie
+use Rattle.account.proofs.progress.account_for.Statement.{statement}
+use Rattle.account.proofs.progress.account_for.Tie as tie
 
 abbrev account : tie.Start → Bool → Account
 account s begun = if begun then s .args .p .account else freshAccount (firstPid (s .args .bytes .now))

@@ -1,16 +1,16 @@
--- `account::place::ending_of` meets its contract.
+-- `account::progress::ending_of` meets its contract.
 use mathlib.Core.Path.{_≡_, sym}
 use mathlib.Core.Bool.{Bool, true, false}
 use borrow.Author.Needs.{needs}
 use borrow.Author.Tests.{not-true, not-false}
 use Rattle.account.specs.Heard.{endedBy, endedOf}
-use Rattle.account.specs.declared.place.Place.{Place}
-use Rattle.account.specs.declared.place.Stage.{Stage}
-use Rattle.account.specs.declared.place.Stage.the-variants.{Over}
-use Rattle.account.proofs.place.ending_of.Statement.{statement}
-use Rattle.account.proofs.place.ending_of.Tie as tie
+use Rattle.account.specs.declared.progress.Progress.{Progress}
+use Rattle.account.specs.declared.progress.Stage.{Stage}
+use Rattle.account.specs.declared.progress.Stage.the-variants.{Over}
+use Rattle.account.proofs.progress.ending_of.Statement.{statement}
+use Rattle.account.proofs.progress.ending_of.Tie as tie
 
-by-both : (p : Place) (s : Stage) (t : Bool) → p .stage ≡ s → p .begun ≡ t → endedBy s t (p .account) ≡ endedOf p
+by-both : (p : Progress) (s : Stage) (t : Bool) → p .stage ≡ s → p .begun ≡ t → endedBy s t (p .account) ≡ endedOf p
 by-both p s t e w = sym (λ i. endedBy (e i) (w i) (p .account))
 
 enum-told : tie.Need-enum-told

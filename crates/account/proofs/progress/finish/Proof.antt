@@ -1,9 +1,9 @@
--- `account::place::finish` meets its contract.
+-- `account::progress::finish` meets its contract.
 use mathlib.Core.Path.{ap}
 use borrow.Author.Needs.{needs}
 use Rattle.account.specs.Heard.{stateAs, finishedAs}
-use Rattle.account.proofs.place.finish.Statement.{statement}
-use Rattle.account.proofs.place.finish.Tie as tie
+use Rattle.account.proofs.progress.finish.Statement.{statement}
+use Rattle.account.proofs.progress.finish.Tie as tie
 
 last-piece-requires : tie.Need-last-piece-requires
 last-piece-requires c κs = search needs

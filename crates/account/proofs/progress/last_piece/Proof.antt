@@ -1,4 +1,4 @@
--- `account::place::last_piece` meets its contract.
+-- `account::progress::last_piece` meets its contract.
 use mathlib.Core.Path.{_≡_, sym, ap, _∙_}
 use mathlib.Core.Bool.{Bool, true, false}
 use mathlib.Core.List.{List}
@@ -12,11 +12,11 @@ use lib.Seq.{length-take-le}
 use Rattle.wire.specs.If.{if_then_else_}
 use Rattle.account.specs.Entered.{Kept, keptAs, entered}
 use Rattle.account.specs.Heard.{lastPiece}
-use Rattle.account.specs.declared.place.Place.{Place}
-use Rattle.account.proofs.place.last_piece.Statement.{statement}
-use Rattle.account.proofs.place.last_piece.Tie as tie
+use Rattle.account.specs.declared.progress.Progress.{Progress}
+use Rattle.account.proofs.progress.last_piece.Statement.{statement}
+use Rattle.account.proofs.progress.last_piece.Tie as tie
 
-module _ (p : Place) (buf hold out : List ℕ) where
+module _ (p : Progress) (buf hold out : List ℕ) where
   abbrev same : Kept
   same = keptAs (p .account) hold out
 

@@ -1,4 +1,4 @@
--- `account::place::absorb` meets its contract.
+-- `account::progress::absorb` meets its contract.
 use mathlib.Core.Path.{_≡_, sym, ap, _∙_}
 use mathlib.Core.Bool.{Bool}
 use mathlib.Core.List.{List}
@@ -7,25 +7,25 @@ use borrow.Author.Needs.{needs}
 use borrow.Author.Tests.{lt-ltb, le-ltb}
 use Rattle.wire.specs.If.{if_then_else_}
 use Rattle.account.specs.Entered.{Kept, keptAs, enteredAll, pieces}
-use Rattle.account.specs.Heard.{State, stateAs, placeAs, accountFor, toFront, waits, moved, absorbed}
+use Rattle.account.specs.Heard.{State, stateAs, progressAs, accountFor, toFront, waits, moved, absorbed}
 use Rattle.account.specs.declared.tally.Account.{Account}
-use Rattle.account.specs.declared.place.Stage.the-variants.{Reading}
+use Rattle.account.specs.declared.progress.Stage.the-variants.{Reading}
 use mathlib.Core.Bool.{true}
-use Rattle.account.proofs.place.absorb.Statement.{statement}
-use Rattle.account.proofs.place.absorb.Tie as tie
+use Rattle.account.proofs.progress.absorb.Statement.{statement}
+use Rattle.account.proofs.progress.absorb.Tie as tie
 
 module _ (n : ℕ) (s : State) where
   abbrev all : Kept
-  all = enteredAll (keptAs (accountFor (s .place) (s .buf)) (s .hold) (s .out)) (pieces (n / 188) (s .buf))
+  all = enteredAll (keptAs (accountFor (s .progress) (s .buf)) (s .hold) (s .out)) (pieces (n / 188) (s .buf))
 
   few : n < 188 → waits n s ≡ absorbed n s
   few k = ap (λ (t : Bool). if t then waits n s else moved n (s .buf) all) (sym (lt-ltb n 188 k))
 
   packets : 188 ≤ n → (a : Account) (buf hold out : List ℕ) → buf ≡ toFront (s .buf) (n - n % 188) (n % 188)
       → keptAs a hold out ≡ all
-      → stateAs (placeAs true (n % 188) a Reading) buf hold out ≡ absorbed n s
+      → stateAs (progressAs true (n % 188) a Reading) buf hold out ≡ absorbed n s
   packets k a buf hold out e w =
-      (λ i. stateAs (placeAs true (n % 188) (w i .account) Reading) (e i) (w i .hold) (w i .out))
+      (λ i. stateAs (progressAs true (n % 188) (w i .account) Reading) (e i) (w i .hold) (w i .out))
       ∙ ap (λ (t : Bool). if t then waits n s else moved n (s .buf) all) (sym (le-ltb n 188 k))
 
 returns : tie.Need-returns

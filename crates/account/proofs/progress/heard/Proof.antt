@@ -1,4 +1,4 @@
--- `account::place::heard` meets its contract.
+-- `account::progress::heard` meets its contract.
 use mathlib.Core.Path.{_≡_, sym, ap, _∙_, subst}
 use native.Mathlib.Omega.{arith}
 use borrow.Author.Needs.{needs}
@@ -6,8 +6,8 @@ use lib.ListN.{length}
 use Rattle.account.specs.Heard.{Fits, State, stateAs, heardAs}
 use Rattle.account.specs.declared.reading.Got.{Got}
 use Rattle.account.specs.declared.reading.Got.the-variants.{Bytes, Again, End, Failed}
-use Rattle.account.proofs.place.heard.Statement.{statement}
-use Rattle.account.proofs.place.heard.Tie as tie
+use Rattle.account.proofs.progress.heard.Statement.{statement}
+use Rattle.account.proofs.progress.heard.Tie as tie
 
 -- the start, from where the read's outcome is told, and the state there
 abbrev start : tie.After-got-of → tie.Start
