@@ -67,7 +67,7 @@ by-ruling before r hold out Ruled.bare = none-out out
 by-ruling before r hold out (takes q) =
     front-out (deliveredOf (storyOf r hold q)) out
     (sections-each delivers plain delivered WholeSection (storyOf r hold q .sections)
-    (whole-taken (beforeOf r) (take (r .in_hand) hold) q))
+    (whole-taken delivers (beforeOf r) (take (r .in_hand) hold) q))
 
 pub hands-out-all : HandsOutAll Promised
 unfolding collecting

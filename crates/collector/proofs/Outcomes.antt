@@ -1,4 +1,5 @@
--- From the code's answer for a packet's payload to the outcome of the call.
+-- From the code's answer for a packet's payload to the outcome of the call. What a whole section comes to is left open for
+-- the payload's story; the outcome is at today's value, by which the code counts and answers as delivered what it copies.
 use mathlib.Core.Path.{_≡_, refl, sym, ap, _∙_, subst}
 use mathlib.Core.Bool.{Bool, true, false}
 use mathlib.Core.List.{List, [], _∷_, _++_, map, map-id, flatten}
@@ -8,7 +9,7 @@ use native.Mathlib.Omega.{arith}
 use lib.ListN.{length, take, drop, length-append}
 use Rattle.wire.specs.If.{if_then_else_}
 use Rattle.copy.specs.Laid.{over}
-use Rattle.collector.specs.Rules.{Kind, pointer, delivered, broken, Fate, in-hand, done, Story, sameFate, bytesOf, countOf, handOf, marked, given, brokenOff, holding, breaking, kindOf, joined, plain, goesOn, payload, delivers}
+use Rattle.collector.specs.Rules.{Kind, pointer, delivered, broken, Fate, in-hand, done, Story, sameKind, sameFate, bytesOf, countOf, handOf, marked, given, brokenOff, holding, breaking, kindOf, joined, plain, goesOn, payload, delivers}
 use Rattle.collector.specs.Answer as Answer
 use Rattle.collector.specs.Answer.{came}
 use Rattle.collector.specs.Collected.{bytesCounted, recordWith, recordAfter, deliveredOf, outcomeAfter}
@@ -25,33 +26,6 @@ use Rattle.collector.proofs.Simulation.{Beside, beside-payload}
 use Rattle.collector.proofs.Invariants.{keep-goes, keep-sections, keep-payload}
 use Rattle.collector.proofs.StoryLaws.{Any, Kept, keeps-kept, points-kept, kept-holding, all-delivered, delivered-in, keeps-points}
 use Rattle.collector.proofs.PayloadLaws.{plain-sections, any, same-hand, more-sections, small-of}
-
--- ---- the story of a payload
-
-pub kept-payload : (start : Bool) (h bs : List ℕ) → Kept delivers plain (h ++ bs) (payload delivers plain start (holding h) bs)
-kept-payload start h bs =
-    keep-payload delivers plain Any (Kept delivers plain) (keeps-kept delivers plain) (points-kept delivers plain) start
-    h (holding h) bs (any bs) (kept-holding delivers plain h)
-
--- the pointer byte is counted once
-no-point : (h : List ℕ) → countOf (done pointer) (marked in-hand h) ≡ 0
-no-point h = ap length (bytesOf-marked (done pointer) in-hand h)
-
-points-payload : (start : Bool) (h bs : List ℕ) → 0 < length bs
-    → countOf (done pointer) (payload delivers plain start (holding h) bs .marks) ≡ pointCount start
-points-payload false h bs k =
-    keep-goes delivers plain Any _ (keeps-points delivers plain (λ bs. refl) 0) h (holding h) bs (any bs) (no-point h)
-points-payload true h [] k = absurd (omega arith)
-points-payload true h (p ∷ bs) k =
-    let first : countOf (done pointer) (given (done pointer) p (holding h) .marks) ≡ 1 =
-    ap length (bytesOf-more (done pointer) (done pointer) (marked in-hand h) (p ∷ []))
-    ∙ length-append (bytesOf (done pointer) (marked in-hand h)) (p ∷ [])
-    ∙ ap (λ (n : ℕ). n + 1) (no-point h) in
-    let f : Story ℕ = goesOn delivers plain (given (done pointer) p (holding h)) (take p bs) in
-    let y = keep-goes delivers plain Any _ (keeps-points delivers plain (λ bs. refl) 1) []
-    (given (done pointer) p (holding h)) (take p bs) (any (take p bs)) first in
-    keep-sections delivers plain Any _ (keeps-points delivers plain (λ bs. refl) 1) [] (brokenOff f) (drop p bs)
-    (any (drop p bs)) (keeps-points delivers plain (λ bs. refl) 1 .breaks [] f y)
 
 -- ---- what a break in the counter takes stays apart from the packet
 
@@ -83,21 +57,49 @@ beside-itself s = record {
   counts = λ f e. sym (zero-add (countOf f (s .marks))) ∙ ap (λ (n : ℕ). n + countOf f (s .marks)) (none-lost f);
 }
 
-beside-break : (start : Bool) (h bs : List ℕ)
-    → Beside plain (lost (length h)) [] (payload delivers plain start (holding []) bs)
-    (payload delivers plain start (brokenOff (holding h)) bs)
-beside-break start h bs =
-    subst
-    (λ (z : List ℕ). Beside plain (lost (length h)) [] (payload delivers plain start (holding []) z)
-    (payload delivers plain start (brokenOff (holding h)) bs))
-    (map-id bs)
-    (beside-payload delivers plain (lost (length h)) [] start (holding []) (brokenOff (holding h)) bs (record {
-      hand = ap (map plain) (settled-hand (done broken) refl (marked in-hand h));
-      sections = refl;
-      counts = λ f e. lost-count h f ∙ sym (add-zero (lost (length h) f));
-    }))
+-- ---- the story of a payload, whatever a whole section comes to
 
--- ---- the outcome
+no-point : (h : List ℕ) → countOf (done pointer) (marked in-hand h) ≡ 0
+no-point h = ap length (bytesOf-marked (done pointer) in-hand h)
+
+module _ (comes : List ℕ → Kind) where
+  pub kept-payload : (start : Bool) (h bs : List ℕ) → Kept comes plain (h ++ bs) (payload comes plain start (holding h) bs)
+  kept-payload start h bs =
+      keep-payload comes plain Any (Kept comes plain) (keeps-kept comes plain) (points-kept comes plain) start
+      h (holding h) bs (any bs) (kept-holding comes plain h)
+
+  -- the pointer byte is counted once, where no section comes to the kind of a pointer
+  points-payload : ((bs : List ℕ) → sameKind pointer (comes bs) ≡ false) → (start : Bool) (h bs : List ℕ) → 0 < length bs
+      → countOf (done pointer) (payload comes plain start (holding h) bs .marks) ≡ pointCount start
+  points-payload none-points false h bs k =
+      keep-goes comes plain Any _ (keeps-points comes plain none-points 0) h (holding h) bs (any bs) (no-point h)
+  points-payload none-points true h [] k = absurd (omega arith)
+  points-payload none-points true h (p ∷ bs) k =
+      let first : countOf (done pointer) (given (done pointer) p (holding h) .marks) ≡ 1 =
+      ap length (bytesOf-more (done pointer) (done pointer) (marked in-hand h) (p ∷ []))
+      ∙ length-append (bytesOf (done pointer) (marked in-hand h)) (p ∷ [])
+      ∙ ap (λ (n : ℕ). n + 1) (no-point h) in
+      let f : Story ℕ = goesOn comes plain (given (done pointer) p (holding h)) (take p bs) in
+      let y = keep-goes comes plain Any _ (keeps-points comes plain none-points 1) []
+      (given (done pointer) p (holding h)) (take p bs) (any (take p bs)) first in
+      keep-sections comes plain Any _ (keeps-points comes plain none-points 1) [] (brokenOff f) (drop p bs)
+      (any (drop p bs)) (keeps-points comes plain none-points 1 .breaks [] f y)
+
+  beside-break : (start : Bool) (h bs : List ℕ)
+      → Beside plain (lost (length h)) [] (payload comes plain start (holding []) bs)
+      (payload comes plain start (brokenOff (holding h)) bs)
+  beside-break start h bs =
+      subst
+      (λ (z : List ℕ). Beside plain (lost (length h)) [] (payload comes plain start (holding []) z)
+      (payload comes plain start (brokenOff (holding h)) bs))
+      (map-id bs)
+      (beside-payload comes plain (lost (length h)) [] start (holding []) (brokenOff (holding h)) bs (record {
+        hand = ap (map plain) (settled-hand (done broken) refl (marked in-hand h));
+        sections = refl;
+        counts = λ f e. lost-count h f ∙ sym (add-zero (lost (length h) f));
+      }))
+
+-- ---- the outcome, at today's value: what the code answers as handed out is what it counts as delivered
 
 module _ (r : Record) (hold out : List ℕ) (counter : ℕ) (start : Bool) (h bs : List ℕ) (some : 0 < length bs) (e : Gain)
     (hold′ out′ : List ℕ) where
@@ -105,15 +107,18 @@ module _ (r : Record) (hold out : List ℕ) (counter : ℕ) (start : Bool) (h bs
   s = payload delivers plain start (holding h) bs
 
   pub small : Ends s hold out 0 hold′ out′ e → length h + length bs ≤ 5000 → Small e
-  small x w = small-of (h ++ bs) s (kept-payload start h bs) (omega (arith, length-append h bs)) x
+  small x w = small-of (h ++ bs) s (kept-payload delivers start h bs) (omega (arith, length-append h bs)) x
 
   -- the bytes of each kind that the packet adds are those of its story, and those that a break took
   adds : Ends s hold out 0 hold′ out′ e → (n : ℕ) (S : Story ℕ) → Beside plain (lost n) [] s S → (k : Kind)
       → addedBy e n start k ≡ countOf (done k) (S .marks)
   adds x n S b =
       added-by e n start (λ k. countOf (done k) (S .marks))
-      (sym (points-payload start h bs some) ∙ sym (zero-add _) ∙ sym (b .counts (done pointer) refl))
-      (x .bytes ∙ sym (delivered-in plain (h ++ bs) s (kept-payload start h bs)) ∙ sym (zero-add _) ∙ sym (b .counts (done delivered) refl))
+      (sym (points-payload delivers (λ l. refl) start h bs some) ∙ sym (zero-add _) ∙ sym (b .counts (done pointer) refl))
+      (x .bytes
+      ∙ sym (delivered-in plain (h ++ bs) s (kept-payload delivers start h bs))
+      ∙ sym (zero-add _)
+      ∙ sym (b .counts (done delivered) refl))
       (ap (λ (z : ℕ). n + z) (x .counts breaking) ∙ sym (b .counts (done broken) refl))
       (λ rest o. x .counts rest
       ∙ sym (zero-add _)
@@ -162,19 +167,19 @@ module _ (r : Record) (hold out : List ℕ) (counter : ℕ) (start : Bool) (bs :
   comes-broken : r .in_hand ≡ length hand → Ends (payload delivers plain start (holding []) bs) hold out 0 hold′ out′ e
       → r′ ≡ countedOf r counter e (r .in_hand) start → Comes false
   comes-broken l x w =
-      taken-to r hold out counter start [] bs some e hold′ out′ x (length hand) _ (beside-break start hand bs) r′
+      taken-to r hold out counter start [] bs some e hold′ out′ x (length hand) _ (beside-break delivers start hand bs) r′
       (w ∙ ap (λ (z : ℕ). countedOf r counter e z start) l)
 
-  pub comes : (next : Bool) (n : ℕ) → n ≡ keptOf next (r .in_hand) → r .in_hand ≡ length hand
+  pub outcome-is : (next : Bool) (n : ℕ) → n ≡ keptOf next (r .in_hand) → r .in_hand ≡ length hand
       → Ends (payload delivers plain start (holding (take n hold)) bs) hold out 0 hold′ out′ e
       → r′ ≡ countedOf r counter e (r .in_hand - n) start → Comes next
-  comes true n k l x w =
+  outcome-is true n k l x w =
       let none : r .in_hand - n ≡ 0 = omega arith in
       comes-next
       (subst (λ (z : ℕ). Ends (payload delivers plain start (holding (take z hold)) bs) hold out 0 hold′ out′ e) k
       x)
       (w ∙ ap (λ (z : ℕ). countedOf r counter e z start) none)
-  comes false n k l x w =
+  outcome-is false n k l x w =
       let all : r .in_hand - n ≡ r .in_hand = omega arith in
       comes-broken l
       (subst (λ (z : ℕ). Ends (payload delivers plain start (holding (take z hold)) bs) hold out 0 hold′ out′ e) k

@@ -15,7 +15,7 @@ use Rattle.wire.specs.Each.{Each}
 use Rattle.wire.specs.Sections.{totalOf, WholeSection}
 use Rattle.copy.specs.Laid.{over}
 use Rattle.packet.specs.Ruling.{Before, Carried, repeats, Ruling, repeated, takes, loadOf, ruledBy, ruling}
-use Rattle.collector.specs.Rules.{Fate, in-hand, done, Story, sameFate, countOf, handOf, marked, holding, plain, storyAfter, delivered, sectionsOf, delivers}
+use Rattle.collector.specs.Rules.{Kind, Fate, in-hand, done, Story, sameFate, countOf, handOf, marked, holding, plain, storyAfter, delivered, sectionsOf, delivers}
 use Rattle.packet.specs.Refusals.{Judged, refuse, has-payload, judged}
 use Rattle.collector.specs.Refusals.{beforeOf, cannotStand, tooSmall}
 use Rattle.packet.specs.Refusals as Refusals
@@ -56,11 +56,11 @@ plain-whole [] x = tt
 plain-whole (s ∷ secs) x = (subst WholeSection (map-id s) (x .0), plain-whole secs (x .1))
 
 -- the sections that a packet finishes are whole
-pub whole-taken : (before : Before) (h : List ℕ) (q : Carried ℕ)
-    → Each WholeSection (storyAfter delivers plain before (holding h) q .sections)
-whole-taken before h q =
-    plain-whole (storyAfter delivers plain before (holding h) q .sections)
-    (keep-taken delivers plain Any (AllWhole delivers plain) (keeps-whole delivers plain) (λ b l s r x. x) before h (holding h) q
+pub whole-taken : (comes : List ℕ → Kind) (before : Before) (h : List ℕ) (q : Carried ℕ)
+    → Each WholeSection (storyAfter comes plain before (holding h) q .sections)
+whole-taken comes before h q =
+    plain-whole (storyAfter comes plain before (holding h) q .sections)
+    (keep-taken comes plain Any (AllWhole comes plain) (keeps-whole comes plain) (λ b l s r x. x) before h (holding h) q
     (any (q .bytes)) tt)
 
 -- ---- what a ruling tells of a packet that is taken with payload
@@ -153,26 +153,26 @@ module _ {pid size : ℕ} {r : Record} {hold : List ℕ} {h : History} (g : Agre
     counts = λ f e. sym (add-zero (base f)) ∙ ap (λ (n : ℕ). base f + n) (sym (none-other f e));
   }
 
-  -- a packet that is taken with payload
-  module _ (q : Carried ℕ) where
+  -- a packet that is taken with payload, whatever a whole section comes to
+  module _ (comes : List ℕ → Kind) (q : Carried ℕ) where
     abbrev s : Story ℕ
-    s = storyAfter delivers plain (h .before) (holding hand) q
+    s = storyAfter comes plain (h .before) (holding hand) q
 
     -- the packet's own story stands beside the history that goes on
-    beside-after : Beside valueOf base secs s (historyAfter delivers h q .story)
+    beside-after : Beside valueOf base secs s (historyAfter comes h q .story)
     beside-after =
         subst
         (λ (bs : List ℕ). Beside valueOf base secs
-        (storyAfter delivers plain (h .before) (holding hand) (record { counter = q .counter; start = q .start; bytes = bs }))
-        (historyAfter delivers h q .story))
+        (storyAfter comes plain (h .before) (holding hand) (record { counter = q .counter; start = q .start; bytes = bs }))
+        (historyAfter comes h q .story))
         (values-of (h .packets) (q .bytes))
-        (beside-taken delivers valueOf base secs (h .before) (holding hand) (h .story) (numberedIn (h .packets) q) beside)
+        (beside-taken comes valueOf base secs (h .before) (holding hand) (h .story) (numberedIn (h .packets) q) beside)
 
     standing-after : Standing (handOf s)
-    standing-after = stands-taken delivers (h .before) hand q (subst Standing (sym (g .counted .hold-is)) (g .standing))
+    standing-after = stands-taken comes (h .before) hand q (subst Standing (sym (g .counted .hold-is)) (g .standing))
 
     agrees-taken : (q .counter ≤ 15) × (4096 ≤ size)
-        → Agrees pid size (recordAfter r (q .counter) s) (over (handOf s) hold) (historyAfter delivers h q)
+        → Agrees pid size (recordAfter r (q .counter) s) (over (handOf s) hold) (historyAfter comes h q)
     agrees-taken x =
         let b = beside-after in
         let few = few-standing (handOf s) standing-after in
@@ -197,19 +197,20 @@ module _ {pid size : ℕ} {r : Record} {hold : List ℕ} {h : History} (g : Agre
                 (λ j. (bytesCounted (done j) r + countOf (done j) (s .marks)) % 2 ^ 32) k
                 ∙ runs-round (bytesCounted (done k) r) (base (done k)) (countOf (done k) (s .marks)) _
                 (g .counted .counters-are k) (b .counts (done k) refl);
-            in-hand-is = ap length (sym (b .hand)) ∙ map-long (handOf (historyAfter delivers h q .story));
+            in-hand-is = ap length (sym (b .hand)) ∙ map-long (handOf (historyAfter comes h q .story));
             hold-is = take-append-seam (handOf s) (drop (length (handOf s)) hold) ∙ sym (b .hand);
           };
           standing = subst Standing (sym (b .hand)) standing-after;
         }
 
-    sections-taken : map (map valueOf) (deliveredIn (historyAfter delivers h q .story))
-        ≡ map (map valueOf) (deliveredIn (h .story)) ++ deliveredOf s
-    sections-taken =
-        sections-values delivers valueOf delivered (historyAfter delivers h q .story .sections)
-        ∙ ap (sectionsOf delivers plain delivered) (beside-after .sections)
-        ∙ sections-more delivers plain delivered secs (s .sections)
-        ∙ ap (λ (l : List (List ℕ)). l ++ deliveredOf s) (sym (sections-values delivers valueOf delivered (h .story .sections)))
+    sections-taken : (k : Kind) → map (map valueOf) (sectionsOf comes valueOf k (historyAfter comes h q .story .sections))
+        ≡ map (map valueOf) (sectionsOf comes valueOf k (h .story .sections)) ++ sectionsOf comes plain k (s .sections)
+    sections-taken k =
+        sections-values comes valueOf k (historyAfter comes h q .story .sections)
+        ∙ ap (sectionsOf comes plain k) (beside-after .sections)
+        ∙ sections-more comes plain k secs (s .sections)
+        ∙ ap (λ (l : List (List ℕ)). l ++ sectionsOf comes plain k (s .sections))
+        (sym (sections-values comes valueOf k (h .story .sections)))
 
 -- ---- one call
 
@@ -225,20 +226,21 @@ record Went (pid size : ℕ) (h : History) (z : Ruling) (o : Outcome) : Type 0 w
 
 module _ {pid size : ℕ} {r : Record} {hold : List ℕ} {h : History} (g : Agrees pid size r hold h) (out : List ℕ) where
   went-taken : (q : Carried ℕ) → (q .counter ≤ 15) × (4096 ≤ size)
-      → Went pid size h (takes q) (outcomeAfter r hold out (q .counter) (s g q))
+      → Went pid size h (takes q) (outcomeAfter r hold out (q .counter) (s g delivers q))
   went-taken q x =
-      let secs : List (List ℕ) = deliveredOf (s g q) in
+      let secs : List (List ℕ) = deliveredOf (s g delivers q) in
       let front : take (length (flatten secs)) (over (flatten secs) out) ≡ flatten secs =
       take-append-seam (flatten secs) (drop (length (flatten secs)) out) in
       let given : cut (length secs) (take (length (flatten secs)) (over (flatten secs) out)) ≡ secs =
       ap (cut (length secs)) front
-      ∙ cut-whole secs (sections-each delivers plain delivered WholeSection (s g q .sections) (whole-taken (h .before) (hand g) q)) in
+      ∙ cut-whole secs (sections-each delivers plain delivered WholeSection (s g delivers q .sections)
+      (whole-taken delivers (h .before) (hand g) q)) in
       record {
         fare = refl;
-        agrees = agrees-taken g q x;
+        agrees = agrees-taken g delivers q x;
         before = refl;
         sections =
-            sections-taken g q ∙ ap (λ (l : List (List ℕ)). map (map valueOf) (deliveredIn (h .story)) ++ l) (sym given);
+            sections-taken g delivers q delivered ∙ ap (λ (l : List (List ℕ)). map (map valueOf) (deliveredIn (h .story)) ++ l) (sym given);
         bytes = ap flatten given ∙ sym front;
         told = ap (λ (l : List (List ℕ)). length (flatten l)) given;
       }
@@ -289,10 +291,10 @@ module _ {pid size : ℕ} {r : Record} {hold : List ℕ} {h : History} (g : Agre
 
 -- ---- a run of calls
 
-history-append : (h : History) (a c : List (Carried ℕ))
-    → historyFrom delivers h (a ++ c) ≡ historyFrom delivers (historyFrom delivers h a) c
-history-append h [] c = refl
-history-append h (q ∷ a) c = history-append (historyAfter delivers h q) a c
+history-append : (comes : List ℕ → Kind) (h : History) (a c : List (Carried ℕ))
+    → historyFrom comes h (a ++ c) ≡ historyFrom comes (historyFrom comes h a) c
+history-append comes h [] c = refl
+history-append comes h (q ∷ a) c = history-append comes (historyAfter comes h q) a c
 
 pub record Ran (pid size : ℕ) (h : History) (ks : List Call) (r′ : Record) (hold′ : List ℕ) : Type 0 where
   pub fares : map (λ k. fareOf (k .said)) ks ≡ faresFrom pid size (h .before) (map lentOf ks)
@@ -313,7 +315,7 @@ ran {pid} {size} {r′ = r′} {hold′ = hold′} (one-call {k = k} {ks = ks} c
     let from : historyFrom delivers h₁ (ruledTaken pid size (h₁ .before) (map lentOf ks))
     ≡ historyFrom delivers h (ruledIn z ++ ruledTaken pid size (beforeAfter (h .before) z) (map lentOf ks)) =
     ap (λ (l : Before). historyFrom delivers h₁ (ruledTaken pid size l (map lentOf ks))) (w .before)
-    ∙ sym (history-append h (ruledIn z) (ruledTaken pid size (beforeAfter (h .before) z) (map lentOf ks))) in
+    ∙ sym (history-append delivers h (ruledIn z) (ruledTaken pid size (beforeAfter (h .before) z) (map lentOf ks))) in
     record {
       fares = (λ i. w .fare i ∷ x .fares i)
           ∙ ap (λ (l : Before). ruledFare z ∷ faresFrom pid size l (map lentOf ks)) (w .before);

@@ -10,7 +10,7 @@ use Rattle.wire.specs.If.{if_then_else_}
 use Rattle.wire.specs.Each.{Each}
 use Rattle.packet.specs.Ruling.{Before, follows, Carried, repeats, repeated, takes, loadOf, ruledBy}
 use Rattle.wire.specs.Sections.{WholeSection}
-use Rattle.collector.specs.Rules.{pointer, broken, done, in-hand, Story, bytesOf, countOf, handOf, marked, given, brokenOff, finished, holding, Mode, begin, inside, outside, filling, Next, Size, going, whole, too-long, sizeOf, plain, begun, grown, resumed, joined, byteIn, stretch, goesOn, sectionsIn, payload, storyAfter, delivered, Kind, delivers}
+use Rattle.collector.specs.Rules.{pointer, broken, done, in-hand, Story, bytesOf, sameKind, countOf, handOf, marked, given, brokenOff, finished, holding, Mode, begin, inside, outside, filling, Next, Size, going, whole, too-long, sizeOf, plain, begun, grown, resumed, joined, byteIn, stretch, goesOn, sectionsIn, payload, storyAfter, delivered, Kind, delivers}
 use Rattle.packet.specs.Refusals.{Judged, refuse, has-payload, judged}
 use Rattle.collector.specs.Refusals.{beforeOf, cannotStand, tooSmall}
 use Rattle.packet.specs.Refusals as Refusals
@@ -34,20 +34,21 @@ no-pointer true h = ap length (bytesOf-marked (done pointer) in-hand h)
 no-pointer false h =
     ap length (settled-other (done broken) (done pointer) refl refl (marked in-hand h) ∙ bytesOf-marked (done pointer) in-hand h)
 
-one-pointer : (s : Story ℕ) (p : ℕ) (bs : List ℕ) → countOf (done pointer) (s .marks) ≡ 0
-    → countOf (done pointer) (payload delivers plain true s (p ∷ bs) .marks) ≡ 1
-one-pointer s p bs e =
+one-pointer : (comes : List ℕ → Kind) → ((bs : List ℕ) → sameKind pointer (comes bs) ≡ false) → (s : Story ℕ) (p : ℕ) (bs : List ℕ)
+    → countOf (done pointer) (s .marks) ≡ 0
+    → countOf (done pointer) (payload comes plain true s (p ∷ bs) .marks) ≡ 1
+one-pointer comes none-points s p bs e =
     let first : countOf (done pointer) (given (done pointer) p s .marks) ≡ 1 =
     omega (
       arith,
       ap length (bytesOf-more (done pointer) (done pointer) (s .marks) (p ∷ [])),
       length-append (bytesOf (done pointer) (s .marks)) (p ∷ []),
     ) in
-    let f : Story ℕ = goesOn delivers plain (given (done pointer) p s) (take p bs) in
-    let y = keep-goes delivers plain Any _ (keeps-points delivers plain (λ bs. refl) 1) [] (given (done pointer) p s)
+    let f : Story ℕ = goesOn comes plain (given (done pointer) p s) (take p bs) in
+    let y = keep-goes comes plain Any _ (keeps-points comes plain none-points 1) [] (given (done pointer) p s)
     (take p bs) (any (take p bs)) first in
-    keep-sections delivers plain Any _ (keeps-points delivers plain (λ bs. refl) 1) [] (brokenOff f) (drop p bs) (any (drop p bs))
-    (keeps-points delivers plain (λ bs. refl) 1 .breaks [] f y)
+    keep-sections comes plain Any _ (keeps-points comes plain none-points 1) [] (brokenOff f) (drop p bs) (any (drop p bs))
+    (keeps-points comes plain none-points 1 .breaks [] f y)
 
 -- ---- without it: at most one section ends
 
@@ -66,18 +67,6 @@ one-begun : (t : Bool) (b : ℕ) (s : Story ℕ) → s .sections ≡ [] → One 
 one-begun true b s x = omega (arith, ap length x)
 one-begun false b s x = x
 
-one-byte : (m : Mode) (b : ℕ) (s : Story ℕ) → One m s
-    → One (byteIn delivers plain (outside filling) m b s .mode) (byteIn delivers plain (outside filling) m b s .story)
-one-byte begin b s x = one-begun (eqb b 255) b s x
-one-byte inside b s x = one-grown delivered (sizeOf (map plain (handOf s ++ (b ∷ [])))) (given in-hand b s) x
-one-byte (outside m) b s x = x
-
-one-stretch : (n : Next ℕ) (bs : List ℕ) → One (n .mode) (n .story)
-    → One (stretch delivers plain (outside filling) n bs .mode) (stretch delivers plain (outside filling) n bs .story)
-one-stretch n [] x = x
-one-stretch n (b ∷ bs) x =
-    one-stretch (byteIn delivers plain (outside filling) (n .mode) b (n .story)) bs (one-byte (n .mode) b (n .story) x)
-
 one-most : (m : Mode) (s : Story ℕ) → One m s → length (s .sections) ≤ 1
 one-most begin s x = omega (arith, ap length x)
 one-most inside s x = omega (arith, ap length x)
@@ -87,11 +76,26 @@ one-resumed : (h : List ℕ) (s : Story ℕ) → s .sections ≡ [] → One (res
 one-resumed [] s x = omega (arith, ap length x)
 one-resumed (b ∷ h) s x = x
 
-one-goes : (s : Story ℕ) (bs : List ℕ) → s .sections ≡ [] → length (goesOn delivers plain s bs .sections) ≤ 1
-one-goes s bs x =
-    let n : Next ℕ = record { mode = resumed (handOf s); story = s } in
-    let m : Next ℕ = stretch delivers plain (outside filling) n bs in
-    one-most (m .mode) (m .story) (one-stretch n bs (one-resumed (handOf s) s x))
+module _ (comes : List ℕ → Kind) where
+  one-byte : (m : Mode) (b : ℕ) (s : Story ℕ) → One m s
+      → One (byteIn comes plain (outside filling) m b s .mode) (byteIn comes plain (outside filling) m b s .story)
+  one-byte begin b s x = one-begun (eqb b 255) b s x
+  one-byte inside b s x =
+      let run : List ℕ = map plain (handOf s ++ (b ∷ [])) in
+      one-grown (comes run) (sizeOf run) (given in-hand b s) x
+  one-byte (outside m) b s x = x
+
+  one-stretch : (n : Next ℕ) (bs : List ℕ) → One (n .mode) (n .story)
+      → One (stretch comes plain (outside filling) n bs .mode) (stretch comes plain (outside filling) n bs .story)
+  one-stretch n [] x = x
+  one-stretch n (b ∷ bs) x =
+      one-stretch (byteIn comes plain (outside filling) (n .mode) b (n .story)) bs (one-byte (n .mode) b (n .story) x)
+
+  one-goes : (s : Story ℕ) (bs : List ℕ) → s .sections ≡ [] → length (goesOn comes plain s bs .sections) ≤ 1
+  one-goes s bs x =
+      let n : Next ℕ = record { mode = resumed (handOf s); story = s } in
+      let m : Next ℕ = stretch comes plain (outside filling) n bs in
+      one-most (m .mode) (m .story) (one-stretch n bs (one-resumed (handOf s) s x))
 
 none-yet : (t : Bool) (h : List ℕ) → joined t (holding h) .sections ≡ []
 none-yet true h = refl
@@ -103,7 +107,7 @@ whole-most [] k x = omega arith
 whole-most (s ∷ []) k x = omega (arith, x .0 .exact, x .0 .limit, length-append s [])
 whole-most (s ∷ z ∷ secs) k x = absurd (omega arith)
 
--- ---- a packet
+-- ---- a packet, at today's value: what is handed out is every byte of the whole sections
 
 most-in : (before : Before) (h : List ℕ) (q : Carried ℕ) (start : Bool) (bs : List ℕ) → q .start ≡ start → q .bytes ≡ bs
     → length h ≤ 4095 → 0 < length bs → length bs ≤ 184
@@ -111,9 +115,9 @@ most-in : (before : Before) (h : List ℕ) (q : Carried ℕ) (start : Bool) (bs 
 most-in before h q false bs e w few some long =
     let one : length (storyAfter delivers plain before (holding h) q .sections) ≤ 1 =
     rw e
-    (one-goes (joined (follows before (q .counter)) (holding h)) (q .bytes)
+    (one-goes delivers (joined (follows before (q .counter)) (holding h)) (q .bytes)
     (none-yet (follows before (q .counter)) h)) in
-    omega (arith, whole-most (storyAfter delivers plain before (holding h) q .sections) one (whole-taken before h q))
+    omega (arith, whole-most (storyAfter delivers plain before (holding h) q .sections) one (whole-taken delivers before h q))
 most-in before h q true [] e w few some long = absurd (omega arith)
 most-in before h q true (p ∷ bs) e w few some long =
     let s : Story ℕ = storyAfter delivers plain before (holding h) q in
@@ -122,7 +126,7 @@ most-in before h q true (p ∷ bs) e w few some long =
     (any (q .bytes)) (kept-holding delivers plain h) in
     let point : countOf (done pointer) (s .marks) ≡ 1 =
     rw (e, w)
-    (one-pointer (joined (follows before (q .counter)) (holding h)) p bs
+    (one-pointer delivers (λ l. refl) (joined (follows before (q .counter)) (holding h)) p bs
     (no-pointer (follows before (q .counter)) h)) in
     omega (
       arith,

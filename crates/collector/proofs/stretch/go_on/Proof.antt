@@ -1,14 +1,16 @@
--- `collector::stretch::go_on` meets its contract: each way out is a law of `Goes`.
+-- `collector::stretch::go_on` meets its contract: each way out is a law of `StretchInHand`.
 use Prim.Native.Nat.{ℕ, _+_, _≤_, _<_}
 use native.Mathlib.Omega.{arith}
 use borrow.Author.Needs.{needs}
+use Rattle.collector.specs.Rules.{delivers}
+use Rattle.collector.proofs.SectionLoop.{delivers-apart}
 use Rattle.collector.proofs.StretchInHand.{Given, end-none, going-in, end-kept, end-dropped, end-over, whole-in, end-whole}
 use Rattle.collector.proofs.stretch.go_on.Statement.{statement}
 use Rattle.collector.proofs.stretch.go_on.Tie as tie
 
 -- what is given at the start
-given : (s : tie.Start) → Given (s .args .hold .now) (s .args .packet .now) (s .args .n) (s .args .from) (s .args .m)
-given s = record { in-hold = omega arith; in-packet = omega arith; stands = s .pre .1 }
+given : (s : tie.Start) → Given delivers (s .args .hold .now) (s .args .packet .now) (s .args .n) (s .args .from) (s .args .m)
+given s = record { apart = delivers-apart; in-hold = omega arith; in-packet = omega arith; stands = s .pre .1 }
 
 -- the start, from where the look stands
 abbrev start : tie.After-looked → tie.Start

@@ -4,12 +4,13 @@ use Prim.Native.Nat.{ℕ, _-_, _≤_}
 use native.Mathlib.Omega.{arith}
 use borrow.Author.Needs.{needs}
 use lib.ListN.{length}
-use Rattle.collector.proofs.SectionLoop.{Reached, none-yet, end-all, end-filler, end-going, end-over, whole-in, again}
+use Rattle.collector.specs.Rules.{delivers}
+use Rattle.collector.proofs.SectionLoop.{delivers-apart, Reached, none-yet, end-all, end-filler, end-going, end-over, whole-in, again}
 use Rattle.collector.proofs.stretch.sections.Statement.{statement}
 use Rattle.collector.proofs.stretch.sections.Tie as tie
 
 abbrev Inv-loop : tie.InvT-loop
-Inv-loop packet from hold₀ out₀ at i₀ o₀ n₀ hold out i o n = Reached packet from hold₀ out₀ at hold out i o n
+Inv-loop packet from hold₀ out₀ at i₀ o₀ n₀ hold out i o n = Reached delivers packet from hold₀ out₀ at hold out i o n
 
 abbrev μ-loop : tie.MeasureT-loop
 μ-loop packet from hold₀ out₀ at i₀ o₀ n₀ hold out i o n = length packet - i
@@ -17,7 +18,7 @@ abbrev μ-loop : tie.MeasureT-loop
 loop-holds : tie.Need-loop-holds Inv-loop μ-loop
 loop-holds c =
     let a = c .before .before .before .args in
-    none-yet (a .packet .now) (a .from) (a .hold .now) (a .out .now) (a .at) (omega arith) (omega arith)
+    none-yet delivers delivers-apart (a .packet .now) (a .from) (a .hold .now) (a .out .now) (a .at) (omega arith) (omega arith)
 
 sub-left : tie.Need-sub-left Inv-loop μ-loop
 sub-left c = search needs

@@ -6,7 +6,7 @@ use native.Mathlib.Omega.{arith}
 use borrow.Author.Needs.{needs}
 use lib.ListN.{length, take, drop, length-take, length-drop}
 use lib.Seq.{length-take-le}
-use Rattle.collector.proofs.Outcomes.{small, comes, kept-most, fit-kept}
+use Rattle.collector.proofs.Outcomes.{small, outcome-is, kept-most, fit-kept}
 use Rattle.collector.proofs.taking.taken.Statement.{statement}
 use Rattle.collector.proofs.taking.taken.Tie as tie
 
@@ -76,7 +76,7 @@ returns c =
     let k = g .before .before .before in
     let after-slice-known = k .before .before .before in
     let s = after-slice-known .before in
-    comes (s .args .rec) (s .args .hold .now) (s .args .out .now) (s .args .counter) (s .args .start) (bytes s)
+    outcome-is (s .args .rec) (s .args .hold .now) (s .args .out .now) (s .args .counter) (s .args .start) (bytes s)
     (bytes-long s .0) (g .carry .result) _ _ _ (s .args .next) (k .kept .result) (k .kept .ensures) (hand-long s)
     (g .carry .ensures) (c .counted .ensures)
 
