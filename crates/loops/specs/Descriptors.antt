@@ -5,7 +5,7 @@ use mathlib.Core.List.{List, [], _∷_}
 use lib.ListN.{length, getD, take, drop}
 use lib.Dec.{leb, eqb}
 use Rattle.wire.specs.If.{if_then_else_}
-use Rattle.wire.specs.Trail.{Turn, on, stop, Trail, trail}
+use Rattle.wire.specs.Trail.{Pace, on, stop, Trail, trail}
 use Rattle.verdict.specs.Verdict.{Said, accepted, refused}
 use Rattle.loops.specs.declared.walk.Step.{Step}
 use Rattle.loops.specs.declared.walk.Step.the-variants.{Descriptor, End, Cut}
@@ -30,7 +30,7 @@ abbrev pub rest : ℕ → List ℕ → Rest
 rest p l = record { place = p; bytes = l }
 
 -- 9: "a descriptor reaches past its loop, or one byte is left; place of its tag"
-abbrev pub firstOf : ℕ → List ℕ → Turn Rest Placed Said
+abbrev pub firstOf : ℕ → List ℕ → Pace Rest Placed Said
 firstOf p [] = stop accepted
 firstOf p (t ∷ []) = stop (refused 9 p)
 firstOf p (t ∷ n ∷ l) = if leb n (length l) then on (placed p t (take n l)) (rest (p + 2 + n) (drop n l)) else stop (refused 9 p)

@@ -9,7 +9,7 @@ use lib.Seq.{drop-drop}
 use mathlib.Core.Bool.{true, false}
 use lib.Dec.{ltb}
 use Rattle.wire.specs.Bytes.{len12At}
-use Rattle.wire.specs.Trail.{Turn, on, Trail, ended, before, onward}
+use Rattle.wire.specs.Trail.{Pace, on, Trail, ended, before, onward}
 use Rattle.wire.proofs.IfLaws.{if-case}
 use Rattle.wire.proofs.TrailLaws.{trail-by}
 use Rattle.wire.proofs.PartLaws.{part-of-front, len12-drop}
@@ -26,7 +26,7 @@ module _ (fixed : ℕ) (some : 1 ≤ fixed) where
       n : ℕ
       n = len12At (b ∷ l) (fixed - 2)
 
-      P : Turn Rest (List Placed) Said → Type 0
+      P : Pace Rest (List Placed) Said → Type 0
       P r = r ≡ on a t → length (t .bytes) < suc (length l)
 
       never : _≡_ {A = ℕ} 0 1 → length (t .bytes) < suc (length l)

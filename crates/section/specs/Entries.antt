@@ -5,24 +5,24 @@ use lib.ListN.{length, take, drop}
 use lib.Dec.{ltb}
 use Rattle.wire.specs.If.{if_then_else_}
 use Rattle.wire.specs.Bytes.{len12At}
-use Rattle.wire.specs.Trail.{Turn, on, stop, Trail, trail}
+use Rattle.wire.specs.Trail.{Pace, on, stop, Trail, trail}
 use Rattle.verdict.specs.Verdict.{Said, accepted, refused, isAccepted}
 use Rattle.loops.specs.Descriptors.{Placed, Rest, rest, descriptors}
 
 -- behind an entry, whose descriptors are d: on to what is left, l from the place p on; or the fault in them
-abbrev pub past : ℕ → List ℕ → Trail Placed Said → Turn Rest (List Placed) Said
+abbrev pub past : ℕ → List ℕ → Trail Placed Said → Pace Rest (List Placed) Said
 past p l d = if isAccepted (d .ends) then on (d .items) (rest p l) else stop (d .ends)
 
 -- an entry of fixed bytes and a loop of n. 10: "fewer bytes left than an entry's fixed part .. place of the first of them"; 8: "a loop reaches past
 -- its container; place of its length"
-abbrev pub whole : ℕ → ℕ → ℕ → List ℕ → Turn Rest (List Placed) Said
+abbrev pub whole : ℕ → ℕ → ℕ → List ℕ → Pace Rest (List Placed) Said
 whole fixed n p l =
     if ltb (length l) fixed then stop (refused 10 p)
     else if ltb (length l) (fixed + n) then stop (refused 8 (p + (fixed - 2)))
     else past (p + fixed + n) (drop (fixed + n) l) (descriptors (p + fixed) (take n (drop fixed l)))
 
 -- the first entry, whose loop length is the last two of its fixed bytes; the end where no byte is left
-abbrev pub firstOf : ℕ → ℕ → List ℕ → Turn Rest (List Placed) Said
+abbrev pub firstOf : ℕ → ℕ → List ℕ → Pace Rest (List Placed) Said
 firstOf fixed p [] = stop accepted
 firstOf fixed p (b ∷ l) = whole fixed (len12At (b ∷ l) (fixed - 2)) p (b ∷ l)
 
