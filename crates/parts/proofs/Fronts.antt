@@ -42,21 +42,21 @@ module _ (s : List ℕ) (r : Part) where
 
   -- entries
   module _ (fixed : ℕ) where
-    pub entry-none : fixed ≡ 0 → entryAt fixed s r ≡ noEntry r
+    pub entry-none : fixed ≡ 0 → entryAt s fixed r ≡ noEntry r
     unfolding entryAt
     entry-none e = rw (eq-eqb fixed 0 e)
 
-    pub entry-short : (fixed ≡ 0 → ⊥) → r .size < fixed + loopSize fixed s r → entryAt fixed s r ≡ noEntry r
+    pub entry-short : (fixed ≡ 0 → ⊥) → r .size < fixed + loopSize s fixed r → entryAt s fixed r ≡ noEntry r
     unfolding entryAt
-    entry-short e h = rw (ne-eqb fixed 0 e, lt-leb (fixed + loopSize fixed s r) (r .size) h)
+    entry-short e h = rw (ne-eqb fixed 0 e, lt-leb (fixed + loopSize s fixed r) (r .size) h)
 
-    pub entry-whole : (n : ℕ) → n ≡ loopSize fixed s r → (fixed ≡ 0 → ⊥) → fixed + n ≤ r .size → entryAt fixed s r ≡ oneEntry fixed n r
+    pub entry-whole : (n : ℕ) → n ≡ loopSize s fixed r → (fixed ≡ 0 → ⊥) → fixed + n ≤ r .size → entryAt s fixed r ≡ oneEntry fixed n r
     unfolding entryAt
     entry-whole n same e h =
-        let g : fixed + loopSize fixed s r ≤ r .size = omega arith in
-        rw (ne-eqb fixed 0 e, le-leb (fixed + loopSize fixed s r) (r .size) g, same)
+        let g : fixed + loopSize s fixed r ≤ r .size = omega arith in
+        rw (ne-eqb fixed 0 e, le-leb (fixed + loopSize s fixed r) (r .size) g, same)
 
-  pub entry-in : {b : Bool} → b ≡ within s r → b ≡ true → nextEntry s r ≡ entryAt (rowFor s .fixed) s r
+  pub entry-in : {b : Bool} → b ≡ within s r → b ≡ true → nextEntry s r ≡ entryAt s (rowFor s .fixed) r
   unfolding nextEntry
   entry-in e t = rw (← e, t)
 

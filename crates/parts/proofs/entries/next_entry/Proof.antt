@@ -34,7 +34,7 @@ returns c =
     let args = known .before .before .before .args in
     let number = c .before .before .row-of .ensures ∙ ap rowOf (read .byte-at .ensures) in
     c .entry-at .ensures
-    ∙ ap (λ (w : Row). entryAt (w .fixed) (args .section .now) (args .rest)) (c .before .row-at .ensures ∙ ap rowAt number)
+    ∙ ap (λ (w : Row). entryAt (args .section .now) (w .fixed) (args .rest)) (c .before .row-at .ensures ∙ ap rowAt number)
     ∙ sym (entry-in _ _ (known .before .is-within .ensures) (known .if1 .taken))
 
 no-entry-requires : tie.Need-no-entry-requires
