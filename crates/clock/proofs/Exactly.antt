@@ -29,13 +29,13 @@ use Rattle.clock.proofs.Ranges.{field-below, size-of}
 
 -- ---- one field
 
-module _ (limit b n : ℕ) (byte : b < 256) (most : limit ≤ 100) where
-  pub field-exactly : field limit b ≡ value n ↔ (n < limit) × (bcdShow 2 n ≡ b)
+module _ (b limit n : ℕ) (byte : b < 256) (most : limit ≤ 100) where
+  pub field-exactly : field b limit ≡ value n ↔ (n < limit) × (bcdShow 2 n ≡ b)
   unfolding field
   field-exactly = (
     λ e.
         let t = through (bcdOf b 2) _ n e in
-        let below : n < limit = field-below limit b n e in
+        let below : n < limit = field-below b limit n e in
         let same : t .0 ≡ n =
         if-case (λ x. x ≡ value n → t .0 ≡ n) (ltb (t .0) limit) (λ _ q. value-is q) (λ _ q. absurd (never (sym q)))
         (t .2) in
@@ -44,12 +44,12 @@ module _ (limit b n : ℕ) (byte : b < 256) (most : limit ≤ 100) where
   )
 
 -- "63 BCD digit above 9"
-pub bad-digit : (limit b j : ℕ) → j < 2 → 9 < digit j b → field limit b ≡ refused (plain 63)
+pub bad-digit : (b limit j : ℕ) → j < 2 → 9 < digit j b → field b limit ≡ refused (plain 63)
 unfolding field
-bad-digit limit b j h g = rw (bcd-bad 2 b j h g)
+bad-digit b limit j h g = rw (bcd-bad 2 b j h g)
 
 -- "64 hour above 23, minute or second above 59"
-pub out-of-range : (limit n : ℕ) → limit ≤ n → n < 100 → field limit (bcdShow 2 n) ≡ refused (plain 64)
+pub out-of-range : (limit n : ℕ) → limit ≤ n → n < 100 → field (bcdShow 2 n) limit ≡ refused (plain 64)
 unfolding field
 out-of-range limit n h g = rw (bcd-of-shown 2 n g, le-ltb n limit h)
 
@@ -60,21 +60,21 @@ module _ (limit : ℕ) (most : limit ≤ 100) (h m s : ℕ) (hb : h < 256) (mb :
   unfolding hms
   hms-exactly = (
     λ e.
-        let a = through (field limit h) _ t e in
-        let b = through (field 60 m) _ t (a .2) in
-        let c = through (field 60 s) _ t (b .2) in
-        let hour = field-exactly limit h (a .0) hb most .0 (a .1) in
-        let minute = field-exactly 60 m (b .0) mb (omega arith) .0 (b .1) in
-        let second = field-exactly 60 s (c .0) sb (omega arith) .0 (c .1) in
+        let a = through (field h limit) _ t e in
+        let b = through (field m 60) _ t (a .2) in
+        let c = through (field s 60) _ t (b .2) in
+        let hour = field-exactly h limit (a .0) hb most .0 (a .1) in
+        let minute = field-exactly m 60 (b .0) mb (omega arith) .0 (b .1) in
+        let second = field-exactly s 60 (c .0) sb (omega arith) .0 (c .1) in
         subst (λ x. InRange limit x × Written x h m s) (value-is (c .2)) (
           record { hour = hour .0; minute = minute .0; second = second .0 },
           record { hour = hour .1; minute = minute .1; second = second .1 },
         ),
     λ x.
         rw (
-          field-exactly limit h (t .hour) hb most .1 (x .0 .hour, x .1 .hour),
-          field-exactly 60 m (t .minute) mb (omega arith) .1 (x .0 .minute, x .1 .minute),
-          field-exactly 60 s (t .second) sb (omega arith) .1 (x .0 .second, x .1 .second),
+          field-exactly h limit (t .hour) hb most .1 (x .0 .hour, x .1 .hour),
+          field-exactly m 60 (t .minute) mb (omega arith) .1 (x .0 .minute, x .1 .minute),
+          field-exactly s 60 (t .second) sb (omega arith) .1 (x .0 .second, x .1 .second),
         ),
   )
 
@@ -92,8 +92,8 @@ module _ (hour minute : ℕ) (hours : hour < 24) (minutes : minute < 60) where
   unfolding offsetOf
   either behind =
       rw (
-        field-exactly 24 (bcdShow 2 hour) hour (show-below 2 hour) (omega arith) .1 (hours, refl),
-        field-exactly 60 (bcdShow 2 minute) minute (show-below 2 minute) (omega arith) .1 (minutes, refl),
+        field-exactly (bcdShow 2 hour) 24 hour (show-below 2 hour) (omega arith) .1 (hours, refl),
+        field-exactly (bcdShow 2 minute) 60 minute (show-below 2 minute) (omega arith) .1 (minutes, refl),
       )
 
   -- "An offset is signed minutes (polarity 1 is behind UTC)"
@@ -115,10 +115,10 @@ module _ (behind : Bool) (h m : ℕ) (hb : h < 256) (mb : m < 256) (z : ℤ) whe
   unfolding offsetOf
   offset-exactly = (
     λ e.
-        let a = through (field 24 h) _ z e in
-        let b = through (field 60 m) _ z (a .2) in
-        let hour = field-exactly 24 h (a .0) hb (omega arith) .0 (a .1) in
-        let minute = field-exactly 60 m (b .0) mb (omega arith) .0 (b .1) in
+        let a = through (field h 24) _ z e in
+        let b = through (field m 60) _ z (a .2) in
+        let hour = field-exactly h 24 (a .0) hb (omega arith) .0 (a .1) in
+        let minute = field-exactly m 60 (b .0) mb (omega arith) .0 (b .1) in
         let n : ℕ = a .0 * 60 + b .0 in
         let size : natAbs (signed behind n) ≡ n = size-of behind n in
         let quotient : natAbs (signed behind n) / 60 ≡ a .0 = ap (λ j. j / 60) size ∙ omega (arith, minute .0) in

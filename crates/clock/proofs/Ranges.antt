@@ -20,9 +20,9 @@ use Rattle.clock.specs.declared.Hms.{Hms}
 use Rattle.clock.specs.declared.time.Time.{Time}
 use Rattle.clock.specs.declared.time.Moment.the-variants.{At}
 
-pub field-below : (limit b n : ℕ) → field limit b ≡ value n → n < limit
+pub field-below : (b limit n : ℕ) → field b limit ≡ value n → n < limit
 unfolding field
-field-below limit b n e =
+field-below b limit n e =
     let t = through (bcdOf b 2) _ n e in
     if-case (λ x. x ≡ value n → n < limit) (ltb (t .0) limit)
     (λ h q. subst (λ m. m < limit) (value-is q) (ltb-true (t .0) limit h)) (λ _ q. absurd (never (sym q))) (t .2)
@@ -30,14 +30,14 @@ field-below limit b n e =
 hms-in-range : (limit h m s : ℕ) (t : Hms) → hms limit h m s ≡ value t → InRange limit t
 unfolding hms
 hms-in-range limit h m s t e =
-    let a = through (field limit h) _ t e in
-    let b = through (field 60 m) _ t (a .2) in
-    let c = through (field 60 s) _ t (b .2) in
+    let a = through (field h limit) _ t e in
+    let b = through (field m 60) _ t (a .2) in
+    let c = through (field s 60) _ t (b .2) in
     subst (InRange limit) (value-is (c .2))
     (record {
-      hour = field-below limit h (a .0) (a .1);
-      minute = field-below 60 m (b .0) (b .1);
-      second = field-below 60 s (c .0) (c .1);
+      hour = field-below h limit (a .0) (a .1);
+      minute = field-below m 60 (b .0) (b .1);
+      second = field-below s 60 (c .0) (c .1);
     })
 
 pub duration-in-range : (h m s : ℕ) (t : Hms) → durationOf h m s ≡ value t → InRange 100 t
@@ -73,8 +73,8 @@ size-of false n = refl
 pub offset-in-range : (behind : Bool) (h m : ℕ) (z : ℤ) → offsetOf behind h m ≡ value z → natAbs z < 1440
 unfolding offsetOf
 offset-in-range behind h m z e =
-    let a = through (field 24 h) _ z e in
-    let b = through (field 60 m) _ z (a .2) in
-    let p = field-below 24 h (a .0) (a .1) in
-    let q = field-below 60 m (b .0) (b .1) in
+    let a = through (field h 24) _ z e in
+    let b = through (field m 60) _ z (a .2) in
+    let p = field-below h 24 (a .0) (a .1) in
+    let q = field-below m 60 (b .0) (b .1) in
     subst (λ y. natAbs y < 1440) (value-is (b .2)) (rw (size-of behind (a .0 * 60 + b .0)) (omega arith))

@@ -18,14 +18,14 @@ below limit n = if ltb n limit then value n else refused (plain 64)
 
 -- two digits, and then the limit: "each 63, 64"
 unfoldable pub field : ℕ → ℕ → Answered ℕ
-field limit b = bcdOf b 2 >>= below limit
+field b limit = bcdOf b 2 >>= below limit
 
 -- hour, minute and second, "fields left to right"; the hour is below the limit
 unfoldable pub hms : ℕ → ℕ → ℕ → ℕ → Answered Hms
 hms limit h m s = do
-  hour ← field limit h
-  minute ← field 60 m
-  second ← field 60 s
+  hour ← field h limit
+  minute ← field m 60
+  second ← field s 60
   value (record { hour = hour; minute = minute; second = second })
 
 -- "64 hour above 23, minute or second above 59": a clock whose fields are below their limits

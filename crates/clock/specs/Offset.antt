@@ -17,8 +17,8 @@ signed false n = pos n
 -- hour and minute, "fields of their own too", as signed minutes
 unfoldable pub offsetOf : Bool → ℕ → ℕ → Answered ℤ
 offsetOf behind h m = do
-  hour ← field 24 h
-  minute ← field 60 m
+  hour ← field h 24
+  minute ← field m 60
   value (signed behind (hour * 60 + minute))
 
 -- the number that its sixteen bits are, two BCD digits of hours and two of minutes, whatever its sign

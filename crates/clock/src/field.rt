@@ -17,7 +17,7 @@ pub enum Clock {
 }
 
 pub fn two_digits(b: u8, limit: u8) -> Field
-    ensures { λ r. ⌜ told r ≡ field limit b ⌝ }
+    ensures { λ r. ⌜ told r ≡ field b limit ⌝ }
 {
     match bcd(b as u32, 2) {
         Digits::Bad => Field::Refused(Fault::BadDigit),

@@ -95,7 +95,7 @@ pub terrestrial-exactly : (s : List ℕ) → Bytes s → (f : Terrestrial)
 unfolding terrestrial.terrestrial
 terrestrial-exactly s bytes f = (
   λ e.
-      let t = through (fixed 11 0x5A s) (λ b. value (terrestrial.fields b)) f e in
+      let t = through (fixed s 0x5A 11) (λ b. value (terrestrial.fields b)) f e in
       let x = fixed-exactly 11 0x5A s (t .0) .0 (t .1) in
       holds 0x5A 11 s bytes terrestrial.layout refl (t .0) (terrestrial.shown f) (t .1)
       (terrestrial-places (t .0) (body-bytes (t .0) (x .0) bytes) ∙ ap terrestrial.shown (value-is (t .2))),
@@ -141,7 +141,7 @@ pub cable-exactly : (s : List ℕ) → Bytes s → (f : Cable)
 unfolding cable.cable
 cable-exactly s bytes f = (
   λ e.
-      let t = through (fixed 11 0x44 s) cable.fields f e in
+      let t = through (fixed s 0x44 11) cable.fields f e in
       let x = fixed-exactly 11 0x44 s (t .0) .0 (t .1) in
       let p = cable-places (t .0) (body-bytes (t .0) (x .0) bytes) (x .1) f (t .2) in
       (p .0, holds 0x44 11 s bytes cable.layout refl (t .0) (cable.shown f) (t .1) (p .1)),
@@ -238,7 +238,7 @@ pub satellite-exactly : (s : List ℕ) → Bytes s → (f : Satellite)
 unfolding satellite.satellite
 satellite-exactly s bytes f = (
   λ e.
-      let t = through (fixed 11 0x43 s) satellite.fields f e in
+      let t = through (fixed s 0x43 11) satellite.fields f e in
       let x = fixed-exactly 11 0x43 s (t .0) .0 (t .1) in
       let p = satellite-places (t .0) (body-bytes (t .0) (x .0) bytes) (x .1) f (t .2) in
       (p .0, holds 0x43 11 s bytes layout (satellite-fills system) (t .0) (satellite.shown f) (t .1) (p .1)),

@@ -43,7 +43,7 @@ fields b = do
 
 -- the tag 0x44, and a body of the layout's 11 bytes
 unfoldable pub cable : List ℕ → Answered Cable
-cable s = fixed (size layout) 0x44 s >>= fields
+cable s = fixed s 0x44 (size layout) >>= fields
 
 -- the values that its kept fields have, in the layout's order
 abbrev pub shown : Cable → List ℕ

@@ -71,7 +71,7 @@ fields b = do
 
 -- the tag 0x43, and a body of the layout's 11 bytes
 unfoldable pub satellite : List ℕ → Answered Satellite
-satellite s = fixed (size layout) 0x43 s >>= fields
+satellite s = fixed s 0x43 (size layout) >>= fields
 
 -- the values that the bits of a modulation system have, in front of others
 abbrev pub systemShown : System → List ℕ → List ℕ

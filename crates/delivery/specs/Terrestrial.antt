@@ -55,7 +55,7 @@ fields b = record {
 
 -- the tag 0x5A, and a body of the layout's 11 bytes
 unfoldable pub terrestrial : List ℕ → Answered Terrestrial
-terrestrial s = fixed (size layout) 0x5A s >>= λ b. value (fields b)
+terrestrial s = fixed s 0x5A (size layout) >>= λ b. value (fields b)
 
 -- the values that its kept fields have, in the layout's order
 abbrev pub shown : Terrestrial → List ℕ

@@ -38,12 +38,12 @@ refused-on r f e = ap (λ x. x >>= f) e
 -- ---- the frame, and a body judged behind it
 
 module _ {A : Type 0} (tag : ℕ) (f : List ℕ → Answered A) where
-  no-tag : (s : List ℕ) → NoTag tag s → (framed tag s >>= f) ≡ refused (plain 61)
-  no-tag s h = refused-on (framed tag s) f (wrong-tag-exactly tag s .1 h)
+  no-tag : (s : List ℕ) → NoTag tag s → (framed s tag >>= f) ≡ refused (plain 61)
+  no-tag s h = refused-on (framed s tag) f (wrong-tag-exactly tag s .1 h)
 
   -- 62, where no body that stands in the frame is read
   no-fit : (s : List ℕ) → (NoTag tag s → ⊥) → ((b : List ℕ) → Framed tag s b → f b ≡ refused (plain 62))
-      → (framed tag s >>= f) ≡ refused (plain 62)
+      → (framed s tag >>= f) ≡ refused (plain 62)
   unfolding framed
   no-fit [] h g = absurd (h tt)
   no-fit (t ∷ []) h g =
@@ -55,16 +55,16 @@ module _ {A : Type 0} (tag : ℕ) (f : List ℕ → Answered A) where
       (λ q. g b (ap₂ (λ x y. x ∷ y ∷ b) (eqb-true t tag p) (eqb-true n (length b) q))) (λ _. refl))
       (λ q. absurd (h (λ e. true-not-false (sym (eq-eqb t tag e) ∙ q))))
 
-any-order : {A : Type 0} (tag : ℕ) (f : List ℕ → Answered A) → InOrder tag (AnyBody tag) (λ s. framed tag s >>= f)
+any-order : {A : Type 0} (tag : ℕ) (f : List ℕ → Answered A) → InOrder tag (AnyBody tag) (λ s. framed s tag >>= f)
 any-order tag f = record { tag-first = no-tag tag f; then-body = λ s h g. no-fit tag f s h (λ b e. absurd (g (b, e))) }
 
 -- ---- a body of n bytes
 
-fixed-order : {A : Type 0} (n tag : ℕ) (f : List ℕ → Answered A) → InOrder tag (Sized n tag) (λ s. fixed n tag s >>= f)
+fixed-order : {A : Type 0} (n tag : ℕ) (f : List ℕ → Answered A) → InOrder tag (Sized n tag) (λ s. fixed s tag n >>= f)
 unfolding fixed
 fixed-order n tag f = record {
-  tag-first = λ s h. refused-on (fixed n tag s) f (no-tag tag _ s h);
-  then-body = λ s h g. refused-on (fixed n tag s) f (no-fit tag _ s h (λ b e.
+  tag-first = λ s h. refused-on (fixed s tag n) f (no-tag tag _ s h);
+  then-body = λ s h g. refused-on (fixed s tag n) f (no-fit tag _ s h (λ b e.
       if-case (λ x. x ≡ refused (plain 62)) (eqb (length b) n)
       (λ q. absurd (g (b, e, eqb-true (length b) n q))) (λ _. refl)));
 }
@@ -80,7 +80,7 @@ not-read h b =
     (λ _ g. absurd (g _ refl)) (λ _ g. refl)
 
 texts-order : {A : Type 0} (h tag : ℕ) (f : TwoTexts → List ℕ → Answered A)
-    → InOrder tag (Texts h tag) (λ s. framed tag s >>= λ b. twoTexts b h >>= λ t. f t b)
+    → InOrder tag (Texts h tag) (λ s. framed s tag >>= λ b. twoTexts b h >>= λ t. f t b)
 texts-order h tag f = record {
   tag-first = no-tag tag _;
   then-body = λ s u g. no-fit tag _ s u (λ b e.
@@ -94,12 +94,12 @@ module _ (k tag : ℕ) (some : 0 < k) where
   cut : (s b : List ℕ) → Framed tag s b → eqb (length b % k) 0 ≡ true → Items k tag s
   unfolding items count
   cut s b e q =
-      let i : items k tag s ≡ value b =
+      let i : items s tag k ≡ value b =
       ap (λ x. x >>= λ c. fit (eqb (length c % k) 0) c) (framed-exactly tag s b .1 e) ∙ ap (λ t. fit t b) q in
       let x = count-exactly k tag some s (length b / k) .0 (ap (λ r. r >>= λ c. value (length c / k)) i) in
       (x .0, x .1)
 
-  items-order : InOrder tag (Items k tag) (items k tag)
+  items-order : InOrder tag (Items k tag) (λ s. items s tag k)
   unfolding items
   items-order = record {
     tag-first = no-tag tag _;
@@ -107,16 +107,16 @@ module _ (k tag : ℕ) (some : 0 < k) where
         if-case (λ x. x ≡ refused (plain 62)) (eqb (length b % k) 0) (λ q. absurd (g (cut s b e q))) (λ _. refl));
   }
 
-  item-order : {A : Type 0} (f : List ℕ → Answered A) → ListInOrder k tag (λ s i. item k tag s i >>= f)
+  item-order : {A : Type 0} (f : List ℕ → Answered A) → ListInOrder k tag (λ s i. item s tag k i >>= f)
   unfolding item place
   item-order f = record {
     at = λ i. record {
-      tag-first = λ s h. refused-on (item k tag s i) f
-          (refused-on (place k tag s i) _ (refused-on (items k tag s) _ (items-order .tag-first s h)));
-      then-body = λ s h g. refused-on (item k tag s i) f
-          (refused-on (place k tag s i) _ (refused-on (items k tag s) _ (items-order .then-body s h g)));
+      tag-first = λ s h. refused-on (item s tag k i) f
+          (refused-on (place s tag k i) _ (refused-on (items s tag k) _ (items-order .tag-first s h)));
+      then-body = λ s h g. refused-on (item s tag k i) f
+          (refused-on (place s tag k i) _ (refused-on (items s tag k) _ (items-order .then-body s h g)));
     };
-    then-index = λ s xs i are l. refused-on (item k tag s i) f (item-past k tag some s xs are i l);
+    then-index = λ s xs i are l. refused-on (item s tag k i) f (item-past k tag some s xs are i l);
   }
 
 -- ---- the eleven

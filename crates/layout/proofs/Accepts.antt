@@ -26,8 +26,8 @@ use Rattle.layout.proofs.Exactly.{framed-is, framed-if, texts-if, cons-
 
 -- ---- tag, length, body
 
-pub framed-exactly : (tag : ℕ) (s b : List ℕ) → framed tag s ≡ value b ↔ Framed tag s b
-framed-exactly tag s b = (framed-is tag s b, λ e. ap (framed tag) e ∙ framed-if tag b)
+pub framed-exactly : (tag : ℕ) (s b : List ℕ) → framed s tag ≡ value b ↔ Framed tag s b
+framed-exactly tag s b = (framed-is tag s b, λ e. ap (λ l. framed l tag) e ∙ framed-if tag b)
 
 -- a body that fits
 fit-is : (t : Bool) (b c : List ℕ) → fit t b ≡ value c → (t ≡ true) × (b ≡ c)
@@ -35,7 +35,7 @@ fit-is t b c =
     if-case (λ x. x ≡ value c → (t ≡ true) × (b ≡ c)) t (λ h e. (h, value-is e)) (λ _ e. absurd (never (sym e)))
 
 -- 61 and 62 for the frame, each exactly where it is given
-pub wrong-tag-exactly : (tag : ℕ) (s : List ℕ) → framed tag s ≡ refused (plain 61) ↔ NoTag tag s
+pub wrong-tag-exactly : (tag : ℕ) (s : List ℕ) → framed s tag ≡ refused (plain 61) ↔ NoTag tag s
 unfolding framed
 wrong-tag-exactly tag [] = (λ _. tt, λ _. refl)
 wrong-tag-exactly tag (t ∷ rest) = (
@@ -49,7 +49,7 @@ wrong-tag-exactly tag (t ∷ rest) = (
         if-case (λ x. x ≡ refused (plain 61) → _≡_ {A = ℕ} 61 62) (eqb n (length b)) (λ _ e. absurd (never e))
         (λ _ e. ap numberOf (refused-is (sym e)))
 
-pub no-body-exactly : (tag : ℕ) (s : List ℕ) → framed tag s ≡ refused (plain 62) ↔ NoBody tag s
+pub no-body-exactly : (tag : ℕ) (s : List ℕ) → framed s tag ≡ refused (plain 62) ↔ NoBody tag s
 unfolding framed
 no-body-exactly tag s = (
   λ e. (
@@ -61,7 +61,7 @@ no-body-exactly tag s = (
   back s,
 )
   where
-    back : (l : List ℕ) → NoBody tag l → framed tag l ≡ refused (plain 62)
+    back : (l : List ℕ) → NoBody tag l → framed l tag ≡ refused (plain 62)
     back [] h = absurd (h .0 tt)
     back (t ∷ []) h =
         if-case (λ x. x ≡ refused (plain 62)) (eqb t tag) (λ _. refl)
@@ -73,11 +73,11 @@ no-body-exactly tag s = (
         (λ q. absurd (h .0 (λ e. true-not-false (sym (eq-eqb t tag e) ∙ q))))
 
 -- a body of n bytes
-pub fixed-exactly : (n tag : ℕ) (s b : List ℕ) → fixed n tag s ≡ value b ↔ Framed tag s b × (length b ≡ n)
+pub fixed-exactly : (n tag : ℕ) (s b : List ℕ) → fixed s tag n ≡ value b ↔ Framed tag s b × (length b ≡ n)
 unfolding fixed
 fixed-exactly n tag s b = (
   λ e.
-      let t = through (framed tag s) _ b e in
+      let t = through (framed s tag) _ b e in
       let f = fit-is (eqb (length (t .0)) n) (t .0) b (t .2) in
       (framed-is tag s b (t .1 ∙ ap value (f .1)), subst (λ l. length l ≡ n) (f .1) (eqb-true _ _ (f .0))),
   λ x. rw (framed-exactly tag s b .1 (x .0), eq-eqb (length b) n (x .1)),
@@ -132,25 +132,25 @@ module _ (k tag : ℕ) (some : 0 < k) (s : List ℕ) where
   number-of : (xs : List (List ℕ)) → Itemed k tag s xs → length (joined xs) / k ≡ length xs
   number-of xs x = ap (λ j. j / k) (each-length k xs (x .each)) ∙ mul-div-right (length xs) some
 
-  body-of : (xs : List (List ℕ)) → Itemed k tag s xs → items k tag s ≡ value (joined xs)
+  body-of : (xs : List (List ℕ)) → Itemed k tag s xs → items s tag k ≡ value (joined xs)
   unfolding items
   body-of xs x =
       let z : length (joined xs) % k ≡ 0 = ap (λ j. j % k) (each-length k xs (x .each)) ∙ mul-mod-right k (length xs) in
       rw (framed-exactly tag s (joined xs) .1 (x .framed), eq-eqb (length (joined xs) % k) 0 z)
 
-  whole : (xs : List (List ℕ)) → Itemed k tag s xs → count k tag s ≡ value (length xs)
+  whole : (xs : List (List ℕ)) → Itemed k tag s xs → count s tag k ≡ value (length xs)
   unfolding count
   whole xs x = rw (body-of xs x) (ap value (number-of xs x))
 
   -- a list of n items is accepted exactly if its body is n items of k bytes, put together
-  pub count-exactly : (n : ℕ) → count k tag s ≡ value n ↔ ((xs : List (List ℕ)) × Itemed k tag s xs × (length xs ≡ n))
+  pub count-exactly : (n : ℕ) → count s tag k ≡ value n ↔ ((xs : List (List ℕ)) × Itemed k tag s xs × (length xs ≡ n))
   unfolding count items
   count-exactly n = (there, back)
     where
-      there : count k tag s ≡ value n → (xs : List (List ℕ)) × Itemed k tag s xs × (length xs ≡ n)
+      there : count s tag k ≡ value n → (xs : List (List ℕ)) × Itemed k tag s xs × (length xs ≡ n)
       there e =
-          let t = through (items k tag s) _ n e in
-          let u = through (framed tag s) _ (t .0) (t .1) in
+          let t = through (items s tag k) _ n e in
+          let u = through (framed s tag) _ (t .0) (t .1) in
           let f = fit-is (eqb (length (u .0) % k) 0) (u .0) (t .0) (u .2) in
           let b : List ℕ = u .0 in
           let q : length b / k ≡ n = ap (λ l. length l / k) (f .1) ∙ value-is (t .2) in
@@ -166,12 +166,12 @@ module _ (k tag : ℕ) (some : 0 < k) (s : List ℕ) where
             pieces-number k n b,
           )
 
-      back : (xs : List (List ℕ)) × Itemed k tag s xs × (length xs ≡ n) → count k tag s ≡ value n
+      back : (xs : List (List ℕ)) × Itemed k tag s xs × (length xs ≡ n) → count s tag k ≡ value n
       back (xs, x, l) = whole xs x ∙ ap value l
 
   module _ (xs : List (List ℕ)) (are : Itemed k tag s xs) (i : ℕ) where
     -- "66 index past the end"; each other index gives that item
-    pub item-is : i < length xs → item k tag s i ≡ value (getD xs i [])
+    pub item-is : i < length xs → item s tag k i ≡ value (getD xs i [])
     unfolding item place
     item-is h =
         rw (body-of xs are, number-of xs are, lt-ltb i (length xs) h)
@@ -179,7 +179,7 @@ module _ (k tag : ℕ) (some : 0 < k) (s : List ℕ) where
         (ap (take k) (sym (drop-drop (k * i) 2 s) ∙ ap (λ l. drop (k * i) (drop 2 l)) (are .framed))
         ∙ item-at k xs i (are .each) h))
 
-    pub item-past : length xs ≤ i → item k tag s i ≡ refused (plain 66)
+    pub item-past : length xs ≤ i → item s tag k i ≡ refused (plain 66)
     unfolding item place
     item-past h = rw (body-of xs are, number-of xs are, le-ltb i (length xs) h)
 
@@ -190,12 +190,12 @@ each-at k (x ∷ xs) (suc i) h l = each-at k xs i (h .1) (omega arith)
 
 -- an item is handed out exactly if it is the one of that index
 pub item-exactly : (k tag : ℕ) → 0 < k → (s : List ℕ) (i : ℕ) (b : List ℕ)
-    → item k tag s i ≡ value b ↔ ((xs : List (List ℕ)) × Itemed k tag s xs × (i < length xs) × (getD xs i [] ≡ b))
+    → item s tag k i ≡ value b ↔ ((xs : List (List ℕ)) × Itemed k tag s xs × (i < length xs) × (getD xs i [] ≡ b))
 unfolding item place count
 item-exactly k tag some s i b = (
   λ e.
-      let t = through (place k tag s i) _ b e in
-      let u = through (items k tag s) _ (t .0) (t .1) in
+      let t = through (place s tag k i) _ b e in
+      let u = through (items s tag k) _ (t .0) (t .1) in
       let n : ℕ = length (u .0) / k in
       let x = count-exactly k tag some s n .0 (ap (λ r. r >>= λ body. value (length body / k)) (u .1)) in
       let g : i < n =

@@ -4,7 +4,7 @@ use mathlib.Core.List.{List, [], _∷_, _++_, append-assoc}
 use Prim.Native.Nat.{ℕ, _+_, _*_, _/_, _%_, _<_, _≤_}
 use native.Mathlib.Numerals.{add-one}
 use native.Mathlib.Omega.{arith}
-use borrow.Author.Tests.{eqb-true, eq-eqb, ltb-true, lt-ltb, le-ltb}
+use borrow.Author.Tests.{eqb-true, eq-eqb, ne-eqb, ltb-true, lt-ltb, le-ltb}
 use lib.Dec.{eqb, ltb}
 use lib.ListN.{length, getD, take, drop, length-append, length-drop, take-append-drop}
 use lib.Seq.{drop-cons, drop-drop, take-all, take-length, getD-at}
@@ -30,7 +30,7 @@ lengthed-is (n ∷ r) b =
     (λ h e. absurd (never (sym e)))
 
 -- what is read as the body is all but the tag and the length, and they are right
-pub framed-is : (tag : ℕ) (s b : List ℕ) → framed tag s ≡ value b → s ≡ tag ∷ length b ∷ b
+pub framed-is : (tag : ℕ) (s b : List ℕ) → framed s tag ≡ value b → s ≡ tag ∷ length b ∷ b
 unfolding framed
 framed-is tag [] b = λ e. absurd (never (sym e))
 framed-is tag (t ∷ r) b =
@@ -38,12 +38,12 @@ framed-is tag (t ∷ r) b =
     (λ h e. ap₂ _∷_ (eqb-true t tag h) (lengthed-is r b e))
     (λ h e. absurd (never (sym e)))
 
-pub framed-if : (tag : ℕ) (b : List ℕ) → framed tag (tag ∷ length b ∷ b) ≡ value b
+pub framed-if : (tag : ℕ) (b : List ℕ) → framed (tag ∷ length b ∷ b) tag ≡ value b
 unfolding framed
 framed-if tag b = rw (eq-eqb tag tag refl, eq-eqb (length b) (length b) refl)
 
 -- the part that is the whole body
-pub whole-part : (tag : ℕ) (s b : List ℕ) → framed tag s ≡ value b → bytesOf s (partAt 0 (length b)) ≡ b
+pub whole-part : (tag : ℕ) (s b : List ℕ) → framed s tag ≡ value b → bytesOf s (partAt 0 (length b)) ≡ b
 whole-part tag s b e = ap (λ l. take (length b) (drop 2 l)) (framed-is tag s b e) ∙ take-length b
 
 -- ---- two texts
@@ -83,6 +83,17 @@ module _ (h : ℕ) (s : List ℕ) where
       (λ l e. subst (Filled h s) (value-is e) (filled a n refl refl (eqb-true (length b) (h + 2 + a + n) l)))
       (λ l e. absurd (never (sym e)))
 
+-- the same by the test that the code makes: k bytes, a bytes of text and n bytes of text, each after its length
+module _ (b : List ℕ) (h k a n : ℕ) (head : k ≡ h) (one : a ≡ getD b k 0) (two : n ≡ getD b (k + 1 + a) 0) where
+  pub texts-fill : length b ≡ k + 2 + a + n
+      → twoTexts b h ≡ value (record { first = partAt (k + 1) a; second = partAt (k + 2 + a) n })
+  unfolding twoTexts
+  texts-fill fills = rw (← head, ← one, ← two, eq-eqb (length b) (k + 2 + a + n) fills)
+
+  pub texts-not : (length b ≡ k + 2 + a + n → ⊥) → twoTexts b h ≡ refused (plain 62)
+  unfolding twoTexts
+  texts-not no-fill = rw (← head, ← one, ← two, ne-eqb (length b) (k + 2 + a + n) no-fill)
+
 -- such a body is read, and the texts are those
 pub texts-if : (head x y : List ℕ)
     → twoTexts (head ++ (length x ∷ (x ++ (length y ∷ y)))) (length head)
@@ -106,33 +117,33 @@ texts-if head x y =
 
 module _ (k tag : ℕ) (s : List ℕ) (i : ℕ) where
   -- an index below the number of items is read, and any other is past the end
-  pub index-below : (n : ℕ) → count k tag s ≡ value n → i < n → place k tag s i ≡ value (2 + k * i)
+  pub index-below : (n : ℕ) → count s tag k ≡ value n → i < n → place s tag k i ≡ value (2 + k * i)
   unfolding count place
   index-below n e h =
-      let t = through (items k tag s) _ n e in
+      let t = through (items s tag k) _ n e in
       let q : length (t .0) / k ≡ n = value-is (t .2) in
       rw (t .1, q, lt-ltb i n h)
 
-  pub index-past : (n : ℕ) → count k tag s ≡ value n → n ≤ i → place k tag s i ≡ refused (plain 66)
+  pub index-past : (n : ℕ) → count s tag k ≡ value n → n ≤ i → place s tag k i ≡ refused (plain 66)
   unfolding count place
   index-past n e h =
-      let t = through (items k tag s) _ n e in
+      let t = through (items s tag k) _ n e in
       let q : length (t .0) / k ≡ n = value-is (t .2) in
       rw (t .1, q, le-ltb i n h)
 
   -- the body that items are read from is the descriptor's
-  body-of : (b : List ℕ) → items k tag s ≡ value b → framed tag s ≡ value b
+  body-of : (b : List ℕ) → items s tag k ≡ value b → framed s tag ≡ value b
   unfolding items
   body-of b e =
-      let t = through (framed tag s) _ b e in
-      if-case (λ x. x ≡ value b → framed tag s ≡ value b) (eqb (length (t .0) % k) 0) (λ _ q. t .1 ∙ q)
+      let t = through (framed s tag) _ b e in
+      if-case (λ x. x ≡ value b → framed s tag ≡ value b) (eqb (length (t .0) % k) 0) (λ _ q. t .1 ∙ q)
       (λ _ q. absurd (never (sym q))) (t .2)
 
   -- an item that is read lies whole inside the caller's bytes
-  pub item-inside : (at : ℕ) → place k tag s i ≡ value at → at + k ≤ length s
+  pub item-inside : (at : ℕ) → place s tag k i ≡ value at → at + k ≤ length s
   unfolding place
   item-inside at e =
-      let t = through (items k tag s) _ at e in
+      let t = through (items s tag k) _ at e in
       let b : List ℕ = t .0 in
       let l = ap length (framed-is tag s b (body-of b (t .1))) in
       if-case (λ x. x ≡ value at → at + k ≤ length s) (ltb i (length b / k))

@@ -10,30 +10,30 @@ use Rattle.clock.specs.Fault.{plain}
 use Rattle.layout.specs.Body.{framed}
 
 module _ (tag : ℕ) where
-  pub no-byte : (s : List ℕ) → length s ≡ 0 → framed tag s ≡ refused (plain 61)
+  pub no-byte : (s : List ℕ) → length s ≡ 0 → framed s tag ≡ refused (plain 61)
   unfolding framed
   no-byte [] h = refl
   no-byte (t ∷ r) h = absurd (omega arith)
 
-  pub other-tag : (s : List ℕ) → (getD s 0 0 ≡ tag → ⊥) → framed tag s ≡ refused (plain 61)
+  pub other-tag : (s : List ℕ) → (getD s 0 0 ≡ tag → ⊥) → framed s tag ≡ refused (plain 61)
   unfolding framed
   other-tag [] h = refl
   other-tag (t ∷ r) h = rw (ne-eqb t tag h)
 
-  pub no-length : (s : List ℕ) → getD s 0 0 ≡ tag → length s ≡ 1 → framed tag s ≡ refused (plain 62)
+  pub no-length : (s : List ℕ) → getD s 0 0 ≡ tag → length s ≡ 1 → framed s tag ≡ refused (plain 62)
   unfolding framed
   no-length [] h l = absurd (omega arith)
   no-length (t ∷ []) h l = rw (eq-eqb t tag h)
   no-length (t ∷ n ∷ b) h l = absurd (omega arith)
 
   pub other-length : (s : List ℕ) → getD s 0 0 ≡ tag → 1 < length s → (getD s 1 0 ≡ length s - 2 → ⊥)
-      → framed tag s ≡ refused (plain 62)
+      → framed s tag ≡ refused (plain 62)
   unfolding framed
   other-length [] h l e = absurd (omega arith)
   other-length (t ∷ []) h l e = absurd (omega arith)
   other-length (t ∷ n ∷ b) h l e = rw (eq-eqb t tag h, ne-eqb n (length b) (λ q. e (omega arith)))
 
-  pub whole : (s : List ℕ) → getD s 0 0 ≡ tag → 1 < length s → getD s 1 0 ≡ length s - 2 → framed tag s ≡ value (drop 2 s)
+  pub whole : (s : List ℕ) → getD s 0 0 ≡ tag → 1 < length s → getD s 1 0 ≡ length s - 2 → framed s tag ≡ value (drop 2 s)
   unfolding framed
   whole [] h l e = absurd (omega arith)
   whole (t ∷ []) h l e = absurd (omega arith)

@@ -121,7 +121,7 @@ body-bytes b e bytes i = subst (λ l. getD l (suc (suc i)) 0 < 256) e (bytes (su
 
 module _ (tag n : ℕ) (s : List ℕ) (bytes : Bytes s) (fs : List Field) (fills : bits fs ≡ 8 * n) where
   -- a body of n bytes by the places of its fields
-  pub holds : (b vs : List ℕ) → fixed n tag s ≡ value b → keptOf fs (spans 0 fs b) ≡ vs → Holds tag fs s vs
+  pub holds : (b vs : List ℕ) → fixed s tag n ≡ value b → keptOf fs (spans 0 fs b) ≡ vs → Holds tag fs s vs
   unfolding keptIn
   holds b vs e h =
       let x = fixed-exactly n tag s b .0 e in
@@ -134,7 +134,7 @@ module _ (tag n : ℕ) (s : List ℕ) (bytes : Bytes s) (fs : List Field) (fills
       }
 
   pub held : (vs : List ℕ) (h : Holds tag fs s vs)
-      → (fixed n tag s ≡ value (h .body)) × (keptOf fs (spans 0 fs (h .body)) ≡ vs)
+      → (fixed s tag n ≡ value (h .body)) × (keptOf fs (spans 0 fs (h .body)) ≡ vs)
   unfolding keptIn
   held vs h =
       let b : List ℕ = h .body in
@@ -161,11 +161,11 @@ module _ (tag n i : ℕ) (some : 0 < n) (s : List ℕ) (bytes : Bytes s) (fs : L
     of-length : bits fs ≡ 8 * length (getD xs i [])
     of-length = fills ∙ ap (λ j. 8 * j) (sym (each-at n xs i (are .each) l))
 
-  pub given-bytes : (b : List ℕ) → item n tag s i ≡ value b → Bytes b
+  pub given-bytes : (b : List ℕ) → item s tag n i ≡ value b → Bytes b
   given-bytes b e = let x = item-exactly n tag some s i b .0 e in subst Bytes (x .3) (of-bytes (x .0) (x .1) (x .2))
 
   -- an item by the places of its fields
-  pub holds-item : (b vs : List ℕ) → item n tag s i ≡ value b → keptOf fs (spans 0 fs b) ≡ vs → HoldsItem tag fs s i vs
+  pub holds-item : (b vs : List ℕ) → item s tag n i ≡ value b → keptOf fs (spans 0 fs b) ≡ vs → HoldsItem tag fs s i vs
   unfolding keptIn
   holds-item b vs e h =
       let x = item-exactly n tag some s i b .0 e in
@@ -182,7 +182,7 @@ module _ (tag n i : ℕ) (some : 0 < n) (s : List ℕ) (bytes : Bytes s) (fs : L
       }
 
   pub held-item : (vs : List ℕ) → HoldsItem tag fs s i vs
-      → (b : List ℕ) × (item n tag s i ≡ value b) × Bytes b × (keptOf fs (spans 0 fs b) ≡ vs)
+      → (b : List ℕ) × (item s tag n i ≡ value b) × Bytes b × (keptOf fs (spans 0 fs b) ≡ vs)
   unfolding keptIn
   held-item vs h =
       let xs = h .items in

@@ -14,21 +14,21 @@ use Rattle.layout.specs.declared.items.ItemPlace.{ItemPlace}
 use Rattle.layout.specs.declared.items.ItemPlace.the-variants as answer
 
 -- 62, "body doesn't fit the layout exactly": its size is no multiple of k
-unfoldable pub items : ℕ → ℕ → List ℕ → Answered (List ℕ)
-items k tag s = framed tag s >>= λ body. fit (eqb (length body % k) 0) body
+unfoldable pub items : List ℕ → ℕ → ℕ → Answered (List ℕ)
+items s tag k = framed s tag >>= λ body. fit (eqb (length body % k) 0) body
 
 -- how many items there are
-unfoldable pub count : ℕ → ℕ → List ℕ → Answered ℕ
-count k tag s = items k tag s >>= λ body. value (length body / k)
+unfoldable pub count : List ℕ → ℕ → ℕ → Answered ℕ
+count s tag k = items s tag k >>= λ body. value (length body / k)
 
 -- "66 index past the end": where the item of an index counted from 0 starts, counted from the tag as 0
-unfoldable pub place : ℕ → ℕ → List ℕ → ℕ → Answered ℕ
-place k tag s index =
-    items k tag s >>= λ body. if ltb index (length body / k) then value (2 + k * index) else refused (plain 66)
+unfoldable pub place : List ℕ → ℕ → ℕ → ℕ → Answered ℕ
+place s tag k index =
+    items s tag k >>= λ body. if ltb index (length body / k) then value (2 + k * index) else refused (plain 66)
 
 -- the bytes of that item
-unfoldable pub item : ℕ → ℕ → List ℕ → ℕ → Answered (List ℕ)
-item k tag s index = place k tag s index >>= λ at. value (take k (drop at s))
+unfoldable pub item : List ℕ → ℕ → ℕ → ℕ → Answered (List ℕ)
+item s tag k index = place s tag k index >>= λ at. value (take k (drop at s))
 
 -- document 01's number for every answer
 abbrev pub toldCount : Count → Answered ℕ

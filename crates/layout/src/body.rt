@@ -14,7 +14,7 @@ pub enum Body {
 
 // 61, and 62 for the length byte.
 pub fn any(s: &[u8], tag: u8) -> Body
-    ensures { λ r. ⌜ told (now (s .entry)) r ≡ framed tag (now (s .entry)) ⌝ }
+    ensures { λ r. ⌜ told (now (s .entry)) r ≡ framed (now (s .entry)) tag ⌝ }
 {
     let n = s.len();
     if n == 0 {
@@ -41,7 +41,7 @@ pub fn size(s: &[u8]) -> usize
 
 // A body of n bytes.
 pub fn sized(s: &[u8], tag: u8, n: usize) -> Body
-    ensures { λ r. ⌜ told (now (s .entry)) r ≡ fixed n tag (now (s .entry)) ⌝ }
+    ensures { λ r. ⌜ told (now (s .entry)) r ≡ fixed (now (s .entry)) tag n ⌝ }
 {
     match any(s, tag) {
         Body::Refused(why) => Body::Refused(why),

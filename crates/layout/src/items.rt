@@ -34,7 +34,7 @@ fn remainder(n: usize, k: usize) -> usize
 }
 
 fn whole(s: &[u8], tag: u8, k: usize) -> Body
-    ensures { λ r. ⌜ toldBody (now (s .entry)) r ≡ items k tag (now (s .entry)) ⌝ }
+    ensures { λ r. ⌜ toldBody (now (s .entry)) r ≡ items (now (s .entry)) tag k ⌝ }
 {
     match any(s, tag) {
         Body::Refused(why) => Body::Refused(why),
@@ -47,7 +47,7 @@ fn whole(s: &[u8], tag: u8, k: usize) -> Body
 }
 
 pub fn number_of(s: &[u8], tag: u8, k: usize) -> Count
-    ensures { λ r. ⌜ toldCount r ≡ count k tag (now (s .entry)) ⌝ }
+    ensures { λ r. ⌜ toldCount r ≡ count (now (s .entry)) tag k ⌝ }
 {
     match whole(s, tag, k) {
         Body::Refused(why) => Count::Refused(why),
@@ -57,7 +57,7 @@ pub fn number_of(s: &[u8], tag: u8, k: usize) -> Count
 
 // The item of an index counted from 0.
 pub fn item_at(s: &[u8], tag: u8, k: usize, index: usize) -> ItemPlace
-    ensures { λ r. ⌜ toldPlace r ≡ place k tag (now (s .entry)) index ⌝ }
+    ensures { λ r. ⌜ toldPlace r ≡ place (now (s .entry)) tag k index ⌝ }
 {
     match whole(s, tag, k) {
         Body::Refused(why) => ItemPlace::Refused(why),

@@ -63,10 +63,10 @@ module _ {A : Type 0} (tag n i : ℕ) (some : 0 < n) (s : List ℕ) (bytes : Byt
     (fields : List ℕ → A) (shown : A → List ℕ)
     (places : (b : List ℕ) → Bytes b → keptOf fs (spans 0 fs b) ≡ shown (fields b))
     (once : (x y : A) → shown x ≡ shown y → x ≡ y) (x : A) where
-  plain-exactly : (item n tag s i >>= λ b. value (fields b)) ≡ value x ↔ HoldsItem tag fs s i (shown x)
+  plain-exactly : (item s tag n i >>= λ b. value (fields b)) ≡ value x ↔ HoldsItem tag fs s i (shown x)
   plain-exactly = (
     λ e.
-        let t = through (item n tag s i) (λ b. value (fields b)) x e in
+        let t = through (item s tag n i) (λ b. value (fields b)) x e in
         holds-item tag n i some s bytes fs fills (t .0) (shown x) (t .1)
         (places (t .0) (given-bytes tag n i some s bytes fs fills (t .0) (t .1)) ∙ ap shown (value-is (t .2))),
     λ h.
@@ -169,7 +169,7 @@ pub offsets-exactly : (s : List ℕ) → Bytes s → (i : ℕ) (x : Offset)
 unfolding offsets.localTimeOffset
 offsets-exactly s bytes i x = (
   λ e.
-      let t = through (item 13 0x58 s i) offsets.fields x e in
+      let t = through (item s 0x58 13 i) offsets.fields x e in
       let given = given-bytes 0x58 13 i (omega arith) s bytes offsets.layout refl (t .0) (t .1) in
       let p = offsets-places (t .0) given x (t .2) in
       (_, p .0, holds-item 0x58 13 i (omega arith) s bytes offsets.layout refl (t .0) _ (t .1) (p .1)),

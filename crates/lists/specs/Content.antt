@@ -25,11 +25,11 @@ fields b = record { «content_nibble_level_1» = bitsOf layout 0 b; «content_ni
 
 -- the item of an index, of a body of items of the layout's 2 bytes behind the tag 0x54
 unfoldable pub content : List ℕ → ℕ → Answered Item
-content s index = item (size layout) 0x54 s index >>= λ b. value (fields b)
+content s index = item s 0x54 (size layout) index >>= λ b. value (fields b)
 
 -- how many there are
 abbrev pub contentCount : List ℕ → Answered ℕ
-contentCount s = count (size layout) 0x54 s
+contentCount s = count s 0x54 (size layout)
 
 -- the values that its fields have, in the layout's order
 abbrev pub shown : Item → List ℕ

@@ -56,11 +56,11 @@ fields b = do
 
 -- the item of an index, of a body of items of the layout's 13 bytes behind the tag 0x58
 unfoldable pub localTimeOffset : List ℕ → ℕ → Answered Item
-localTimeOffset s index = item (size layout) 0x58 s index >>= fields
+localTimeOffset s index = item s 0x58 (size layout) index >>= fields
 
 -- how many there are
 abbrev pub offsetCount : List ℕ → Answered ℕ
-offsetCount s = count (size layout) 0x58 s
+offsetCount s = count s 0x58 (size layout)
 
 -- the values that its kept fields have, in the layout's order; one polarity serves both offsets
 abbrev pub shown : Bool → Item → List ℕ

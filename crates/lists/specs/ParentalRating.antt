@@ -24,11 +24,11 @@ fields b = record { «country_code» = numberOf layout 0 b; rating = byteOf layo
 
 -- the item of an index, of a body of items of the layout's 4 bytes behind the tag 0x55
 unfoldable pub parentalRating : List ℕ → ℕ → Answered Item
-parentalRating s index = item (size layout) 0x55 s index >>= λ b. value (fields b)
+parentalRating s index = item s 0x55 (size layout) index >>= λ b. value (fields b)
 
 -- how many there are
 abbrev pub ratingCount : List ℕ → Answered ℕ
-ratingCount s = count (size layout) 0x55 s
+ratingCount s = count s 0x55 (size layout)
 
 -- the values that its fields have, in the layout's order
 abbrev pub shown : Item → List ℕ

@@ -24,11 +24,11 @@ fields b = record { «service_id» = numberOf layout 0 b; «service_type» = byt
 
 -- the item of an index, of a body of items of the layout's 3 bytes behind the tag 0x41
 unfoldable pub serviceList : List ℕ → ℕ → Answered Item
-serviceList s index = item (size layout) 0x41 s index >>= λ b. value (fields b)
+serviceList s index = item s 0x41 (size layout) index >>= λ b. value (fields b)
 
 -- how many there are
 abbrev pub serviceCount : List ℕ → Answered ℕ
-serviceCount s = count (size layout) 0x41 s
+serviceCount s = count s 0x41 (size layout)
 
 -- the values that its fields have, in the layout's order
 abbrev pub shown : Item → List ℕ

@@ -19,16 +19,16 @@ abbrev pub oneEntry : ℕ → ℕ → Part → Entry
 oneEntry fixed n r = record { found = true; fixed = part (r .start) fixed; descriptors = part (r .start + fixed) n; rest = behind (fixed + n) r }
 
 -- the place of the loop length of an entry at the front of r
-abbrev pub loopSize : ℕ → List ℕ → Part → ℕ
-loopSize fixed s r = len12At s (r .start + (fixed - 2))
+abbrev pub loopSize : List ℕ → ℕ → Part → ℕ
+loopSize s fixed r = len12At s (r .start + (fixed - 2))
 
 -- the first entry of r, where r has all of it; a table without entries has no fixed bytes
-unfoldable pub entryAt : ℕ → List ℕ → Part → Entry
-entryAt fixed s r =
+unfoldable pub entryAt : List ℕ → ℕ → Part → Entry
+entryAt s fixed r =
     if eqb fixed 0 then noEntry r
-    else if leb (fixed + loopSize fixed s r) (r .size) then oneEntry fixed (loopSize fixed s r) r
+    else if leb (fixed + loopSize s fixed r) (r .size) then oneEntry fixed (loopSize s fixed r) r
     else noEntry r
 
 -- the same of a part that lies in s; an entry's fixed bytes are as many as the row of the table says
 unfoldable pub nextEntry : List ℕ → Part → Entry
-nextEntry s r = if within s r then entryAt (rowFor s .fixed) s r else noEntry r
+nextEntry s r = if within s r then entryAt s (rowFor s .fixed) r else noEntry r

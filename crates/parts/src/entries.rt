@@ -33,7 +33,7 @@ fn no_entry(rest: Part) -> Entry
 
 fn entry_at(section: &[u8], fixed: usize, rest: Part) -> Entry
     requires { ⌜ FixedTwo fixed × (rest .start + rest .size ≤ length (now section)) ⌝ }
-    ensures { λ r. ⌜ r ≡ entryAt fixed (now (section .entry)) rest ⌝ }
+    ensures { λ r. ⌜ r ≡ entryAt (now (section .entry)) fixed rest ⌝ }
 {
     let start = rest.start;
     let size = rest.size;

@@ -38,10 +38,10 @@ short-event-fills = refl
 -- ---- one text to the end
 
 whole-exactly : (tag : ℕ) (s : List ℕ) (p : Part)
-    → whole tag s ≡ value p ↔ ((b : List ℕ) × Framed tag s b × (p ≡ partAt 0 (length b)))
+    → whole s tag ≡ value p ↔ ((b : List ℕ) × Framed tag s b × (p ≡ partAt 0 (length b)))
 unfolding whole
 whole-exactly tag s p = (
-  λ e. let t = through (framed tag s) _ p e in (t .0, framed-exactly tag s (t .0) .0 (t .1), sym (value-is (t .2))),
+  λ e. let t = through (framed s tag) _ p e in (t .0, framed-exactly tag s (t .0) .0 (t .1), sym (value-is (t .2))),
   λ x. rw (framed-exactly tag s (x .0) .1 (x .1)) (ap value (sym (x .2))),
 )
 
@@ -81,7 +81,7 @@ pub service-exactly : (s : List ℕ) → Bytes s → (f : Service)
 unfolding service.service service.fields
 service-exactly s bytes f = (
   λ e.
-      let t = through (framed 0x48 s) _ f e in
+      let t = through (framed s 0x48) _ f e in
       let u = through (twoTexts (t .0) 1) _ f (t .2) in
       let fr = framed-exactly 0x48 s (t .0) .0 (t .1) in
       let x = texts-exactly 1 (t .0) (u .0) .0 (u .1) in
@@ -110,7 +110,7 @@ pub short-event-exactly : (s : List ℕ) → Bytes s → (f : ShortEvent)
 unfolding short-event.shortEvent short-event.fields
 short-event-exactly s bytes f = (
   λ e.
-      let t = through (framed 0x4D s) _ f e in
+      let t = through (framed s 0x4D) _ f e in
       let u = through (twoTexts (t .0) 3) _ f (t .2) in
       let fr = framed-exactly 0x4D s (t .0) .0 (t .1) in
       let x = texts-exactly 3 (t .0) (u .0) .0 (u .1) in

@@ -7,4 +7,4 @@ use Rattle.texts.specs.Whole.{whole}
 
 -- 0.. name, 8 bits each
 unfoldable pub networkName : List ℕ → Answered Part
-networkName s = whole 0x40 s
+networkName s = whole s 0x40

@@ -26,7 +26,7 @@ fields b = do
 
 -- the tag 0x48, and a body of those fields
 unfoldable pub service : List ℕ → Answered Service
-service s = framed 0x48 s >>= fields
+service s = framed s 0x48 >>= fields
 
 -- its two texts
 abbrev pub names : Service → TwoTexts

@@ -26,7 +26,7 @@ fields b = do
 
 -- the tag 0x4D, and a body of those fields
 unfoldable pub shortEvent : List ℕ → Answered ShortEvent
-shortEvent s = framed 0x4D s >>= fields
+shortEvent s = framed s 0x4D >>= fields
 
 -- its two texts
 abbrev pub texts : ShortEvent → TwoTexts

@@ -7,4 +7,4 @@ use Rattle.texts.specs.Whole.{whole}
 
 -- 0.. stuffing bytes, any value
 unfoldable pub stuffing : List ℕ → Answered Part
-stuffing s = whole 0x42 s
+stuffing s = whole s 0x42

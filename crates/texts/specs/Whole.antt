@@ -11,8 +11,8 @@ use Rattle.texts.specs.declared.whole.Answer.{Answer}
 use Rattle.texts.specs.declared.whole.Answer.the-variants.{Is, Refused}
 
 -- all bytes of the body behind a tag
-unfoldable pub whole : ℕ → List ℕ → Answered Part
-whole tag s = framed tag s >>= λ b. value (partAt 0 (length b))
+unfoldable pub whole : List ℕ → ℕ → Answered Part
+whole s tag = framed s tag >>= λ b. value (partAt 0 (length b))
 
 -- document 01's number for every answer
 abbrev pub told : Answer → Answered Part

@@ -13,7 +13,7 @@ pub enum Answer {
 }
 
 pub fn read(s: &[u8], tag: u8) -> Answer
-    ensures { λ r. ⌜ told r ≡ whole tag (now (s .entry)) ⌝ }
+    ensures { λ r. ⌜ told r ≡ whole (now (s .entry)) tag ⌝ }
 {
     match any(s, tag) {
         Body::Refused(why) => Answer::Refused(why),

@@ -18,14 +18,14 @@ use Rattle.delivery.specs.declared.satellite.Satellite.{Satellite}
 use Rattle.worked.specs.Worked.{zeros, holds, cableSteps, satelliteSteps}
 
 -- the body of a descriptor of eleven bytes
-body-is : (tag : ℕ) (l b : List ℕ) → fixed 11 tag (tag ∷ 11 ∷ l) ≡ value b → l ≡ b
+body-is : (tag : ℕ) (l b : List ℕ) → fixed (tag ∷ 11 ∷ l) tag 11 ≡ value b → l ≡ b
 unfolding fixed
-body-is tag l b e = go (through (framed tag (tag ∷ 11 ∷ l)) (λ body. fit (eqb (length body) 11) body) b e)
+body-is tag l b e = go (through (framed (tag ∷ 11 ∷ l) tag) (λ body. fit (eqb (length body) 11) body) b e)
   where
     fits : (c : List ℕ) → fit (eqb (length c) 11) c ≡ value b → c ≡ b
     fits c = if-case (λ x. x ≡ value b → c ≡ b) (eqb (length c) 11) (λ h q. value-is q) (λ h q. absurd (never (sym q)))
 
-    go : (c : List ℕ) × (framed tag (tag ∷ 11 ∷ l) ≡ value c) × (fit (eqb (length c) 11) c ≡ value b) → l ≡ b
+    go : (c : List ℕ) × (framed (tag ∷ 11 ∷ l) tag ≡ value c) × (fit (eqb (length c) 11) c ≡ value b) → l ≡ b
     go (c, f, q) =
         let p : tag ∷ 11 ∷ l ≡ tag ∷ length c ∷ c = framed-is tag (tag ∷ 11 ∷ l) c f in
         let r : l ≡ c = cc in
@@ -49,10 +49,10 @@ module _ {A : Type 0} (count : A → ℕ) where
 
   module _ (tag : ℕ) (fields : List ℕ → Answered A)
       (first : (b : List ℕ) (a : A) → fields b ≡ value a → digitsAt b 0 8 ≡ value (count a)) where
-    by-digits : (l : List ℕ) (n : ℕ) → digitsAt l 0 8 ≡ value n → (a : A) → (fixed 11 tag (tag ∷ 11 ∷ l) >>= fields) ≡ value a → count a ≡ n
-    by-digits l n d a e = go (through (fixed 11 tag (tag ∷ 11 ∷ l)) fields a e)
+    by-digits : (l : List ℕ) (n : ℕ) → digitsAt l 0 8 ≡ value n → (a : A) → (fixed (tag ∷ 11 ∷ l) tag 11 >>= fields) ≡ value a → count a ≡ n
+    by-digits l n d a e = go (through (fixed (tag ∷ 11 ∷ l) tag 11) fields a e)
       where
-        go : (b : List ℕ) × (fixed 11 tag (tag ∷ 11 ∷ l) ≡ value b) × (fields b ≡ value a) → count a ≡ n
+        go : (b : List ℕ) × (fixed (tag ∷ 11 ∷ l) tag 11 ≡ value b) × (fields b ≡ value a) → count a ≡ n
         go (b, f, q) = value-is (sym (first l a (ap fields (body-is tag l b f) ∙ q)) ∙ d)
 
 cable-first : (b : List ℕ) (a : Cable) → cableFields b ≡ value a → digitsAt b 0 8 ≡ value (a .frequency .0)
