@@ -31,7 +31,7 @@ use Rattle.sheet.specs.Sheet.{sheetBody, sheetOf, shownFor, OkFor}
 use Rattle.sheet.specs.Section.{bodyBytes, sectionLength, front, seal, sectionOf, contentOf, readSheet}
 use Rattle.sheet.specs.Reads.{judgedFor, judgedSheet}
 use Rattle.turn.specs.Inner.Ways.{putNumber}
-use Rattle.turn.specs.Inner.Bodies.{BodyForth, BodyBack, crcSize, leadingOf, begun, sealed, SectionWritten, SheetWritten, AcceptedWritten}
+use Rattle.turn.specs.Inner.Bodies.{BodyTurned, crcSize, leadingOf, begun, sealed, SectionWritten, SheetWritten, AcceptedWritten}
 use Rattle.turn.specs.Turn as turn
 use Rattle.turn.specs.Answers.{toldRefusal}
 use Rattle.sheet.proofs.SectionSize.{front-is, front-length, second, section-length, seal-length}
@@ -113,9 +113,9 @@ unfolding crc
 crc-small s = bytes-lt s (2 ^ 32 - 1) (lit< tt)
 
 -- the room, and what each step made of it; m are the bytes of the section, of which `end` stand before the CRC_32
-module _ (s o : List ℕ) (w : Bytes s) (lo : length o < 2 ^ 64) (n : ℕ) {number id m end : ℕ} {row : Row} {o₂ o₃ : List ℕ} {q : Place}
+module _ (s o : List ℕ) (w : Bytes s) (lo : length o < 2 ^ 64) (n number : ℕ) {id m end : ℕ} {row : Row} {o₂ o₃ : List ℕ} {q : Place}
     (hr : row ≡ rowAt number) (hm : m ≡ sum n 3) (he : end ≡ m - crcSize (row .crc)) (hid : id ≡ getD s 0 0)
-    (h₂ : o₂ ≡ begun o id (row .syntax) n) (h₃ : BodyForth number s (record { at = 1; to = 3 }) end o₂ q o₃) where
+    (h₂ : o₂ ≡ begun o id (row .syntax) n) (h₃ : BodyTurned true number s (record { at = 1; to = 3 }) end o₂ q o₃) where
   -- all but the CRC_32
   pub record Fronted (c : Content) : Type 0 where
     pub room : o₃ ≡ put o 0 (front c)
@@ -155,9 +155,10 @@ module _ (s o : List ℕ) (w : Bytes s) (lo : length o < 2 ^ 64) (n : ℕ) {numb
       ∙ number-put (put o 0 (id ∷ [])) 1 v (omega arith) (omega arith)
       ∙ put-put o 0 (id ∷ []) (omega arith) (x ∷ y ∷ []) (omega arith) in
       let l₂ : length o₂ ≡ length o = ap length p₂ ∙ length-put o 0 u (omega arith) in
-      let t : BodyForth (rowIn c) s (record { at = 1; to = 3 }) end o₂ q o₃ =
-      subst (λ i. BodyForth i s (record { at = 1; to = 3 }) end o₂ q o₃) hnumber h₃ in
-      let d = t .turned (bodyOf c) (h .ok .1 .1) (k .body) part (sym e-is) (omega arith) (omega arith) in
+      let t = subst (λ i. BodyTurned true i s (record { at = 1; to = 3 }) end o₂ q o₃) hnumber h₃ in
+      let ok = h .ok .1 .1 in
+      let d = t .turned (bodyOf c) (ok .0, ((ok .1 .0, k .body .1 .0), (ok .1 .1, k .body .1 .1))) part (omega arith) (sym e-is)
+      (omega arith) in
       let ones = frame-ones (frameOf c) (h .ok .1 .0) in
       let x-is : x ≡ second c =
       ap (λ (r : Row). (leadingOf (r .syntax) + n) / 256 % 256) row-is
@@ -210,9 +211,9 @@ written-never {s} w h = record { written = λ c r hn hr big. let k = held s c w 
 
 -- ---- a sheet
 
-module _ {s o : List ℕ} (w : Bytes s) {number : ℕ} {row : Row} {id end : ℕ} {o₁ o₂ : List ℕ} {q : Place}
+module _ {s o : List ℕ} (w : Bytes s) (number : ℕ) {row : Row} {id end : ℕ} {o₁ o₂ : List ℕ} {q : Place}
     (hr : row ≡ rowAt number) (he : end ≡ length s - crcSize (row .crc)) (hid : id ≡ getD s 0 0) (h₁ : o₁ ≡ put o 0 (id ∷ []))
-    (h₂ : BodyBack number s (record { at = 3; to = 1 }) end o₁ q o₂) where
+    (h₂ : BodyTurned false number s (record { at = 3; to = 1 }) end o₁ q o₂) where
   pub sheet-written : SheetWritten s number o (q .to) o₂
   unfolding sectionOf
   sheet-written = record {
@@ -241,9 +242,8 @@ module _ {s o : List ℕ} (w : Bytes s) {number : ℕ} {row : Row} {id end : ℕ
         let sh = sheet-is c (k .frame-fits) in
         let lsh = ap length sh in
         let p₁ : length o₁ ≡ length o = ap length h₁ ∙ length-put o 0 (id ∷ []) (omega arith) in
-        let t : BodyBack (rowIn c) s (record { at = 3; to = 1 }) end o₁ q o₂ =
-        subst (λ i. BodyBack i s (record { at = 3; to = 1 }) end o₁ q o₂) hnumber h₂ in
-        let d = t .turned (bodyOf c) (k .body) part e-is (omega arith) (omega arith) (omega arith) in
+        let t = subst (λ i. BodyTurned false i s (record { at = 3; to = 1 }) end o₁ q o₂) hnumber h₂ in
+        let d = t .turned (bodyOf c) (k .body) part (omega arith) e-is (omega arith) in
         let id-is : id ≡ tableOf c = hid ∙ ap (λ z. getD z 0 0) si in
         let dw = d .written in (
           d .room

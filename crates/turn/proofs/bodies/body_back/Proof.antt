@@ -1,5 +1,6 @@
 -- `turn::bodies::body_back` meets its contract.
-use Rattle.turn.proofs.BodyLaws.{entries-known, body-back, body-back-none}
+use Rattle.turn.proofs.BodyLaws.{entries-known, rest-some, rest-none, body-turned}
+use mathlib.Core.Bool.{false}
 use borrow.Author.Needs.{needs}
 use Rattle.turn.proofs.bodies.body_back.Statement.{statement}
 use Rattle.turn.proofs.bodies.body_back.Tie as tie
@@ -9,8 +10,8 @@ returns c =
     let topped = c .before .before .before in let room = topped .before .before .before in
     let headed = room .before in let found = headed .before .before in
     let shared-slice-known = found .before .before .before in let start = shared-slice-known .before in
-    body-back-none (start .args .number) (found .before .row-at .ensures) (found .is-one .ensures) (c .if1 .taken)
-    (headed .head .ensures) (topped .top-loop .ensures)
+    let n = start .args .number in let row = found .before .row-at .ensures in let top = found .is-one .ensures in
+    body-turned false n row top (headed .head .ensures) (topped .top-loop .ensures) (rest-none false n row top (c .if1 .taken))
 
 entries-back-requires : tie.Need-entries-back-requires
 entries-back-requires c κs =
@@ -24,8 +25,9 @@ returns-2 c =
     let made = c .before .before in let test = made .before .before in let topped = test .before .before .before in
     let room = topped .before .before .before in let headed = room .before in let found = headed .before .before in
     let shared-slice-known = found .before .before .before in let start = shared-slice-known .before in
-    body-back (start .args .number) (found .before .row-at .ensures) (found .is-one .ensures) (test .if1 .left)
-    (headed .head .ensures) (topped .top-loop .ensures) (made .entries-back .ensures)
+    let n = start .args .number in let row = found .before .row-at .ensures in let top = found .is-one .ensures in
+    body-turned false n row top (headed .head .ensures) (topped .top-loop .ensures)
+    (rest-some false n row top (test .if1 .left) (made .entries-back .ensures))
 
 pub body-back-spec : {M : Type 1} → statement M
 body-back-spec =

@@ -1,5 +1,6 @@
 -- `turn::bodies::body_forth` meets its contract.
-use Rattle.turn.proofs.BodyLaws.{body-forth, body-forth-none}
+use Rattle.turn.proofs.BodyLaws.{rest-some, rest-none, body-turned}
+use mathlib.Core.Bool.{true}
 use borrow.Author.Needs.{needs}
 use Rattle.turn.proofs.bodies.body_forth.Statement.{statement}
 use Rattle.turn.proofs.bodies.body_forth.Tie as tie
@@ -9,8 +10,8 @@ returns c =
     let room2 = c .before .before .before in let topped = room2 .before in
     let room = topped .before .before .before in let headed = room .before in let found = headed .before .before in
     let shared-slice-known = found .before .before .before in let start = shared-slice-known .before in
-    body-forth-none (start .args .number) (found .before .row-at .ensures) (found .is-one .ensures) (c .if1 .taken)
-    (headed .head .ensures) (topped .top-loop .ensures)
+    let n = start .args .number in let row = found .before .row-at .ensures in let top = found .is-one .ensures in
+    body-turned true n row top (headed .head .ensures) (topped .top-loop .ensures) (rest-none true n row top (c .if1 .taken))
 
 returns-2 : tie.Need-returns-2
 returns-2 c =
@@ -18,8 +19,9 @@ returns-2 c =
     let topped = room2 .before in let room = topped .before .before .before in let headed = room .before in
     let found = headed .before .before in let shared-slice-known = found .before .before .before in
     let start = shared-slice-known .before in
-    body-forth (start .args .number) (found .before .row-at .ensures) (found .is-one .ensures) (test .if1 .left)
-    (headed .head .ensures) (topped .top-loop .ensures) (made .entries-forth .ensures)
+    let n = start .args .number in let row = found .before .row-at .ensures in let top = found .is-one .ensures in
+    body-turned true n row top (headed .head .ensures) (topped .top-loop .ensures)
+    (rest-some true n row top (test .if1 .left) (made .entries-forth .ensures))
 
 pub body-forth-spec : {M : Type 1} → statement M
 body-forth-spec =
