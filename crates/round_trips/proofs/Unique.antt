@@ -6,7 +6,7 @@ use Rattle.verdict.specs.Verdict as verdict
 use Rattle.verdict.proofs.Unique.{verdictOf, verdict-back}
 use Rattle.verdict.specs.declared.Verdict.{Verdict}
 use Rattle.verdict.specs.declared.Verdict.the-variants as variants
-use Rattle.turn.specs.Turn.{Told, wrote, refused}
+use Rattle.turn.specs.Turn.{Told, wrote, refusedWith}
 use Rattle.turn.specs.Answers.{toldSection, toldRefusal, toldSheet}
 use Rattle.turn.specs.declared.SectionAnswer.{SectionAnswer}
 use Rattle.turn.specs.declared.SectionAnswer.the-variants as section
@@ -16,7 +16,7 @@ use Rattle.turn.specs.declared.SheetAnswer.the-variants as sheet
 -- the answer that tells it
 sectionBy : Told → SectionAnswer
 sectionBy (wrote n) = section.Wrote n
-sectionBy (refused k p) =
+sectionBy (refusedWith k p) =
     if eqb k 21 then section.Room
     else if eqb k 22 then section.Early
     else if eqb k 23 then section.Unknown
@@ -39,7 +39,7 @@ section-once a b e = sym (section-back a) ∙ ap sectionBy e ∙ section-back b
 
 sheetBy : Told → SheetAnswer
 sheetBy (wrote n) = sheet.Wrote n
-sheetBy (refused k p) = if eqb k 21 then sheet.Room else sheet.Refused (verdictOf k p)
+sheetBy (refusedWith k p) = if eqb k 21 then sheet.Room else sheet.Refused (verdictOf k p)
 
 -- no verdict has the number 21
 refusal-back : (v : Verdict) → sheetBy (toldRefusal (verdict.told v)) ≡ sheet.Refused v

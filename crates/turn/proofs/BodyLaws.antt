@@ -4,7 +4,6 @@ use mathlib.Core.Path.{_≡_, refl, sym, ap, _∙_, subst}
 use mathlib.Core.List.{List, [], _++_}
 use mathlib.Core.Bool.{Bool, true, false, not}
 use native.Mathlib.Omega.{arith}
-use borrow.Author.Tests.{eq-eqb, ne-eqb}
 use lib.ListN.{length, length-append}
 use lib.Dec.{eqb}
 use Rattle.tables.specs.Tables.{cell, rowAt}
@@ -12,12 +11,11 @@ use Rattle.tables.specs.declared.Row.{Row}
 use Rattle.forms.specs.Form.{Form, _then_}
 use Rattle.forms.specs.Inner.Turning.{Done, Turned}
 use Rattle.forms.proofs.Turns.{done-then}
-use Rattle.sheet.specs.Content.{headOf}
-use Rattle.sheet.specs.Sheet.{topFor, entriesFor}
-use Rattle.sheet.specs.Section.{sectionTop, sectionEntries}
+use Rattle.sheet.specs.Content.{headOf, Entries, TableShape, neither, topOnly, entriesOnly, both, shapeOf, hasTop}
+use Rattle.sheet.proofs.Shapes.{Columns, shape-columns, has-top}
 use Rattle.contents.proofs.SectionLaws.{each-row}
-use Rattle.turn.specs.Inner.Ways.{itemsFrom, itemsTo, topIf, entriesFrom, inSection, TurnedTo, EntriesTurned, EntrySizes}
-use Rattle.turn.specs.Inner.Bodies.{RestTurned, BodyTurned}
+use Rattle.turn.specs.Inner.Ways.{itemsFrom, itemsTo, topIf, withEntries, inSection, TurnedTo, EntriesTurned, EntrySizes}
+use Rattle.turn.specs.Inner.Bodies.{BodyTurned}
 use Rattle.turn.proofs.EntriesLaws.{none-turned}
 use Rattle.forms.specs.declared.Place.{Place}
 
@@ -50,35 +48,36 @@ pub entries-known : (number : ℕ) {row : Row} → row ≡ rowAt number → (row
 entries-known number hr n h =
     let fixed = ap (λ (x : Row). x .fixed) hr in record { has = fixed; known = with-entries number h (λ e. n (fixed ∙ e)) }
 
--- the entries, by the two columns of their row
-abbrev By : Bool → ℕ → Bool → Bool → List ℕ → Place → ℕ → List ℕ → Place → List ℕ → Type 0
-By b number none top = TurnedTo b (entriesFrom b none top number) (entriesFrom (not b) none top number)
-
-rest-by : (b : Bool) (number : ℕ) {s o o' : List ℕ} {r v : Place} {end : ℕ}
-    → By b number (eqb (rowAt number .fixed) 0) (eqb (rowAt number .top) 1) s r end o v o' → RestTurned b number s r end o v o'
-unfolding entriesFor sectionEntries
-rest-by b number t = t
-
 module _ (b : Bool) (number : ℕ) {row : Row} (hr : row ≡ rowAt number) {top : Bool} (ht : top ≡ eqb (row .top) 1) where
-  is-top : top ≡ eqb (rowAt number .top) 1
-  is-top = ht ∙ ap (λ (x : Row). eqb (x .top) 1) hr
+  is-top : top ≡ hasTop (shapeOf number)
+  is-top = ht ∙ ap (λ (x : Row). eqb (x .top) 1) hr ∙ has-top number
 
-  pub rest-some : {s o o' : List ℕ} {r v : Place} {end : ℕ} → (row .fixed ≡ 0 → ⊥) → EntriesTurned b top number s r end o v o'
-      → RestTurned b number s r end o v o'
-  rest-some {s} {o} {o'} {r} {v} {end} n m =
-      let some = ne-eqb (rowAt number .fixed) 0 (λ e. n (ap (λ (x : Row). x .fixed) hr ∙ e)) in
-      rest-by b number (subst (λ z. By b number z (eqb (rowAt number .top) 1) s r end o v o') (sym some)
-      (subst (λ t. By b number false t s r end o v o') is-top m))
+  -- the shape of the row, by both
+  with-some : (row .fixed ≡ 0 → ⊥) → withEntries top ≡ shapeOf number
+  with-some n = go (shapeOf number) top is-top (shape-columns number)
+    where
+      go : (x : TableShape) (t : Bool) → t ≡ hasTop x → Columns (rowAt number) x → withEntries t ≡ x
+      go neither t e c = absurd (n (ap (λ (x : Row). x .fixed) hr ∙ c .1))
+      go topOnly t e c = absurd (n (ap (λ (x : Row). x .fixed) hr ∙ c .1))
+      go entriesOnly t e c = ap withEntries e
+      go both t e c = ap withEntries e
 
-  pub rest-none : {s o : List ℕ} {r : Place} {end : ℕ} → row .fixed ≡ 0 → RestTurned b number s r end o r o
-  rest-none {s} {o} {r} {end} e =
-      let none = eq-eqb (rowAt number .fixed) 0 (ap (λ (x : Row). x .fixed) (sym hr) ∙ e) in
-      rest-by b number (subst (λ z. By b number z (eqb (rowAt number .top) 1) s r end o r o) (sym none)
-      (record { turned = λ a k w f _ _. none-turned ([], []) b .turned a k w f }))
+  pub rest-some : {s o o' : List ℕ} {r v : Place} {end : ℕ} → (row .fixed ≡ 0 → ⊥)
+      → EntriesTurned b (withEntries top) number s r end o v o' → EntriesTurned b (shapeOf number) number s r end o v o'
+  rest-some {s} {o} {o'} {r} {v} {end} n = subst (λ x. EntriesTurned b x number s r end o v o') (with-some n)
+
+  pub rest-none : {s o : List ℕ} {r : Place} {end : ℕ} → row .fixed ≡ 0 → EntriesTurned b (shapeOf number) number s r end o r o
+  rest-none {s} {o} {r} {end} e = go (shapeOf number) (shape-columns number)
+    where
+      go : (x : TableShape) → Columns (rowAt number) x → EntriesTurned b x number s r end o r o
+      go neither c = record { turned = λ a k w f _ _. none-turned {A = Entries} ([], []) b .turned a k w f }
+      go topOnly c = record { turned = λ a k w f _ _. none-turned {A = Entries} ([], []) b .turned a k w f }
+      go entriesOnly c = absurd (c .1 (ap (λ (x : Row). x .fixed) (sym hr) ∙ e))
+      go both c = absurd (c .1 (ap (λ (x : Row). x .fixed) (sym hr) ∙ e))
 
   pub body-turned : {s o o₁ o₂ o₃ : List ℕ} {p q r v : Place} {end : ℕ}
       → Turned (itemsFrom b (headOf number)) (itemsTo b (headOf number)) s p o q o₁
-      → Turned (topIf b top) (topIf (not b) top) s q o₁ r o₂ → RestTurned b number s r end o₂ v o₃ → BodyTurned b number s p end o v o₃
-  unfolding topFor sectionTop
+      → Turned (topIf b top) (topIf (not b) top) s q o₁ r o₂ → EntriesTurned b (shapeOf number) number s r end o₂ v o₃
+      → BodyTurned b number s p end o v o₃
   body-turned {s} {o₁ = o₁} {o₂} {q = q} {r} h u m =
       then-to b h (then-to b (subst (λ t. Turned (topIf b t) (topIf (not b) t) s q o₁ r o₂) is-top u) m)

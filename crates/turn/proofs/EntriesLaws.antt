@@ -11,19 +11,18 @@ use Rattle.wire.specs.Number.{numberAt}
 use Rattle.wire.specs.Parts.{Part}
 use Rattle.wire.proofs.PartLaws.{part-second, part-taken}
 use Rattle.tables.specs.Tables.{cell}
-use Rattle.wire.specs.If.{if_then_else_}
-use Rattle.forms.specs.Form.{Form, mute, _then_, eachShow, EachOk}
-use Rattle.forms.specs.Fields.{room, pack, Fit, sheetFields}
-use Rattle.forms.specs.Lists.{all, All, none, one, times, counted, countedShow, loopShow}
+use Rattle.forms.specs.Form.{Form, mute, eachShow, EachOk}
+use Rattle.forms.specs.Fields.{room, pack, sheetField, sheetFields}
+use Rattle.forms.specs.Lists.{all, All, none, one, times, countedShow, loopShow}
 use Rattle.forms.specs.Room.{put, sum}
 use Rattle.forms.specs.Inner.Turning.{Turned}
 use Rattle.forms.proofs.Puts.{sum-fits, put-put, length-put}
 use Rattle.forms.proofs.Turns.{turned-nothing, turned-as, turned-zero, turned-suc}
-use Rattle.sheet.specs.Content.{Entry, Entries, bare, entryOf, sideOf}
-use Rattle.sheet.specs.Sheet.{sheetEntry}
+use Rattle.sheet.specs.Content.{Entry, Entries, bare, entryOf, shapeOf, sideOf}
+use Rattle.sheet.specs.Sheet.{sheetEntry, entriesForBy}
 use Rattle.sheet.specs.Section.{sectionEntry}
 use Rattle.turn.specs.Inner.Fields.{Shape, running, bared}
-use Rattle.turn.specs.Inner.Ways.{from, entryFrom, entryTo, topIf, entriesFrom, behindOwn, ownSize, ownPut, EntriesTurned, NumberIn, putNumber}
+use Rattle.turn.specs.Inner.Ways.{from, entryFrom, entryTo, topIf, entriesFrom, withEntries, behindOwn, ownSize, ownPut, EntriesTurned, NumberIn, putNumber}
 use Rattle.contents.proofs.SectionLaws.{half-bare, no-more, entry-full}
 use Rattle.contents.proofs.Accepted.{says}
 use Rattle.turn.proofs.PieceLaws.{part-within, part-byte, part-first-byte, number-put}
@@ -32,11 +31,11 @@ use Rattle.forms.specs.declared.Place.{Place}
 -- ---- what stands beside an entry's loop length
 
 pub bare-sides : Shape (sideOf 0) 0 16 × Shape (sideOf 2) 0 16 × Shape (sideOf 5) 0 16
-unfolding sideOf cell
+unfolding sideOf shapeOf cell
 bare-sides = (bared, bared, bared)
 
 pub status-side : (row : ℕ) → (row ≡ 0 → ⊥) → (row ≡ 2 → ⊥) → (row ≡ 5 → ⊥) → Shape (sideOf row) 8 16
-unfolding sideOf cell
+unfolding sideOf shapeOf cell
 status-side zero f g h = absurd (f refl)
 status-side (suc zero) f g h = running
 status-side (suc (suc zero)) f g h = absurd (g refl)
@@ -101,11 +100,10 @@ beside-ones (v ∷ []) o = let e = o .0 in omega arith
 beside-ones (v ∷ w ∷ vs) o = absurd (o .1)
 
 -- they are no byte of a sheet
-bare-shown : (vs : List ℕ) → Fit bare vs → sheetFields bare .show vs ≡ []
-unfolding eachShow EachOk
-bare-shown [] o = absurd o
-bare-shown (v ∷ []) o = refl
-bare-shown (v ∷ w ∷ vs) o = absurd (o .1)
+bare-shown : (vs : List ℕ) → sheetFields bare .show vs ≡ []
+unfolding eachShow
+bare-shown [] = refl
+bare-shown (v ∷ vs) = refl
 
 both-ok : (row : ℕ) (es : List Entry) → All (sheetEntry row) es → All (sectionEntry row) es → All (entryFrom true row) es
 both-ok row [] none none = none
@@ -114,18 +112,22 @@ both-ok row (e ∷ es) (one o os) (one u us) = one (o .0, (o .1, u .1)) (both-ok
 -- what is shown of entries that a section can hold, by whether they have a length of their own
 module _ (row : ℕ) (e : Entries) where
   abbrev sheets : Bool → Form Entries
-  sheets top = sheetFields (if top then bare else []) then counted (sheetEntry row)
+  sheets top = entriesForBy sheetField (withEntries top) row
 
   abbrev sections : Bool → Form Entries
-  sections top = entriesFrom false false top row
+  sections top = entriesFrom false (withEntries top) row
 
   abbrev body : List ℕ
   body = all (sectionEntry row) (e .1)
 
   held : (top : Bool) → sections top .Ok e → (sheets top .show e ≡ countedShow (sheetEntry row) (e .1)) × All (sectionEntry row) (e .1)
   unfolding eachShow
-  held true o = (ap (λ l. l ++ countedShow (sheetEntry row) (e .1)) (bare-shown (e .0) (o .0)), o .2)
+  held true o = (ap (λ l. l ++ countedShow (sheetEntry row) (e .1)) (bare-shown (e .0)), o .2)
   held false o = (refl, o .1 .1)
+
+  counted : (top : Bool) → sheets top .Ok e → (length (e .1) < 65536) × All (sheetEntry row) (e .1)
+  counted true o = o .1
+  counted false o = o .1
 
   -- entries put behind their length, where they have one, are put with it
   own-put : (top : Bool) (o : List ℕ) (to end : ℕ) → length o < 2 ^ 64 → sheets top .Ok e → to + length (sections top .show e) ≡ end
@@ -165,7 +167,7 @@ module _ (row : ℕ) (e : Entries) where
       let behind : sum at 2 ≡ at + 2 = sum-fits at 2 (omega arith) in (
         subst (λ k. Part s k body) (sym behind) (part-second (a ∷ b ∷ []) body w),
         ap₂ len12 (part-first-byte (a ∷ b ∷ body) w (omega arith)) (part-byte (a ∷ b ∷ body) w 1 (omega arith))
-            ∙ says bare half-bare (e .0) (ok .0) N (ok .1),
+            ∙ says (sectionEntry row) bare half-bare e ok,
         omega arith,
       )
   own-read false s at end ls ok w i = (w, omega arith, i)
@@ -175,7 +177,7 @@ module _ (row : ℕ) (e : Entries) where
 module _ {s o : List ℕ} (ls : length s < 2 ^ 64) (lo : length o < 2 ^ 64) (top : Bool) (row : ℕ) {p q z : Place} {x o' : List ℕ} where
   pub entries-forth : {end number : ℕ} → number ≡ numberAt 2 s (p .at) → z .at ≡ sum (p .at) 2 → z .to ≡ behindOwn top (p .to)
       → x ≡ ownPut top o (p .to) end → Turned (times (entryFrom true row) number) (times (entryTo true row) number) s z x q o'
-      → EntriesTurned true top row s p end o q o'
+      → EntriesTurned true (withEntries top) row s p end o q o'
   unfolding countedShow
   entries-forth {end} {number} hn ha ht hx t = record {
     turned = λ e k v f i small.
@@ -183,7 +185,7 @@ module _ {s o : List ℕ} (ls : length s < 2 ^ 64) (lo : length o < 2 ^ 64) (top
         let body = all (sheetEntry row) es in
         let h = held row e top (k .1) in
         let w = subst (Part s (p .at)) (h .0) v in
-        let few = k .0 .1 .0 in
+        let few = counted row e top (k .0) .0 in
         let n = part-within (countedShow (sheetEntry row) es) w in
         let own = own-put row e top o (p .to) end lo (k .0) i small (omega arith) in
         let a : z .at ≡ p .at + 2 = ha ∙ sum-fits (p .at) 2 (omega arith) in
@@ -192,7 +194,8 @@ module _ {s o : List ℕ} (ls : length s < 2 ^ 64) (lo : length o < 2 ^ 64) (top
         subst (λ k. Part s k body) (sym a) (part-second (length es / 256 ∷ length es % 256 ∷ []) body w) in
         let lx : length x ≡ length o = ap length hx ∙ own .1 in
         let ends : z .to + length (all (sectionEntry row) es) ≡ end = ap (λ k. k + length (all (sectionEntry row) es)) ht ∙ own .0 in
-        let d = t .turned es (j, both-ok row es (k .0 .1 .1) (h .1)) (subst (Part s (z .at)) (sym (sheet-shown row es)) wb) (omega arith) in
+        let d = t .turned es (j, both-ok row es (counted row e top (k .0) .1) (h .1))
+        (subst (Part s (z .at)) (sym (sheet-shown row es)) wb) (omega arith) in
         let m = ap length (h .0) in
         record {
           room = d .room ∙ ap₂ (λ j k. put j k (all (sectionEntry row) es)) hx ht ∙ own .2;
@@ -203,7 +206,8 @@ module _ {s o : List ℕ} (ls : length s < 2 ^ 64) (lo : length o < 2 ^ 64) (top
 
   pub entries-back : {end k : ℕ} → NumberIn (sectionEntry row) (take (ownSize top s (p .at) end) (drop (behindOwn top (p .at)) s)) k
       → z .at ≡ behindOwn top (p .at) → z .to ≡ sum (p .to) 2 → x ≡ putNumber o (p .to) k
-      → Turned (times (entryFrom false row) k) (times (entryTo false row) k) s z x q o' → EntriesTurned false top row s p end o q o'
+      → Turned (times (entryFrom false row) k) (times (entryTo false row) k) s z x q o'
+      → EntriesTurned false (withEntries top) row s p end o q o'
   unfolding countedShow
   entries-back {end} {k} hk ha ht hx t = record {
     turned = λ e ok w f i small.
@@ -248,7 +252,7 @@ none-turned v {s} {o} {p} false = turned-nothing (mute v) (from true (mute v) (m
 -- an entry without fields is its loop
 pub top-turned : {s o o' : List ℕ} {p q : Place} (b t : Bool) → t ≡ true
     → Turned (times (entryFrom b 5) 1) (times (entryTo b 5) 1) s p o q o' → Turned (topIf b t) (topIf (not b) t) s p o q o'
-unfolding sideOf entryOf cell all eachShow EachOk
+unfolding sideOf shapeOf entryOf cell all eachShow EachOk
 top-turned {s} {o} {o'} {p} {q} b t e u =
     subst (λ x. Turned (topIf b x) (topIf (not b) x) s p o q o') (sym e)
     (turned-as (λ l k. (([], l) ∷ [], (refl, one (tt, k) none), sym (append-nil _), sym (append-nil _))) u)

@@ -107,7 +107,7 @@ module _ {s o : List ℕ} (ls : length s < 2 ^ 64) (lo : length o < 2 ^ 64) {p q
           let bx : getD s (p .at) 0 ≡ x = part-first-byte (x ∷ y ∷ body) w (omega arith) in
           let by : getD s (p .at + 1) 0 ≡ y = part-byte (x ∷ y ∷ body) w 1 (omega arith) in
           let kN = ok .1 in
-          let iN : n ≡ N = hn ∙ ap₂ len12 bx by ∙ says fs (shape-room sh) vs (ok .0) N (ok .1) in
+          let iN : n ≡ N = hn ∙ ap₂ len12 bx by ∙ says descriptor fs (shape-room sh) (vs, ds) ok in
           let behind : from ≡ p .at + 2 = hf ∙ sum-fits (p .at) 2 (omega arith) in
           let wb : Part s from body = subst (λ j. Part s j body) (sym behind) (part-second (x ∷ y ∷ []) body w) in
           let ik : k ≡ length ds = hk ds (ok .2) (sym (ap (λ i. take i (drop from s)) iN ∙ part-taken wb)) in

@@ -22,7 +22,7 @@ use Rattle.tables.specs.declared.Row.{Row}
 use Rattle.verdict.specs.Verdict as verdict
 use Rattle.section.specs.Reading.{judged}
 use Rattle.forms.specs.Form.{eachShow, EachOk}
-use Rattle.forms.specs.Fields.{Fit, room, pack, sheetFields}
+use Rattle.forms.specs.Fields.{room, pack, sheetFields}
 use Rattle.forms.specs.Room.{put, sum}
 use Rattle.forms.proofs.Puts.{sum-fits, put-put, length-put}
 pub use Rattle.forms.proofs.Outcomes.{take-put}
@@ -40,18 +40,16 @@ use Rattle.contents.proofs.SectionLaws.{numbers-of, first-byte}
 use Rattle.contents.proofs.Held.{held}
 use Rattle.contents.proofs.SheetSize.{sheet-fits}
 use Rattle.contents.proofs.ReadBack.{of-accepted}
-use Rattle.turn.proofs.TurnLaws.{to-section, to-sheet}
 use Rattle.turn.proofs.PieceLaws.{number-put}
 use Rattle.forms.specs.declared.Place.{Place}
 
 -- ---- the frame
 
-frame-shown : (vs : List ℕ) → Fit frame vs → sheetFields frame .show vs ≡ []
-unfolding eachShow EachOk
-frame-shown [] o = absurd o
-frame-shown (a ∷ []) o = absurd (o .1)
-frame-shown (a ∷ b ∷ []) o = refl
-frame-shown (a ∷ b ∷ c ∷ vs) o = absurd (o .1 .1)
+pub frame-shown : (vs : List ℕ) → sheetFields frame .show vs ≡ []
+unfolding eachShow
+frame-shown [] = refl
+frame-shown (a ∷ []) = refl
+frame-shown (a ∷ b ∷ vs) = refl
 
 frame-ones : (vs : List ℕ) → sheetFields frame .Ok vs → pack frame vs ≡ 7
 unfolding EachOk pack room
@@ -60,9 +58,9 @@ frame-ones (a ∷ []) o = absurd (o .1)
 frame-ones (a ∷ b ∷ []) o = let e = o .0 in let f = o .1 .0 in omega arith
 frame-ones (a ∷ b ∷ c ∷ vs) o = absurd (o .1 .1)
 
-sheet-is : (c : Content) → Fit frame (frameOf c) → sheetOf c ≡ tableOf c ∷ sheetBody (rowIn c) .show (bodyOf c)
+sheet-is : (c : Content) → sheetOf c ≡ tableOf c ∷ sheetBody (rowIn c) .show (bodyOf c)
 unfolding shownFor
-sheet-is c o = ap (λ l. tableOf c ∷ (l ++ sheetBody (rowIn c) .show (bodyOf c))) (frame-shown (frameOf c) o)
+sheet-is c = ap (λ l. tableOf c ∷ (l ++ sheetBody (rowIn c) .show (bodyOf c))) (frame-shown (frameOf c))
 
 -- a part behind one that is known
 behind : {s : List ℕ} (x l y : List ℕ) → s ≡ x ++ (l ++ y) → Part s (length x) l
@@ -70,18 +68,12 @@ behind x l y e = record { front = x; back = y; whole = e; place = refl }
 
 -- ---- a section
 
-syntax-bits : (x n : ℕ) → x ≤ 1 → n ≤ 4093 → (leadingOf x + n) / 256 % 256 ≡ x * 128 + 7 * 16 + n / 256
-syntax-bits zero n h g = omega arith
-syntax-bits (suc zero) n h g = omega arith
-syntax-bits (suc (suc x)) n h g = absurd (omega arith)
-
-lead-mod : (b : Bool) (n : ℕ) → ((if b then 0xF000 else 0x7000) + n) % 256 ≡ n % 256
-lead-mod true n = omega arith
-lead-mod false n = omega arith
-
-lead-small : (b : Bool) → (if b then 0xF000 else 0x7000) ≤ 0xF000
-lead-small true = omega arith
-lead-small false = omega arith
+-- the syntax bit x and the reserved bits before section_length n
+leading-is : (x n : ℕ) → x ≤ 1 → n ≤ 4093 → ((leadingOf x + n) / 256 % 256 ≡ x * 128 + 7 * 16 + n / 256)
+    × ((leadingOf x + n) % 256 ≡ n % 256) × (leadingOf x ≤ 0xF000)
+leading-is zero n h g = (omega arith, omega arith, omega arith)
+leading-is (suc zero) n h g = (omega arith, omega arith, omega arith)
+leading-is (suc (suc x)) n h g = absurd (omega arith)
 
 crc-bytes : (x : ℕ) → x ≤ 1 → crcSize x ≡ 4 * x
 crc-bytes zero h = refl
@@ -140,12 +132,14 @@ module _ (s o : List ℕ) (w : Bytes s) (lo : length o < 2 ^ 64) (n number : ℕ
       ap (λ (x : Row). crcSize (x .crc)) row-is ∙ crc-bytes (rowAt (rowIn c) .crc) (facts .crc-bit) in
       let e-is : end ≡ 3 + L = omega arith in
       let body = sheetBody (rowIn c) .show (bodyOf c) in
-      let si : s ≡ tableOf c ∷ (body ++ []) = h .shows ∙ sheet-is c (k .frame-fits) ∙ ap (λ l. tableOf c ∷ l) (sym (append-nil body)) in
+      let si : s ≡ tableOf c ∷ (body ++ []) = h .shows ∙ sheet-is c ∙ ap (λ l. tableOf c ∷ l) (sym (append-nil body)) in
       let part : Part s 1 body = behind (tableOf c ∷ []) body [] si in
       let id-is : id ≡ tableOf c = hid ∙ ap (λ z. getD z 0 0) si in
       let lead : ℕ = leadingOf (row .syntax) in
       let v : ℕ = lead + n in
-      let small = lead-small (eqb (row .syntax) 1) in
+      let bit : row .syntax ≤ 1 = subst (λ (r : Row). r .syntax ≤ 1) (sym row-is) (facts .syntax) in
+      let leading = leading-is (row .syntax) n bit (omega arith) in
+      let small = leading .2 in
       let x : ℕ = v / 256 % 256 in
       let y : ℕ = v % 256 in
       let u : List ℕ = id ∷ x ∷ y ∷ [] in
@@ -161,10 +155,10 @@ module _ (s o : List ℕ) (w : Bytes s) (lo : length o < 2 ^ 64) (n number : ℕ
       (omega arith) in
       let ones = frame-ones (frameOf c) (h .ok .1 .0) in
       let x-is : x ≡ second c =
-      ap (λ (r : Row). (leadingOf (r .syntax) + n) / 256 % 256) row-is
-      ∙ syntax-bits (rowAt (rowIn c) .syntax) n (facts .syntax) (omega arith)
+      leading .0
+      ∙ ap (λ (r : Row). r .syntax * 128 + 7 * 16 + n / 256) row-is
       ∙ ap₂ (λ i j. rowAt (rowIn c) .syntax * 128 + i * 16 + j / 256) (sym ones) hn in
-      let y-is : y ≡ sectionLength c % 256 = lead-mod (eqb (row .syntax) 1) n ∙ ap (λ i. i % 256) hn in
+      let y-is : y ≡ sectionLength c % 256 = leading .1 ∙ ap (λ i. i % 256) hn in
       record {
         room =
             d .room ∙ ap (λ z. put z 3 b) p₂ ∙ put-put o 0 u (omega arith) b (omega arith)
@@ -239,7 +233,7 @@ module _ {s o : List ℕ} (w : Bytes s) (number : ℕ) {row : Row} {id end : ℕ
         let part : Part s 3 b = behind hd b (seal c) si in
         let body = sheetBody (rowIn c) .show (bodyOf c) in
         let fits = sheet-fits c k in
-        let sh = sheet-is c (k .frame-fits) in
+        let sh = sheet-is c in
         let lsh = ap length sh in
         let p₁ : length o₁ ≡ length o = ap length h₁ ∙ length-put o 0 (id ∷ []) (omega arith) in
         let t = subst (λ i. BodyTurned false i s (record { at = 3; to = 1 }) end o₁ q o₂) hnumber h₂ in
@@ -265,6 +259,16 @@ sheet-never {s} w h = record {
 }
 
 -- ---- the answers
+
+pub to-section : (n : ℕ) (s : List ℕ) (c : Content) → 4096 ≤ n → readSheet s ≡ reading.value c
+    → turn.toSection n s ≡ turn.gives (sectionOf c)
+unfolding turn.toSection
+to-section n s c h e = rw (le-ltb n 4096 h, e) refl
+
+pub to-sheet : (n : ℕ) (s : List ℕ) (c : Content) → 5120 ≤ n → judged s ≡ verdict.accepted → contentOf s ≡ reading.value c
+    → turn.toSheet n s ≡ turn.gives (sheetOf c)
+unfolding turn.toSheet
+to-sheet n s c h e f = rw (le-ltb n 5120 h, e, f) refl
 
 pub section-no-room : (n : ℕ) (s : List ℕ) → n < 4096 → turn.toSection n s ≡ turn.refuses 21 0
 unfolding turn.toSection
@@ -314,7 +318,7 @@ section-made n s k w h e =
     let hk : k ≡ sectionLength c = sym (value-is (x .2)) in
     let m = y .holds .most in
     let mm = numbers-of (rowIn c) (y .holds .known) .most in
-    let si = y .shows ∙ sheet-is c (y .holds .frame-fits) in
+    let si = y .shows ∙ sheet-is c in
     record {
       content = c;
       reads = x .1;

@@ -6,7 +6,7 @@ use lib.ListN.{length}
 use Rattle.wire.specs.Reading as reading
 use Rattle.tables.specs.Tables.{rowOf}
 use Rattle.sheet.specs.Reads.{told}
-use Rattle.turn.specs.Turn.{toSection, wrote, refused, answer, roomAfter}
+use Rattle.turn.specs.Turn.{toSection, wrote, refusedWith, answer, roomAfter}
 use Rattle.turn.proofs.WholeLaws.{section-no-room, section-refused, section-made}
 use borrow.Author.Needs.{needs}
 use Rattle.turn.proofs.to_section.Statement.{statement}
@@ -28,7 +28,7 @@ module _ (j : tie.After-judge) where
 
   -- a refusal is told, and the room is as it was
   refusal : (k : ℕ) → told (j .judge .result) ≡ reading.refused k
-      → (refused k 0 ≡ answer (toSection (length room) sheet)) × (room ≡ roomAfter room (toSection (length room) sheet))
+      → (refusedWith k 0 ≡ answer (toSection (length room) sheet)) × (room ≡ roomAfter room (toSection (length room) sheet))
   refusal k e =
       let f = section-refused (length room) sheet k (j .before .if1 .left) (sym (j .judge .ensures) ∙ e) in
       (ap answer (sym f), ap (roomAfter room) (sym f))

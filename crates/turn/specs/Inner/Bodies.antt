@@ -13,25 +13,17 @@ use Rattle.section.specs.Reading.{judged}
 use Rattle.crc.specs.Crc.{crc}
 use Rattle.forms.specs.Form.{Form, _then_}
 use Rattle.forms.specs.Room.{put, sum}
-use Rattle.sheet.specs.Content.{Entries, Body, Content, rowIn, headOf}
-use Rattle.sheet.specs.Sheet.{sheetTop, sheetEntries, sheetOf}
-use Rattle.sheet.specs.Section.{sectionTop, sectionEntries, sectionLength, sectionOf, contentOf, readSheet}
-use Rattle.turn.specs.Inner.Ways.{from, itemsFrom, owned, TurnedTo, putNumber}
+use Rattle.sheet.specs.Content.{Body, Content, rowIn, headOf, shapeOf}
+use Rattle.sheet.specs.Sheet.{sheetTop, sheetOf}
+use Rattle.sheet.specs.Section.{sectionTop, sectionLength, sectionOf, contentOf, readSheet}
+use Rattle.turn.specs.Inner.Ways.{from, itemsFrom, entriesFrom, TurnedTo, putNumber}
 use Rattle.forms.specs.declared.Place.{Place}
-
--- what is read behind the top loop
-abbrev pub restFrom : Bool → ℕ → Form Entries
-restFrom b row = from b (sheetEntries row) (owned (sectionEntries row))
-
--- it is turned, and ends in the section at the place `end`
-abbrev pub RestTurned : Bool → ℕ → List ℕ → Place → ℕ → List ℕ → Place → List ℕ → Type 0
-RestTurned b row = TurnedTo b (restFrom b row) (restFrom (not b) row)
 
 -- the body that is read: head, top loop, entries
 abbrev pub bodyFrom : Bool → ℕ → Form Body
-bodyFrom b row = itemsFrom b (headOf row) then from b (sheetTop row) (sectionTop row) then restFrom b row
+bodyFrom b row = itemsFrom b (headOf row) then from b (sheetTop row) (sectionTop row) then entriesFrom b (shapeOf row) row
 
--- it is turned so
+-- it is turned, and ends in the section at the place `end`
 abbrev pub BodyTurned : Bool → ℕ → List ℕ → Place → ℕ → List ℕ → Place → List ℕ → Type 0
 BodyTurned b row = TurnedTo b (bodyFrom b row) (bodyFrom (not b) row)
 

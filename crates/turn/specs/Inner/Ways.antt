@@ -9,13 +9,13 @@ use Rattle.wire.specs.Bytes.{len12At}
 use Rattle.wire.specs.Parts.{Part}
 use Rattle.tables.specs.Tables.{TDT, rowAt}
 use Rattle.forms.specs.Form.{Form, mute, _then_, each}
-use Rattle.forms.specs.Fields.{Field, sheetFields}
-use Rattle.forms.specs.Lists.{all, All, counted, countedShow, loop, filling}
+use Rattle.forms.specs.Fields.{Field, sheetField}
+use Rattle.forms.specs.Lists.{all, All, countedShow}
 use Rattle.forms.specs.Room.{put, sum}
 use Rattle.forms.specs.Inner.Turning.{Done, Turned}
-use Rattle.sheet.specs.Content.{Item, packed, bare, entryOf, sideOf, Fields, Descriptor, Loop, Entry, Entries}
-use Rattle.sheet.specs.Sheet.{descriptor, sheetItem, sheetLoop, sheetEntry}
-use Rattle.sheet.specs.Section.{sectionItem, sectionLoop, sectionEntry}
+use Rattle.sheet.specs.Content.{Item, packed, bare, entryOf, TableShape, entriesOnly, both, sideOf, Fields, Descriptor, Loop, Entry, Entries}
+use Rattle.sheet.specs.Sheet.{descriptor, sheetItem, sheetLoop, entriesForBy}
+use Rattle.sheet.specs.Section.{sectionItem, sectionLoop, sectionEntriesBy}
 use Rattle.turn.specs.Inner.Fields.{Shape}
 use Rattle.forms.specs.declared.Place.{Place}
 
@@ -112,11 +112,13 @@ ownPut top o to end = if top then putNumber o to (sum 0xF000 (end - sum to 2)) e
 abbrev pub owned : (ℕ → Form Entries) → Form Entries
 owned f = record { read = f 0 .read; show = f 0 .show; Ok = λ e. f (length (f 0 .show e)) .Ok e }
 
--- the entries that are read: where the table has none, and where they have a length of their own
-abbrev pub entriesFrom : Bool → Bool → Bool → ℕ → Form Entries
-entriesFrom b none top row =
-    from b (if none then mute ([], []) else sheetFields (if top then bare else []) then counted (sheetEntry row))
-    (owned (λ n. if none then mute ([], []) else if top then loop (sectionEntry row) bare else mute [] then filling (sectionEntry row) n))
+-- the entries that are read, in a table of that shape
+abbrev pub entriesFrom : Bool → TableShape → ℕ → Form Entries
+entriesFrom b x row = from b (entriesForBy sheetField x row) (owned (sectionEntriesBy x row))
+
+-- a table that has entries, by whether they have a length of their own
+abbrev pub withEntries : Bool → TableShape
+withEntries top = if top then both else entriesOnly
 
 -- of what is read and what is written that which is the section's
 abbrev pub inSection : {A : Type 0} → Bool → A → A → A
@@ -128,6 +130,6 @@ pub record TurnedTo {A : Type 0} (b : Bool) (c d : Form A) (s : List ℕ) (p : P
   pub turned : (a : A) → c .Ok a → Part s (p .at) (c .show a) → p .to + length (d .show a) ≤ length o
       → inSection b (p .at) (p .to) + length (inSection b (c .show a) (d .show a)) ≡ end → end ≤ 4096 → Done p (c .show a) (d .show a) o q o'
 
--- the entries of a table that has some
-abbrev pub EntriesTurned : Bool → Bool → ℕ → List ℕ → Place → ℕ → List ℕ → Place → List ℕ → Type 0
-EntriesTurned b top row = TurnedTo b (entriesFrom b false top row) (entriesFrom (not b) false top row)
+-- the entries of a table of that shape
+abbrev pub EntriesTurned : Bool → TableShape → ℕ → List ℕ → Place → ℕ → List ℕ → Place → List ℕ → Type 0
+EntriesTurned b x row = TurnedTo b (entriesFrom b x row) (entriesFrom (not b) x row)

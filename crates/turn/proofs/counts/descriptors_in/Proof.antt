@@ -1,11 +1,11 @@
 -- `turn::counts::descriptors_in` meets its contract.
-use mathlib.Core.Path.{ap, _∙_}
-use Prim.Native.Nat.{_+_, _-_}
+use mathlib.Core.Path.{_∙_}
+use Prim.Native.Nat.{_-_}
 use native.Mathlib.Omega.{arith}
 use lib.ListN.{length}
 use Rattle.sheet.specs.Sheet.{descriptor}
 use Rattle.contents.proofs.SectionLaws.{descriptor-full}
-use Rattle.turn.proofs.CountLaws.{Counting, count-begins, count-on, count-less, count-ends, descriptor-size}
+use Rattle.turn.proofs.CountLaws.{Counting, count-begins, count-on, count-less, count-ends, descriptor-says}
 use borrow.Author.Needs.{needs}
 use Rattle.turn.proofs.counts.descriptors_in.Statement.{statement}
 use Rattle.turn.proofs.counts.descriptors_in.Tie as tie
@@ -43,7 +43,7 @@ loop-again c =
     let l = start .args .bytes .now in
     let q = test .before .loop .p in
     count-on descriptor descriptor-full l (c .past .ensures) (omega arith)
-    (λ a r o z. ap (λ x. 2 + x) (c .before .wide .ensures .same ∙ length-byte .byte-at .ensures) ∙ descriptor-size a r l q z)
+    (descriptor-says l 0 q (c .before .wide .ensures .same ∙ length-byte .byte-at .ensures) (λ _. omega arith))
     (test .loop-test .taken) (start .good .0 .0) (test .before .loop .inv)
 
 returns : tie.Need-returns Inv-loop μ-loop

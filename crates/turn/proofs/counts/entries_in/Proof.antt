@@ -6,8 +6,7 @@ use lib.ListN.{length}
 use Rattle.wire.specs.Bytes.{len12At}
 use Rattle.sheet.specs.Section.{sectionEntry}
 use Rattle.contents.proofs.SectionLaws.{entry-full}
-use Rattle.turn.proofs.CountLaws.{Counting, count-begins, count-on, count-less, count-ends}
-use Rattle.turn.proofs.EntryLaws.{fixed-small, entry-size}
+use Rattle.turn.proofs.CountLaws.{Counting, count-begins, count-on, count-less, count-ends, fixed-small, entry-says}
 use borrow.Author.Needs.{needs}
 use Rattle.turn.proofs.counts.entries_in.Statement.{statement}
 use Rattle.turn.proofs.counts.entries_in.Tie as tie
@@ -53,9 +52,9 @@ loop-again c =
     let q = test .before .loop .p in
     count-on (sectionEntry (a .row)) (entry-full (a .row)) l (c .past2 .ensures)
     (omega (arith, fixed-small (a .fixed) (a .row) (start .pre)))
-    (λ e r o z.
+    (λ e o t.
     ap (λ x. a .fixed + x) (c .before .length12-at .ensures .same ∙ ap (len12At l) (c .before .before .past .ensures))
-    ∙ entry-size (a .fixed) (a .row) (start .pre) e r l q (start .good .0 .0) o z)
+    ∙ entry-says (a .fixed) (a .row) (start .pre) l q (start .good .0 .0) e o t)
     (test .loop-test .taken) (start .good .0 .0) (test .before .loop .inv)
 
 returns : tie.Need-returns Inv-loop μ-loop

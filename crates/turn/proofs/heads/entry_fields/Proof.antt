@@ -3,7 +3,7 @@ use mathlib.Core.List.{[], _∷_}
 use Rattle.tables.proofs.RowLaws.{numbered-below, unnumbered-from}
 use Rattle.sheet.specs.Content.{plain, flags}
 use Rattle.turn.specs.Inner.Fields.{flagged}
-use Rattle.turn.proofs.HeadLaws.{sdt-entry, eit-entry, nit-entry, no-entry, no-items, an-item, last-item, plain-item, as-items}
+use Rattle.turn.proofs.HeadLaws.{sdt-entry, eit-entry, networks, no-entry, no-items, an-item, last-item, plain-item, as-items}
 use borrow.Author.Needs.{needs}
 use Rattle.turn.proofs.heads.entry_fields.Statement.{statement}
 use Rattle.turn.proofs.heads.entry_fields.Tie as tie
@@ -32,7 +32,7 @@ returns-3 c =
     let forth = start .args .forth in
     let row = start .args .row in
     let known = numbered-below row (test .before .is-numbered .ensures) (test .if3 .taken) in
-    as-items forth (nit-entry row known (event .before .if1 .left) (event .if2 .left))
+    as-items forth (networks row known (event .before .if1 .left) (event .if2 .left) .1)
     (last-item forth (plain 4) (plain-item forth 4 (last .plain3 .ensures)))
 
 returns-4 : tie.Need-returns-4

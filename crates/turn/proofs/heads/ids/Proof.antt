@@ -2,7 +2,7 @@
 use mathlib.Core.List.{[], _∷_}
 use Rattle.sheet.specs.Content.{plain, filler}
 use Rattle.turn.specs.Inner.Fields.{filled}
-use Rattle.turn.proofs.HeadLaws.{sdt-ids, eit-ids, no-ids, no-items, an-item, last-item, plain-item, as-items}
+use Rattle.turn.proofs.HeadLaws.{sdt-ids, eit-ids, networks, no-items, an-item, last-item, plain-item, as-items}
 use borrow.Author.Needs.{needs}
 use Rattle.turn.proofs.heads.ids.Statement.{statement}
 use Rattle.turn.proofs.heads.ids.Tie as tie
@@ -27,7 +27,7 @@ returns-3 : tie.Need-returns-3
 returns-3 c =
     let shared-slice-known = c .before .before .before in let start = shared-slice-known .before in
     let forth = start .args .forth in
-    as-items forth (no-ids (start .args .row) (start .pre) (c .before .if1 .left) (c .if2 .left)) (no-items forth)
+    as-items forth (networks (start .args .row) (start .pre) (c .before .if1 .left) (c .if2 .left) .0) (no-items forth)
 
 pub ids-spec : {M : Type 1} → statement M
 ids-spec =
