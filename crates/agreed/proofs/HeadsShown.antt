@@ -14,7 +14,7 @@ use Rattle.head.specs.Head.{isCurrent, hasNoSubTable}
 use Rattle.head.specs.SubTable.{isSdt, isEit, idsThatCount, networkIn, subTableOf}
 use Rattle.head.proofs.HeadLaws.{version-is}
 use Rattle.forms.specs.Form.{eachShow, EachOk}
-use Rattle.forms.specs.Fields.{pack, room, sheetField}
+use Rattle.forms.specs.Fields.{pack, room}
 use Rattle.sheet.specs.Content.{Item, plain, numbers, version, headOf, Fields, Content, tableOf, frameOf, rowIn, restIn, topIn, headIn}
 use Rattle.sheet.specs.Sheet.{sheetItem, sheetTop, sheetEntries, sheetOf, shownFor}
 use Rattle.sheet.specs.Section.{sectionItem, sectionTop, sectionEntries, sectionLength, seal, sectionOf}

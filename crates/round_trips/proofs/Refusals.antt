@@ -5,7 +5,6 @@ use mathlib.Core.Logic.{_↔_}
 use mathlib.Core.List.{List}
 use native.Mathlib.Omega.{arith}
 use native.Mathlib.Decide.{decLt}
-use borrow.Author.Tests.{le-ltb}
 use lib.ListN.{length}
 use Rattle.wire.specs.Bytes.{Bytes}
 use Rattle.forms.proofs.Lawful.{read-on}
@@ -25,7 +24,7 @@ use Rattle.turn.specs.Answers.{toldSection, toldSheet}
 use Rattle.round_trips.specs.Refusals as refusals
 use Rattle.round_trips.specs.Refusals.{SectionRefusal, SheetRefusal, SectionRefusedExactlyIf, SectionMadeExactlyIf, SheetRefusedExactlyIf, SheetMadeExactlyIf, SectionRoomFirst, SheetRoomFirst}
 use Rattle.contents.proofs.Held.{held}
-use Rattle.turn.proofs.WholeLaws.{section-no-room, section-refused, section-made, sheet-no-room, sheet-made}
+use Rattle.turn.proofs.WholeLaws.{section-no-room, section-refused, section-made, sheet-no-room, sheet-large, sheet-made}
 use Rattle.round_trips.proofs.Numbers.{sheet-numbers, section-numbers}
 use Rattle.round_trips.proofs.Unique.{section-once, sheet-once}
 use Rattle.round_trips.proofs.RoundTrips.{no-gives, from-sheet, from-section}
@@ -110,10 +109,6 @@ section-room-first s o o' r w p = (
     go (refusals.SectionRefusal.faulty h f) = let n = sheet-numbers f in absurd (omega arith)
 
 -- ---- a section into a sheet
-
-sheet-large : (n : ℕ) (s : List ℕ) → 5120 ≤ n → toSheet n s ≡ sheetIf (judged s) (sheetFrom (contentOf s))
-unfolding toSheet
-sheet-large n s h = rw (le-ltb n 5120 h)
 
 sheet-refusal : (n : ℕ) (s : List ℕ) (k q : ℕ) → toSheet n s ≡ refuses k q → SheetRefusal n s k q
 sheet-refusal n s k q e = go (decLt n 5120)

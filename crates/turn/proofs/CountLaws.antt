@@ -31,6 +31,10 @@ unfolding sum
 sum-more n k m h g f =
     if-case (λ x. n < x) (leb (n + k) (2 ^ 64 - 1)) (λ _. omega arith) (λ _. omega arith)
 
+-- so the place behind an item is nearer to the end
+pub count-less : (m : ℕ) {p n size : ℕ} → n ≡ sum p size → 0 < size → p < m → m < 2 ^ 64 → m - n < m - p
+count-less m {p} {size = size} hn some h b = omega (arith, sum-more p size m h b some)
+
 -- ---- items that stand at the place `at` of s
 
 module _ {A : Type 0} (c : Form A) (s : List ℕ) (at : ℕ) where
@@ -103,9 +107,6 @@ module _ {A : Type 0} (c : Form A) (full : Full c) (l : List ℕ) where
       some-left [] h = absurd (omega arith)
       some-left (a ∷ r) h = omega arith
 
-  pub count-less : {p n size : ℕ} → n ≡ sum p size → 0 < size → p < length l → length l < 2 ^ 64 → length l - n < length l - p
-  count-less {p} {n} {size} hn some h b = omega (arith, sum-more p size (length l) h b some)
-
   -- none is left
   pub count-ends : {p k : ℕ} → length l ≤ p → Counting p k → NumberIn c l k
   count-ends {p} {k} h f m o e =
@@ -115,11 +116,11 @@ module _ {A : Type 0} (c : Form A) (full : Full c) (l : List ℕ) where
 -- ---- the bytes of so many descriptors
 
 -- a descriptor says its size in its second byte
-pub descriptor-says : (s : List ℕ) (at p : ℕ) {b q : ℕ} → b ≡ getD s q 0 → (at + p + 1 < length s → q ≡ at + p + 1)
+pub descriptor-says : (s : List ℕ) (at p : ℕ) {b byte q : ℕ} → b ≡ byte → byte ≡ getD s q 0 → (at + p + 1 < length s → q ≡ at + p + 1)
     → Says descriptor s at p (2 + b)
-descriptor-says s at p hb e d o t =
+descriptor-says s at p h hb e d o t =
     let within = part-within (descriptor .show d) t in
-    let i = hb ∙ ap (λ q. getD s q 0) (e (omega arith)) ∙ part-byte (descriptor .show d) t 1 (omega arith) in
+    let i = h ∙ hb ∙ ap (λ q. getD s q 0) (e (omega arith)) ∙ part-byte (descriptor .show d) t 1 (omega arith) in
     omega arith
 
 module _ (s : List ℕ) (at : ℕ) where
@@ -138,18 +139,18 @@ module _ (s : List ℕ) (at : ℕ) where
         (x .0, omega (arith, ap length (x .1)));
   }
 
-  pub size-on : {n left next b : ℕ} → length s < 2 ^ 64 → 0 < left → b ≡ getD s (sum (sum at 3) n) 0 → next ≡ sum n (2 + b)
-      → Sizing n left → Sizing next (left - 1)
-  size-on {n} {left} {next} {b} ls some hb e f = record {
-    still = λ m o h w.
-        let x = f .still m o h w in
+  pub size-on : {n left next b byte first i : ℕ} → length s < 2 ^ 64 → 0 < left → first ≡ sum at 3 → i ≡ sum first n → byte ≡ getD s i 0
+      → b ≡ byte → next ≡ sum n (2 + b) → Sizing n left → Sizing next (left - 1)
+  size-on {n} {left} {i = i} ls some hf hi hb h e f = record {
+    still = λ m o small w.
+        let x = f .still m o small w in
         let k = x .1 in
-        let y = left-on descriptor s (at + 2) ls e (descriptor-says s (at + 2) n hb place) (x .0) (omega arith) in
+        let y = left-on descriptor s (at + 2) ls e (descriptor-says s (at + 2) n h hb place) (x .0) (omega arith) in
         (y .0, omega (arith, y .1));
   }
     where
-      place : at + 2 + n + 1 < length s → sum (sum at 3) n ≡ at + 2 + n + 1
-      place h = ap (λ q. sum q n) (sum-fits at 3 (omega arith)) ∙ sum-fits (at + 3) n (omega arith) ∙ omega arith
+      place : at + 2 + n + 1 < length s → i ≡ at + 2 + n + 1
+      place h = hi ∙ ap (λ q. sum q n) (hf ∙ sum-fits at 3 (omega arith)) ∙ sum-fits (at + 3) n (omega arith) ∙ omega arith
 
   pub size-ends : {n left : ℕ} → left ≤ 0 → Sizing n left → SizeAt s at n
   unfolding all

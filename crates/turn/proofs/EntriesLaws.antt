@@ -172,6 +172,11 @@ module _ (row : ℕ) (e : Entries) where
       )
   own-read false s at end ls ok w i = (w, omega arith, i)
 
+-- that length is put
+pub own-written : (top : Bool) (o : List ℕ) (to end : ℕ) {o' : List ℕ} {i j v : ℕ} → top ≡ true → i ≡ sum to 2 → j ≡ end - i
+    → v ≡ sum 0xF000 j → o' ≡ putNumber o to v → o' ≡ ownPut top o to end
+own-written top o to end e hi hj hv h = rw e (h ∙ ap (putNumber o to) (hv ∙ ap (sum 0xF000) (hj ∙ ap (λ i. end - i) hi)))
+
 -- ---- entries either way; z is the place of the first of them, x the room before they are written
 
 module _ {s o : List ℕ} (ls : length s < 2 ^ 64) (lo : length o < 2 ^ 64) (top : Bool) (row : ℕ) {p q z : Place} {x o' : List ℕ} where
@@ -204,12 +209,12 @@ module _ {s o : List ℕ} (ls : length s < 2 ^ 64) (lo : length o < 2 ^ 64) (top
         };
   }
 
-  pub entries-back : {end k : ℕ} → NumberIn (sectionEntry row) (take (ownSize top s (p .at) end) (drop (behindOwn top (p .at)) s)) k
-      → z .at ≡ behindOwn top (p .at) → z .to ≡ sum (p .to) 2 → x ≡ putNumber o (p .to) k
+  pub entries-back : {end k n : ℕ} {l : List ℕ} → n ≡ ownSize top s (p .at) end → l ≡ take n (drop (z .at) s)
+      → NumberIn (sectionEntry row) l k → z .at ≡ behindOwn top (p .at) → z .to ≡ sum (p .to) 2 → x ≡ putNumber o (p .to) k
       → Turned (times (entryFrom false row) k) (times (entryTo false row) k) s z x q o'
       → EntriesTurned false (withEntries top) row s p end o q o'
   unfolding countedShow
-  entries-back {end} {k} hk ha ht hx t = record {
+  entries-back {end} {k} {n} hn hl hk ha ht hx t = record {
     turned = λ e ok w f i small.
         let es = e .1 in
         let body = all (sheetEntry row) es in
@@ -219,7 +224,7 @@ module _ {s o : List ℕ} (ls : length s < 2 ^ 64) (lo : length o < 2 ^ 64) (top
         let m = ap length (h .0) in
         let few = no-more (sectionEntry row) (entry-full row) es (h .1) in
         let ik : k ≡ length es =
-        hk es (h .1) (sym (ap (λ i. take i (drop (behindOwn top (p .at)) s)) (own .1) ∙ part-taken (own .0))) in
+        hk es (h .1) (sym (hl ∙ ap₂ (λ i j. take i (drop j s)) (hn ∙ own .1) ha ∙ part-taken (own .0))) in
         let to : z .to ≡ p .to + 2 = ht ∙ sum-fits (p .to) 2 (omega arith) in
         let high : k / 256 % 256 ≡ length es / 256 = omega arith in
         let low : k % 256 ≡ length es % 256 = omega arith in

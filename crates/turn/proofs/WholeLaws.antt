@@ -6,7 +6,7 @@ use mathlib.Core.Bool.{Bool, true, false}
 use native.Mathlib.Omega.{arith}
 use borrow.Author.Tests.{eqb-true, lt-ltb, le-ltb}
 use lib.ListN.{length, getD, take, length-append}
-use lib.Dec.{eqb, ltb, lit<}
+use lib.Dec.{eqb, lit<}
 use Prim.{tt}
 use Rattle.wire.specs.If.{if_then_else_}
 use Rattle.wire.specs.Bytes.{Bytes}
@@ -29,7 +29,7 @@ pub use Rattle.forms.proofs.Outcomes.{take-put}
 use Rattle.sheet.specs.Content.{Content, frame, tableOf, frameOf, bodyOf, rowIn}
 use Rattle.sheet.specs.Sheet.{sheetBody, sheetOf, shownFor, OkFor}
 use Rattle.sheet.specs.Section.{bodyBytes, sectionLength, front, seal, sectionOf, contentOf, readSheet}
-use Rattle.sheet.specs.Reads.{judgedFor, judgedSheet}
+use Rattle.sheet.specs.Reads.{told, judgedFor, judgedSheet}
 use Rattle.turn.specs.Inner.Ways.{putNumber}
 use Rattle.turn.specs.Inner.Bodies.{BodyTurned, crcSize, leadingOf, begun, sealed, SectionWritten, SheetWritten, AcceptedWritten}
 use Rattle.turn.specs.Turn as turn
@@ -42,6 +42,7 @@ use Rattle.contents.proofs.SheetSize.{sheet-fits}
 use Rattle.contents.proofs.ReadBack.{of-accepted}
 use Rattle.turn.proofs.PieceLaws.{number-put}
 use Rattle.forms.specs.declared.Place.{Place}
+use Rattle.sheet.specs.declared.Judged.{Judged}
 
 -- ---- the frame
 
@@ -74,6 +75,10 @@ leading-is : (x n : ℕ) → x ≤ 1 → n ≤ 4093 → ((leadingOf x + n) / 256
 leading-is zero n h g = (omega arith, omega arith, omega arith)
 leading-is (suc zero) n h g = (omega arith, omega arith, omega arith)
 leading-is (suc (suc x)) n h g = absurd (omega arith)
+
+pub begun-is : (o : List ℕ) (id syntax n : ℕ) {o₁ o' : List ℕ} {x v : ℕ} → o₁ ≡ put o 0 (id ∷ []) → x ≡ leadingOf syntax → v ≡ sum x n
+    → o' ≡ putNumber o₁ 1 v → o' ≡ begun o id syntax n
+begun-is o id syntax n h₁ hx hv h = h ∙ ap₂ (λ o n. putNumber o 1 n) h₁ (hv ∙ ap (λ x. sum x n) hx)
 
 crc-bytes : (x : ℕ) → x ≤ 1 → crcSize x ≡ 4 * x
 crc-bytes zero h = refl
@@ -270,16 +275,21 @@ pub to-sheet : (n : ℕ) (s : List ℕ) (c : Content) → 5120 ≤ n → judged 
 unfolding turn.toSheet
 to-sheet n s c h e f = rw (le-ltb n 5120 h, e, f) refl
 
+-- a refusal is told, and the room is as it was
+pub told-refusal : {x : turn.Outcome} {k p : ℕ} (o : List ℕ) → x ≡ turn.refuses k p
+    → (turn.refusedWith k p ≡ turn.answer x) × (o ≡ turn.roomAfter o x)
+told-refusal o e = (ap turn.answer (sym e), ap (turn.roomAfter o) (sym e))
+
 pub section-no-room : (n : ℕ) (s : List ℕ) → n < 4096 → turn.toSection n s ≡ turn.refuses 21 0
 unfolding turn.toSection
 section-no-room n s h = rw (lt-ltb n 4096 h) refl
 
 -- written where it was accepted, and only there
-pub accepted-written : (x : Bool) (s : List ℕ) → x ≡ true → {row r : ℕ} {o o' : List ℕ} → row ≡ rowOf (getD s 0 0)
+pub accepted-written : (x : Bool) (s : List ℕ) → x ≡ true → {row id r : ℕ} {o o' : List ℕ} → id ≡ getD s 0 0 → row ≡ rowOf id
     → SheetWritten s row o r o' → AcceptedWritten x s o r o'
-accepted-written x s e {row} {r} {o} {o'} h w =
+accepted-written x s e {r = r} {o} {o'} i h w =
     record {
-      written = λ f. subst (λ k. SheetWritten s k o r o') h w;
+      written = λ f. subst (λ k. SheetWritten s k o r o') (h ∙ ap rowOf i) w;
       kept = λ f. absurd (true-not-false (sym e ∙ f));
     }
 
@@ -298,6 +308,11 @@ refused-through (reading.refused j) f k e = ap reading.refused (refused-is e)
 pub section-refused : (n : ℕ) (s : List ℕ) (k : ℕ) → 4096 ≤ n → judgedSheet s ≡ reading.refused k → turn.toSection n s ≡ turn.refuses k 0
 unfolding turn.toSection judgedFor
 section-refused n s k h e = let r = refused-through (readSheet s) sectionLength k e in rw (le-ltb n 4096 h, r) refl
+
+-- what the judge's answer j, which is r, comes to
+pub section-told : (s o : List ℕ) (k : ℕ) {j r : Judged} → 4096 ≤ length o → told j ≡ judgedSheet s → j ≡ r → told r ≡ reading.refused k
+    → (turn.refusedWith k 0 ≡ turn.answer (turn.toSection (length o) s)) × (o ≡ turn.roomAfter o (turn.toSection (length o) s))
+section-told s o k h e f g = told-refusal o (section-refused (length o) s k h (sym e ∙ ap told f ∙ g))
 
 -- what an accepted sheet gives
 pub record Made (n : ℕ) (s : List ℕ) (k : ℕ) : Type 0 where
@@ -332,18 +347,18 @@ pub sheet-no-room : (n : ℕ) (s : List ℕ) → n < 5120 → turn.toSheet n s �
 unfolding turn.toSheet
 sheet-no-room n s h = rw (lt-ltb n 5120 h) refl
 
+pub sheet-large : (n : ℕ) (s : List ℕ) → 5120 ≤ n → turn.toSheet n s ≡ turn.sheetIf (judged s) (turn.sheetFrom (contentOf s))
+unfolding turn.toSheet
+sheet-large n s h = rw (le-ltb n 5120 h)
+
+refusal-kept : (v : verdict.Said) (l o : List ℕ) → verdict.isAccepted v ≡ false
+    → (toldRefusal v ≡ turn.answer (turn.sheetIf v l)) × (o ≡ turn.roomAfter o (turn.sheetIf v l))
+refusal-kept verdict.accepted l o e = absurd (true-not-false e)
+refusal-kept (verdict.refused k p) l o e = (refl, refl)
+
 pub sheet-refused : (n : ℕ) (s o : List ℕ) → 5120 ≤ n → verdict.isAccepted (judged s) ≡ false
     → (toldRefusal (judged s) ≡ turn.answer (turn.toSheet n s)) × (o ≡ turn.roomAfter o (turn.toSheet n s))
-unfolding turn.toSheet
-sheet-refused n s o h e = go (judged s) refl
-  where
-    go : (v : verdict.Said) → judged s ≡ v
-        → (toldRefusal (judged s)
-        ≡ turn.answer (if ltb n 5120 then turn.refuses 21 0 else turn.sheetIf (judged s)
-        (turn.sheetFrom (contentOf s))))
-        × (o ≡ turn.roomAfter o (if ltb n 5120 then turn.refuses 21 0 else turn.sheetIf (judged s) (turn.sheetFrom (contentOf s))))
-    go verdict.accepted q = absurd (true-not-false (ap verdict.isAccepted (sym q) ∙ e))
-    go (verdict.refused k p) q = (rw (le-ltb n 5120 h, q) refl, rw (le-ltb n 5120 h, q) refl)
+sheet-refused n s o h e = rw (sheet-large n s h) (refusal-kept (judged s) (turn.sheetFrom (contentOf s)) o e)
 
 pub accepted-is : (v : verdict.Said) → verdict.isAccepted v ≡ true → v ≡ verdict.accepted
 accepted-is verdict.accepted e = refl

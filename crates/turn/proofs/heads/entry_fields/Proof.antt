@@ -17,14 +17,6 @@ returns c =
     (an-item forth (plain 2) (flags ∷ []) (plain-item forth 2 (first .plain .ensures))
     (last-item forth flags (last .packed .ensures .turned flagged)))
 
-returns-2 : tie.Need-returns-2
-returns-2 c =
-    let last = c .before .before in let test = last .before .before in
-    let shared-slice-known = test .before .before .before in let start = shared-slice-known .before in
-    let forth = start .args .forth in
-    as-items forth (eit-entry (start .args .row) (test .if2 .taken))
-    (last-item forth (plain 10) (plain-item forth 10 (last .plain2 .ensures)))
-
 returns-3 : tie.Need-returns-3
 returns-3 c =
     let last = c .before .before in let test = last .before .before in let event = test .before .before in
@@ -45,6 +37,6 @@ returns-4 c =
 
 pub entry-fields-spec : {M : Type 1} → statement M
 entry-fields-spec =
-    tie.close (tie.spec (λ c κs. search needs) (λ c κs. search needs) (λ c. search needs) returns
-    (λ c κs. search needs) (λ c. search needs) returns-2 (λ c κs. search needs) (λ c κs. search needs)
-    (λ c. search needs) returns-3 returns-4)
+    tie.close (tie.spec (λ c κs. search needs) (λ c κs. search needs) (λ c. search needs) returns (λ c κs. search needs)
+    (λ c. search needs) (λ c. search (as-items, eit-entry, last-item, plain-item)) (λ c κs. search needs)
+    (λ c κs. search needs) (λ c. search needs) returns-3 returns-4)

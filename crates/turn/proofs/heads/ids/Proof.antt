@@ -16,13 +16,6 @@ returns c =
     (an-item forth (plain 2) (filler ∷ []) (plain-item forth 2 (first .plain .ensures))
     (last-item forth filler (last .packed .ensures .turned filled)))
 
-returns-2 : tie.Need-returns-2
-returns-2 c =
-    let last = c .before .before in let test = last .before .before in
-    let shared-slice-known = test .before .before .before in let start = shared-slice-known .before in
-    let forth = start .args .forth in
-    as-items forth (eit-ids (start .args .row) (test .if2 .taken)) (last-item forth (plain 6) (plain-item forth 6 (last .plain2 .ensures)))
-
 returns-3 : tie.Need-returns-3
 returns-3 c =
     let shared-slice-known = c .before .before .before in let start = shared-slice-known .before in
@@ -31,5 +24,5 @@ returns-3 c =
 
 pub ids-spec : {M : Type 1} → statement M
 ids-spec =
-    tie.close (tie.spec (λ c κs. search needs) (λ c κs. search needs) (λ c. search needs) returns
-    (λ c κs. search needs) (λ c. search needs) returns-2 returns-3)
+    tie.close (tie.spec (λ c κs. search needs) (λ c κs. search needs) (λ c. search needs) returns (λ c κs. search needs)
+    (λ c. search needs) (λ c. search (as-items, eit-ids, last-item, plain-item)) returns-3)
