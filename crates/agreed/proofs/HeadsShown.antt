@@ -14,13 +14,14 @@ use Rattle.head.specs.Head.{isCurrent, hasNoSubTable}
 use Rattle.head.specs.SubTable.{isSdt, isEit, idsThatCount, networkIn, subTableOf}
 use Rattle.head.proofs.HeadLaws.{version-is}
 use Rattle.forms.specs.Form.{eachShow, EachOk}
-use Rattle.forms.specs.Fields.{pack, room, sheetField}
-use Rattle.sheet.specs.Content.{Item, plain, numbers, version, frame, headOf, Fields, Content, tableOf, frameOf, rowIn, restIn, topIn, headIn}
+use Rattle.forms.specs.Fields.{pack, room}
+use Rattle.sheet.specs.Content.{Item, plain, numbers, version, headOf, Fields, Content, tableOf, frameOf, rowIn, restIn, topIn, headIn}
 use Rattle.sheet.specs.Sheet.{sheetItem, sheetTop, sheetEntries, sheetOf, shownFor}
 use Rattle.sheet.specs.Section.{sectionItem, sectionTop, sectionEntries, sectionLength, seal, sectionOf}
 use Rattle.sheet.proofs.SectionSize.{second, front-is}
 use Rattle.contents.specs.Holds.{Holds}
 use Rattle.turn.proofs.HeadLaws.{common-items}
+use Rattle.turn.proofs.WholeLaws.{frame-shown}
 use Rattle.contents.proofs.SectionLaws.{first-byte}
 use Rattle.round_trips.proofs.RoundTrips.{from-sheet, from-section}
 use Rattle.agreed.specs.Agreed.{sheetSubTable, Shows, SectionShown, SheetShown}
@@ -170,12 +171,6 @@ module _ (t x y a b r v k n m : ℕ) (u w : List ℕ) where
 
 -- ---- the two forms of a content
 
-frame-unshown : (vs : List ℕ) → eachShow sheetField frame vs ≡ []
-unfolding eachShow
-frame-unshown [] = refl
-frame-unshown (a ∷ []) = refl
-frame-unshown (a ∷ b ∷ vs) = refl
-
 module _ (c : Content) (h : Holds c) (below : rowIn c < TDT) where
   abbrev row : ℕ
   row = rowIn c
@@ -215,7 +210,7 @@ module _ (c : Content) (h : Holds c) (below : rowIn c < TDT) where
         let items = common-items row below in
         let head = sym (ap (λ (xs : List Item). eachShow sheetItem xs (headIn c)) items) ∙ f .in-sheet in
         ap (λ z. tableOf c ∷ (z ++ (eachShow sheetItem (headOf row) (headIn c) ++ sheet-tail)))
-        (frame-unshown (frameOf c))
+        (frame-shown (frameOf c))
         ∙ ap (λ z. tableOf c ∷ (z ++ sheet-tail)) head
 
     fields-shown : Shows (sheetOf c) (sectionOf c)

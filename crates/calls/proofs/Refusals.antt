@@ -6,7 +6,7 @@ use mathlib.Core.Bool.{Bool}
 use mathlib.Core.List.{List, [], _∷_}
 use native.Mathlib.Omega.{arith}
 use lib.ListN.{length, getD}
-use lib.Dec.{eqb, ltb, leb}
+use lib.Dec.{ltb, leb}
 use Rattle.wire.specs.Reading.{Reading, value, refused, _>>=_}
 use Rattle.wire.specs.Number.{number}
 use Rattle.wire.proofs.IfLaws.{if-case}
@@ -15,8 +15,8 @@ use Rattle.section.specs.Faults.{First}
 use Rattle.forms.specs.Form.{Form, rawRead, raw, bothRead, _then_, suchRead, such, eachRead, each}
 use Rattle.forms.specs.Fields.{Field, kept, reserved, belowRead, sheetField, sheetFields}
 use Rattle.forms.specs.Lists.{timesRead, countedRead, counted}
-use Rattle.sheet.specs.Content.{Item, plain, numbers, packed, bare, frame, headOf, entryOf, sideOf, rowIn}
-use Rattle.sheet.specs.Sheet.{inOrder, sheetItem, descriptorRead, descriptor, sheetLoop, sheetEntry, sheetTop, topFor, sheetEntries, entriesFor, sheetBody, behindId, sheetRead, readFor}
+use Rattle.sheet.specs.Content.{Item, plain, numbers, packed, bare, frame, headOf, entryOf, shapeOf, hasTop, hasEntries, sideOf, rowIn}
+use Rattle.sheet.specs.Sheet.{inOrder, sheetItem, descriptorRead, descriptor, sheetLoop, sheetEntry, sheetTop, sheetEntries, sheetBody, behindId, sheetRead, readFor}
 use Rattle.sheet.specs.Section.{sectionLength, readSheet, readSheetFor}
 use Rattle.round_trips.proofs.Numbers.{section-numbers}
 
@@ -98,15 +98,13 @@ entry-numbered row =
     (each-numbered sheetItem item-numbered (entryOf row)) (loop-numbered (sideOf row))
 
 top-numbered : (row : ℕ) → Reads (sheetTop row)
-unfolding topFor
-top-numbered row = if-case Reads (eqb (rowAt row .top) 1) (λ _. loop-numbered bare) (λ _ s. tt)
+top-numbered row = if-case Reads (hasTop (shapeOf row)) (λ _. loop-numbered bare) (λ _ s. tt)
 
 entries-numbered : (row : ℕ) → Reads (sheetEntries row)
-unfolding entriesFor
 entries-numbered row =
-    if-case Reads (eqb (rowAt row .fixed) 0) (λ _ s. tt)
+    if-case Reads (hasEntries (shapeOf row))
     (λ _. both-numbered (sheetFields _) (counted (sheetEntry row)) (fields-numbered _)
-    (counted-numbered (sheetEntry row) (entry-numbered row)))
+    (counted-numbered (sheetEntry row) (entry-numbered row))) (λ _ s. tt)
 
 behind-numbered : (row : ℕ) → Reads (behindId row)
 behind-numbered row =

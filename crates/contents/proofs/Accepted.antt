@@ -2,12 +2,10 @@
 use Prim.Native.Nat.{ℕ, _+_, _-_, _*_, _/_, _%_, _<_, _≤_}
 use mathlib.Core.Path.{_≡_, refl, sym, ap, ap₂, _∙_, subst}
 use mathlib.Core.List.{List, [], _∷_, _++_, append-assoc, append-nil}
-use mathlib.Core.Bool.{Bool, true, false}
 use native.Mathlib.Omega.{arith}
-use borrow.Author.Tests.{eqb-true, eqb-false, leb-true, eq-eqb}
+use borrow.Author.Tests.{leb-true, eq-eqb}
 use lib.ListN.{length, getD, length-append, List·getD-append}
 use lib.Seq.{getD-at, getD-append-add}
-use lib.Dec.{eqb}
 use Rattle.wire.specs.If.{if_then_else_}
 use Rattle.wire.specs.Bytes.{len12, len12At}
 use Rattle.crc.specs.Crc.{crc, bytesOf}
@@ -20,17 +18,18 @@ use Rattle.loops.specs.Grammar as loops
 use Rattle.section.specs.Grammar as grammar
 use Rattle.section.specs.Reading.{judged}
 use Rattle.section.proofs.Exactly.{section-judged}
-use Rattle.forms.specs.Form.{_then_, eachShow, EachOk}
-use Rattle.forms.specs.Fields.{Field, room, pack, Fit}
+use Rattle.forms.specs.Form.{Form, _then_, eachShow, EachOk}
+use Rattle.forms.specs.Fields.{Field, room, pack}
 use Rattle.forms.specs.Lists.{loop, loopShow, all, All, none, one}
 use Rattle.forms.proofs.Lawful.{two-of}
 use Rattle.forms.proofs.FieldLaws.{pack-lt}
-use Rattle.sheet.specs.Content.{Item, common, numbers, bare, headOf, entryOf, sideOf, Fields, Descriptor, Loop, Entry, Entries, Content, tableOf, rowIn, restIn, topIn, headIn}
+use Rattle.sheet.specs.Content.{Item, common, numbers, bare, headOf, entryOf, TableShape, neither, topOnly, entriesOnly, both, shapeOf, sideOf, Fields, Descriptor, Loop, Entry, Entries, Content, tableOf, rowIn, restIn, topIn, headIn}
 use Rattle.sheet.specs.Sheet.{descriptor}
-use Rattle.sheet.specs.Section.{sectionItem, sectionEntry, sectionTop, sectionEntries, sectionLength, front, seal, sectionOf}
+use Rattle.sheet.specs.Section.{sectionItem, sectionEntry, sectionTop, sectionTopBy, sectionEntriesBy, sectionLength, front, seal, sectionOf}
+use Rattle.sheet.proofs.Shapes.{Columns, shape-columns}
 use Rattle.sheet.proofs.SectionSize.{seal-length, front-is, section-length, second}
 use Rattle.contents.specs.Holds.{Holds, entriesBytes}
-use Rattle.contents.proofs.SectionLaws.{half-bare, half-side, items-size, sizes, shortest, Numbers, each-row, numbers-of, topBy, entriesBy, body-length, first-byte, second-byte, third-byte, frame-lt, shown-alike}
+use Rattle.contents.proofs.SectionLaws.{half-bare, half-side, section-items, sizes, shortest, Numbers, each-row, numbers-of, body-length, first-byte, second-byte, third-byte, frame-lt, shown-alike}
 
 -- ---- loops
 
@@ -42,9 +41,9 @@ descriptors-stand p (d ∷ l) =
     (_, loops.one (d .tag) (d .body) (r .1))
 
 -- the two bytes before a loop say how long it is
-pub says : (fs : List Field) → room fs ≡ 16 → (vs : List ℕ) → Fit fs vs → (n : ℕ) → n < 4096
-    → len12 (pack fs vs * 16 + n / 256) (n % 256) ≡ n
-says fs half vs o n h = let k = pack-lt fs vs o in omega arith
+pub says : {A : Type 0} (c : Form A) (fs : List Field) → room fs ≡ 16 → (p : List ℕ × List A) → loop c fs .Ok p
+    → len12 (pack fs (p .0) * 16 + length (all c (p .1)) / 256) (length (all c (p .1)) % 256) ≡ length (all c (p .1))
+says c fs half p o = let k = pack-lt fs (p .0) (o .0) in let h = o .1 in omega arith
 
 -- a 12-bit length at the end of a head
 len12-last : (l : List ℕ) (x y : ℕ) → len12At (l ++ (x ∷ y ∷ [])) (length l) ≡ len12 x y
@@ -72,11 +71,11 @@ module _ (row : ℕ) (size : sizes (entryOf row) + 2 ≡ rowAt row .fixed) where
       let y : ℕ = n % 256 in
       let head = items ++ (x ∷ y ∷ []) in
       let rest = all (sectionEntry row) l in
-      let i = items-size (entryOf row) (e .0) (o .0) in
+      let i = section-items (entryOf row) (e .0) (o .0) in
       let k : fixed - 2 ≡ length items = omega arith in
       let h : grammar.Head fixed head body = record {
         size = length-append items (x ∷ y ∷ []) ∙ omega arith;
-        says = ap (len12At head) k ∙ len12-last items x y ∙ says fs (half-side row) (e .1 .0) (o .1 .0) n (o .1 .1);
+        says = ap (len12At head) k ∙ len12-last items x y ∙ says descriptor fs (half-side row) (e .1) (o .1);
       } in
       let d = descriptors-stand (p + fixed) (e .1 .1) in
       let r = entries-stand (p + fixed + n) l os in
@@ -91,46 +90,33 @@ module _ (row p : ℕ) (size : (rowAt row .fixed ≡ 0 → ⊥) → sizes (entry
   abbrev Stands : List ℕ → Type 0
   Stands m = (ds : List (List Placed)) × grammar.Inside (rowAt row) p m ds
 
-  pub inside-stands : (n : ℕ) → sectionTop row .Ok l → sectionEntries row n .Ok es
-      → Stands (sectionTop row .show l ++ sectionEntries row n .show es)
-  unfolding sectionTop sectionEntries loopShow
-  inside-stands n = go (eqb (rowAt row .fixed) 0) (eqb (rowAt row .top) 1) refl refl
-    where
-      go : (z t : Bool) → eqb (rowAt row .fixed) 0 ≡ z → eqb (rowAt row .top) 1 ≡ t → topBy t .Ok l
-          → entriesBy row n z t .Ok es → Stands (topBy t .show l ++ entriesBy row n z t .show es)
-      go true true f t o k =
-          let d = descriptors-stand (p + 2) (l .1) in (
-            d .0 ∷ [],
-            subst (λ m. grammar.Inside (rowAt row) p m (d .0 ∷ [])) (sym (append-nil (loopShow descriptor bare l)))
-                (grammar.loop (eqb-true _ _ t) (eqb-true _ _ f) _ _
-                (says bare half-bare (l .0) (o .0) (length (all descriptor (l .1))) (o .1)) (d .1)),
-          )
-      go true false f t o k = ([], grammar.nothing (eqb-false _ _ t) (eqb-true _ _ f))
-      go false true f t o k =
-          let q = eqb-false _ _ f in
-          let d = descriptors-stand (p + 2) (l .1) in
-          let r = entries-stand row (size q) (p + (2 + length (all descriptor (l .1))) + 2) (es .1) (k .2) in (
-            d .0 ∷ r .0,
-            grammar.loops (eqb-true _ _ t) q _ _ (all descriptor (l .1))
-                (says bare half-bare (l .0) (o .0) (length (all descriptor (l .1))) (o .1)) (d .1) _ _
-                (says bare half-bare (es .0) (k .0) (length (all (sectionEntry row) (es .1))) (k .1)) (r .1),
-          )
-      go false false f t o k =
-          let q = eqb-false _ _ f in
-          let r = entries-stand row (size q) p (es .1) (k .1 .1) in
-          ([] ∷ r .0, grammar.entries (eqb-false _ _ t) q (r .1))
+  pub inside-stands : (x : TableShape) (n : ℕ) → Columns (rowAt row) x → sectionTopBy x .Ok l → sectionEntriesBy x row n .Ok es
+      → Stands (sectionTopBy x .show l ++ sectionEntriesBy x row n .show es)
+  unfolding loopShow
+  inside-stands neither n c o k = ([], grammar.nothing (c .0) (c .1))
+  inside-stands topOnly n c o k =
+      let d = descriptors-stand (p + 2) (l .1) in (
+        d .0 ∷ [],
+        subst (λ m. grammar.Inside (rowAt row) p m (d .0 ∷ [])) (sym (append-nil (loopShow descriptor bare l)))
+            (grammar.loop (c .0) (c .1) _ _ (says descriptor bare half-bare l o) (d .1)),
+      )
+  inside-stands entriesOnly n c o k =
+      let r = entries-stand row (size (c .1)) p (es .1) (k .1 .1) in ([] ∷ r .0, grammar.entries (c .0) (c .1) (r .1))
+  inside-stands both n c o k =
+      let d = descriptors-stand (p + 2) (l .1) in
+      let r = entries-stand row (size (c .1)) (p + (2 + length (all descriptor (l .1))) + 2) (es .1) (k .2) in (
+        d .0 ∷ r .0,
+        grammar.loops (c .0) (c .1) _ _ (all descriptor (l .1)) (says descriptor bare half-bare l o) (d .1) _ _
+            (says (sectionEntry row) bare half-bare es k) (r .1),
+      )
 
   -- and how long that is at least
-  pub at-least : (n : ℕ) → shortest row ≤ length (sectionTop row .show l) + length (sectionEntries row n .show es)
-  unfolding sectionTop sectionEntries loopShow shortest
-  at-least n = go (eqb (rowAt row .fixed) 0) (eqb (rowAt row .top) 1)
-    where
-      go : (z t : Bool)
-          → (if t then (if z then 2 else 4) else 0) ≤ length (topBy t .show l) + length (entriesBy row n z t .show es)
-      go true true = omega arith
-      go true false = omega arith
-      go false true = omega arith
-      go false false = omega arith
+  pub at-least : (x : TableShape) (n : ℕ) → shortest x ≤ length (sectionTopBy x .show l) + length (sectionEntriesBy x row n .show es)
+  unfolding loopShow
+  at-least neither n = omega arith
+  at-least topOnly n = omega arith
+  at-least entriesOnly n = omega arith
+  at-least both n = omega arith
 
 -- ---- the header
 
@@ -193,7 +179,7 @@ module _ (c : Content) (h : Holds c) where
   unfolding sectionLength
   not-short =
       let l = body-length c h in
-      let a = at-least row (rowAt row .before) (known .entry) (topIn c) (restIn c) 0 in
+      let a = at-least row (rowAt row .before) (known .entry) (topIn c) (restIn c) (shapeOf row) 0 in
       let n = known .least in
       omega arith
 
@@ -224,7 +210,7 @@ module _ (c : Content) (h : Holds c) where
 
   cut : grammar.Cut row (sectionOf c) inner
   cut =
-      let z = items-size (headOf row) (headIn c) (h .body .0) in
+      let z = section-items (headOf row) (headIn c) (h .body .0) in
       let n = known .head in
       record {
         known = h .known;
@@ -244,11 +230,11 @@ module _ (c : Content) (h : Holds c) where
   pub made-accepted : judged (sectionOf c) ≡ accepted
   made-accepted =
       let n : ℕ = length (entriesBytes c) in
-      let m = inside-stands row (rowAt row .before) (known .entry) (topIn c) (restIn c) n (h .body .1 .0)
-      (h .body .1 .1) in
+      let m = inside-stands row (rowAt row .before) (known .entry) (topIn c) (restIn c) (shapeOf row) n (shape-columns row)
+      (h .body .1 .0) (h .body .1 .1) in
       let i = subst
       (λ b. (ds : List (List Placed))
       × grammar.Inside (rowAt row) (rowAt row .before) (sectionTop row .show (topIn c) ++ b) ds)
-      (shown-alike row n 0 (restIn c)) m in
+      (shown-alike (shapeOf row) row n 0 (restIn c)) m in
       section-judged (sectionOf c) (i .0)
       (record { row = row; middle = inner; cut = cut; header = header; holds = closed; inside = i .1 })

@@ -3,21 +3,21 @@
 use Prim.Native.Nat.{ℕ, _+_, _*_, _^_, _<_, _≤_}
 use mathlib.Core.Path.{_≡_, refl, sym, ap, ap₂, _∙_, subst}
 use mathlib.Core.List.{List, [], _∷_, _++_, append-nil}
-use mathlib.Core.Bool.{Bool, true, false}
+use mathlib.Core.Bool.{false}
 use native.Mathlib.Omega.{arith}
 use borrow.Author.Tests.{ltb-false, le-ltb}
 use lib.ListN.{length}
 use lib.Dec.{ltb}
-use Rattle.wire.specs.If.{if_then_else_}
 use Rattle.wire.specs.Bytes.{Bytes}
-use Rattle.wire.specs.Reading.{Reading, value, refused}
+use Rattle.wire.specs.Reading.{Reading, value}
+use Rattle.wire.proofs.IfLaws.{if-case}
 use Rattle.wire.proofs.ReadingLaws.{value-is, never, through}
 use Rattle.tables.specs.Tables.{rowAt}
 use Rattle.forms.specs.Form.{Form, each}
 use Rattle.forms.specs.Fields.{Field, width, below, byteOf}
 use Rattle.forms.specs.Laws.{Lawful}
 use Rattle.forms.proofs.Lawful.{read-on}
-use Rattle.sheet.specs.Content.{frame, headOf, Body, Content, tableOf, frameOf, bodyOf, rowIn, restIn}
+use Rattle.sheet.specs.Content.{frame, headOf, shapeOf, Body, Content, tableOf, frameOf, bodyOf, rowIn, restIn}
 use Rattle.sheet.specs.Sheet.{bodyFor, OkFor, shownFor, sheetFor}
 use Rattle.sheet.specs.Section.{sectionItem, sectionTop, sectionBody, sectionLength, sectionOf, readSheetFor}
 use Rattle.sheet.proofs.SectionSize.{section-length}
@@ -31,7 +31,7 @@ use Rattle.contents.proofs.TwoForms.{Kin, fields-kin, body-kin}
 body-alike : (row n : ℕ) (b : Body) → sectionBody row n .show b ≡ sectionBody row 0 .show b
 body-alike row n b =
     ap (λ z. each sectionItem (headOf row) .show (b .0) ++ (sectionTop row .show (b .1 .0) ++ z))
-    (shown-alike row n 0 (b .1 .1))
+    (shown-alike (shapeOf row) row n 0 (b .1 .1))
 
 empty : (t : List ℕ) → ltb 0 (length t) ≡ false → t ≡ []
 empty [] e = refl
@@ -55,7 +55,7 @@ module _ (field : Field → Form ℕ) (lawful : (f : Field) → Lawful (field f)
         × (Pairwise O (lengthBits row) (q .1 .0 .0)
         × (Pairwise O (lengthBits row) (q .1 .1 .0) × Each (OfEntry O row) (q .1 .1 .1))))
         (bodyOf c)
-    whole-kin = body-kin field O k row n (bodyOf c) (ap length (shown-alike row n 0 (restIn c)))
+    whole-kin = body-kin field O k row n (bodyOf c) (ap length (shown-alike (shapeOf row) row n 0 (restIn c)))
 
     -- section_length counts the body
     body-short : (most : ℕ) → sectionLength c ≤ most → length (sectionBody row n .show (bodyOf c)) ≤ most
@@ -148,33 +148,17 @@ module _ (field : Field → Form ℕ) (lawful : (f : Field) → Lawful (field f)
 
   pub held : (s : List ℕ) (c : Content) → Bytes s → readSheetFor field s ≡ value c → Held s c
   unfolding readSheetFor
-  held s c w e = go (through (sheetFor field .read s) _ c e)
+  held s c w e =
+      let x = through (sheetFor field .read s) _ c e in
+      let d = x .0 .0 in
+      let t = x .0 .1 in
+      if-case P (ltb 0 (length t)) (λ _ f. absurd (never (sym f)))
+      (λ ends. if-case P (ltb (rowAt (rowIn d) .most) (sectionLength d)) (λ _ f. absurd (never (sym f)))
+      (λ fits f.
+      let y = sheet-lawful field lawful .sound s d [] w (x .1 ∙ ap (λ u. value (d, u)) (empty t ends)) in
+      let h = holds-of d (y .1) (ltb-false _ _ fits) in
+      subst (Held s) (value-is f) (record { shows = y .0 ∙ append-nil (shownFor field d); ok = y .1; holds = h })))
+      (x .2)
     where
-      sized : (d : Content) → sheetFor field .read s ≡ value (d, []) → (b : Bool)
-          → ltb (rowAt (rowIn d) .most) (sectionLength d) ≡ b
-          → _≡_ {A = Reading Content} (if b then refused 26 else value d) (value c) → Held s c
-      sized d r true q f = absurd (never (sym f))
-      sized d r false q f =
-          let x = sheet-lawful field lawful .sound s d [] w r in
-          let y : Held s d =
-          record {
-            shows = x .0 ∙ append-nil (shownFor field d);
-            ok = x .1;
-            holds = holds-of d (x .1) (ltb-false _ _ q);
-          } in
-          subst (Held s) (value-is f) y
-
-      ended : (d : Content) (t : List ℕ) → sheetFor field .read s ≡ value (d, t) → (b : Bool) → ltb 0 (length t) ≡ b
-          → _≡_ {A = Reading Content} (if b then refused 25
-          else if ltb (rowAt (rowIn d) .most) (sectionLength d) then refused 26 else value d) (value c)
-          → Held s c
-      ended d t r true q f = absurd (never (sym f))
-      ended d t r false q f = sized d (r ∙ ap (λ u. value (d, u)) (empty t q)) _ refl f
-
-      Tested : Content → List ℕ → Reading Content
-      Tested d t =
-          if ltb 0 (length t) then refused 25
-          else if ltb (rowAt (rowIn d) .most) (sectionLength d) then refused 26 else value d
-
-      go : (a : Content × List ℕ) × (sheetFor field .read s ≡ value a) × (Tested (a .0) (a .1) ≡ value c) → Held s c
-      go x = ended (x .0 .0) (x .0 .1) (x .1) _ refl (x .2)
+      P : Reading Content → Type 0
+      P r = r ≡ value c → Held s c

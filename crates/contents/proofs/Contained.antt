@@ -5,7 +5,7 @@ use mathlib.Core.Path.{_≡_, refl, sym, ap, ap₂, _∙_, subst}
 use mathlib.Core.List.{List, [], _∷_, _++_, append-assoc, append-nil}
 use mathlib.Core.Bool.{Bool, true, false}
 use native.Mathlib.Omega.{arith}
-use borrow.Author.Tests.{eq-eqb, ne-eqb, le-leb, eqb-true, eqb-false}
+use borrow.Author.Tests.{le-leb, eqb-true, eqb-false}
 use lib.ListN.{length, getD, take, drop, length-append, length-drop, take-append-drop, List·getD-append}
 use lib.Seq.{length-take-le, getD-drop, getD-take, drop-drop, drop-length, drop-cons}
 use lib.Dec.{eqb, leb}
@@ -27,9 +27,11 @@ use Rattle.forms.specs.Fields.{Field, room, pack, unpack}
 use Rattle.forms.specs.Lists.{loop, loopShow, all, All, none, one}
 use Rattle.forms.proofs.Lawful.{bytes-behind, bytes-front}
 use Rattle.forms.proofs.FieldLaws.{pack-unpack, unpack-fits}
-use Rattle.sheet.specs.Content.{Item, plain, numbers, packed, bare, frame, headOf, entryOf, sideOf, Descriptor, Loop, Entry, Entries, Body, Content}
+use Rattle.sheet.specs.Content.{Item, plain, numbers, packed, bare, frame, headOf, entryOf, TableShape, neither, topOnly, entriesOnly, both, shapeOf, sideOf, Descriptor, Loop, Entry, Entries, Body, Content}
 use Rattle.sheet.specs.Sheet.{descriptor}
-use Rattle.sheet.specs.Section.{sectionItem, sectionLoop, sectionEntry, sectionTop, sectionEntries, sectionBody, sectionLength, front, seal, sectionOf}
+use Rattle.sheet.specs.Section.{sectionItem, sectionLoop, sectionEntry, sectionTopBy, sectionEntriesBy, sectionBody, sectionLength, front, seal, sectionOf}
+use Rattle.sheet.proofs.Shapes.{columns-shape}
+use Rattle.sheet.proofs.Sizes.{total}
 use Rattle.contents.specs.Holds.{Holds}
 use Rattle.contents.proofs.SectionLaws.{half-bare, half-side, sizes, Numbers, each-row, numbers-of}
 
@@ -89,7 +91,7 @@ parted n l k e = (length-take-le n l (omega arith), length-drop n l ∙ omega ar
 
 pub items-are : (xs : List Item) → Octets xs → (l : List ℕ) → Bytes l → length l ≡ sizes xs → Ordered xs l
     → Made (each sectionItem xs) l
-unfolding eachShow EachOk sizes
+unfolding eachShow EachOk total
 items-are [] u [] w e o = ([], tt, refl)
 items-are [] u (x ∷ l) w e o = absurd (omega arith)
 items-are (plain n ∷ xs) u l w e o =
@@ -186,57 +188,41 @@ module _ (row : ℕ) (known : row < 6) (size : sizes (entryOf row) + 2 ≡ rowAt
 
 module _ (row p : ℕ) (known : row < 6)
     (size : (rowAt row .fixed ≡ 0 → ⊥) → sizes (entryOf row) + 2 ≡ rowAt row .fixed) where
-  -- a loop and entries that are the bytes m
-  pub record Inner (m : List ℕ) : Type 0 where
+  -- a loop and entries of this shape that are the bytes m
+  pub record Inner (m : List ℕ) (x : TableShape) : Type 0 where
     pub top : Loop
     pub rest : Entries
-    pub top-ok : sectionTop row .Ok top
-    pub rest-ok : sectionEntries row (length (sectionEntries row 0 .show rest)) .Ok rest
-    pub bytes : sectionTop row .show top ++ sectionEntries row 0 .show rest ≡ m
+    pub top-ok : sectionTopBy x .Ok top
+    pub rest-ok : sectionEntriesBy x row (length (sectionEntriesBy x row 0 .show rest)) .Ok rest
+    pub bytes : sectionTopBy x .show top ++ sectionEntriesBy x row 0 .show rest ≡ m
 
-  pub inside-is : {m : List ℕ} {ds : List (List Placed)} → grammar.Inside (rowAt row) p m ds → Bytes m → Inner m
-  unfolding sectionTop sectionEntries loopShow
-  inside-is (grammar.nothing t f) w =
-      let et = ne-eqb (rowAt row .top) 1 t in
-      let ef = eq-eqb (rowAt row .fixed) 0 f in
-      record { top = ([], []); rest = ([], []); top-ok = rw et refl; rest-ok = rw ef refl; bytes = rw (et, ef) refl }
-  inside-is (grammar.loop t f x y {l = l} e d) w =
-      let et = eq-eqb (rowAt row .top) 1 t in
-      let ef = eq-eqb (rowAt row .fixed) 0 f in
+  pub inside-is : {m : List ℕ} {ds : List (List Placed)} → grammar.Inside (rowAt row) p m ds → Bytes m → Inner m (shapeOf row)
+  unfolding loopShow
+  inside-is {m} (grammar.nothing t f) w =
+      subst (Inner m) (sym (columns-shape row neither (t, f)))
+      (record { top = ([], []); rest = ([], []); top-ok = refl; rest-ok = refl; bytes = refl })
+  inside-is {m} (grammar.loop t f x y {l = l} e d) w =
       let i = loop-is bare half-bare x y l w e d in
-      record {
+      subst (Inner m) (sym (columns-shape row topOnly (t, f)))
+      (record {
         top = i .0;
         rest = ([], []);
-        top-ok = rw et (i .1);
-        rest-ok = rw ef refl;
-        bytes = rw (et, ef) (append-nil (sectionLoop bare .show (i .0)) ∙ i .2);
-      }
-  inside-is (grammar.loops t f x y top e d x' y' {l = l} e' g) w =
-      let et = eq-eqb (rowAt row .top) 1 t in
-      let ef = ne-eqb (rowAt row .fixed) 0 f in
+        top-ok = i .1;
+        rest-ok = refl;
+        bytes = append-nil (sectionLoop bare .show (i .0)) ∙ i .2;
+      })
+  inside-is {m} (grammar.loops t f x y top e d x' y' {l = l} e' g) w =
       let wi = bytes-front (x ∷ y ∷ top) (x' ∷ y' ∷ l) refl w in
       let wj = bytes-behind (x ∷ y ∷ top) (x' ∷ y' ∷ l) refl w in
       let i = loop-is bare half-bare x y top wi e d in
       let j = sized-is (sectionEntry row) bare half-bare x' y' l (wj 0) (wj 1) e'
       (entries-are row known (size f) g (λ k. wj (suc (suc k)))) in
-      record {
-        top = i .0;
-        rest = j .0;
-        top-ok = rw et (i .1);
-        rest-ok = rw (et, ef) (j .1);
-        bytes = rw (et, ef) (ap₂ (λ a b. a ++ b) (i .2) (j .2));
-      }
-  inside-is (grammar.entries t f g) w =
-      let et = ne-eqb (rowAt row .top) 1 t in
-      let ef = ne-eqb (rowAt row .fixed) 0 f in
+      subst (Inner m) (sym (columns-shape row both (t, f)))
+      (record { top = i .0; rest = j .0; top-ok = i .1; rest-ok = j .1; bytes = ap₂ (λ a b. a ++ b) (i .2) (j .2) })
+  inside-is {m} (grammar.entries t f g) w =
       let r = entries-are row known (size f) g w in
-      record {
-        top = ([], []);
-        rest = ([], r .0);
-        top-ok = rw et refl;
-        rest-ok = rw (et, ef) (refl, (refl, r .1));
-        bytes = rw (et, ef) (r .2);
-      }
+      subst (Inner m) (sym (columns-shape row entriesOnly (t, f)))
+      (record { top = ([], []); rest = ([], r .0); top-ok = refl; rest-ok = (refl, (refl, r .1)); bytes = r .2 })
 
 -- ---- the whole section
 
@@ -291,7 +277,7 @@ module _ (s : List ℕ) (w : Bytes s) (inner : List ℕ) (cut : grammar.Cut (row
   in-inner : Bytes inner
   in-inner = bytes-front inner (cut .tail) refl (bytes-behind hd (inner ++ cut .tail) (cut .whole) w)
 
-  rest : Inner row (rowAt row .before) known (row-numbers .entry) inner
+  rest : Inner row (rowAt row .before) known (row-numbers .entry) inner (shapeOf row)
   rest = inside-is row (rowAt row .before) known (row-numbers .entry) inside in-inner
 
   abbrev body : Body

@@ -3,10 +3,9 @@
 use Prim.{tt}
 use Prim.Native.Nat.{ℕ, _-_, _^_}
 use mathlib.Core.Path.{_≡_, refl, sym}
-use mathlib.Core.List.{List, [], _∷_}
+use mathlib.Core.List.{List}
 use Rattle.wire.specs.Bytes.{Bytes}
 use Rattle.wire.specs.Reading.{value}
-use Rattle.forms.specs.Form.{EachOk}
 use Rattle.forms.specs.Fields.{Field, kept, reserved, width, below, sheetField}
 use Rattle.forms.proofs.FieldLaws.{field-lawful, field-fits}
 use Rattle.sheet.specs.Content.{Content}
@@ -40,8 +39,3 @@ OfSheet = any.OfSheet sheetField field-lawful Ones ones-kin
 
 pub of-sheet : (c : Content) → Holds c → OfSheet c
 of-sheet = any.of-sheet sheetField field-lawful Ones ones-kin
-
-pub no-fields : (vs : List ℕ) → EachOk sheetField [] vs → vs ≡ []
-unfolding EachOk
-no-fields [] o = refl
-no-fields (v ∷ vs) o = absurd o

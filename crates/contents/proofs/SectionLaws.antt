@@ -2,26 +2,25 @@
 use Prim.Native.Nat.{ℕ, zero, suc, _+_, _-_, _*_, _/_, _%_, _<_, _≤_}
 use mathlib.Core.Path.{_≡_, refl, sym, ap, ap₂, _∙_}
 use mathlib.Core.List.{List, [], _∷_, _++_, append-nil}
-use mathlib.Core.Bool.{Bool, true, false}
 use native.Mathlib.Omega.{arith}
 use lib.ListN.{length, getD, take, drop, length-append}
 use lib.Seq.{take-at}
-use lib.Dec.{eqb}
-use Rattle.wire.specs.If.{if_then_else_}
+use Rattle.wire.proofs.IfLaws.{if-case}
 use Rattle.wire.specs.Reading.{value, _>>=_}
 use Rattle.tables.specs.Tables.{cell, rowOf, rowAt}
 use Rattle.forms.specs.Form.{Form, mute, raw, _then_, each, eachShow, EachOk}
 use Rattle.forms.specs.Fields.{room, pack, unpack}
-use Rattle.forms.specs.Lists.{all, All, none, one, loop, loopShow, filling}
+use Rattle.forms.specs.Lists.{all, All, none, one, loopShow, filling}
 use Rattle.forms.specs.Laws.{Complete}
 use Rattle.forms.proofs.Lawful.{read-on, mute-lawful, raw-lawful, then-complete, such-complete, each-complete}
 use Rattle.forms.proofs.FieldLaws.{byte-complete, pack-lt, unpack-pack}
 use Rattle.forms.proofs.ListLaws.{Full, loop-complete, filling-read}
-use Rattle.sheet.specs.Content.{Item, plain, numbers, packed, bare, status, frame, headOf, entryOf, sideOf, Fields, Loop, Entries, Content, tableOf, frameOf, bodyOf, rowIn, restIn, topIn, headIn}
+use Rattle.sheet.specs.Content.{Item, plain, numbers, packed, bare, frame, headOf, entryOf, TableShape, neither, topOnly, entriesOnly, both, shapeOf, hasTop, sideOf, Fields, Loop, Entries, Content, tableOf, frameOf, bodyOf, rowIn, restIn, topIn, headIn}
 use Rattle.sheet.specs.Sheet.{inOrder, descriptor}
-use Rattle.sheet.specs.Section.{sectionItem, sectionLoop, sectionEntry, sectionTop, sectionEntries, sectionBody, bodyBytes, sectionLength, front, seal, sectionOf, middle, contentOf}
+use Rattle.sheet.specs.Section.{sectionItem, sectionLoop, sectionEntry, sectionTop, sectionTopBy, sectionEntries, sectionEntriesBy, sectionBody, bodyBytes, sectionLength, front, seal, sectionOf, middle, contentOf}
 use Rattle.contents.specs.Holds.{entriesBytes, Holds}
 use Rattle.sheet.proofs.SheetLaws.{descriptor-complete}
+use Rattle.sheet.proofs.Sizes.{inSection, total, items-size}
 use Rattle.sheet.proofs.SectionSize.{second, front-is, seal-length}
 
 -- ---- each part is read as it is shown
@@ -54,11 +53,7 @@ half-bare = refl
 
 pub half-side : (row : ℕ) → room (sideOf row) ≡ 16
 unfolding room sideOf
-half-side row = go (eqb (rowAt row .top) 1)
-  where
-    go : (b : Bool) → room (if b then bare else status) ≡ 16
-    go true = refl
-    go false = refl
+half-side row = if-case (λ fs. room fs ≡ 16) (hasTop (shapeOf row)) (λ _. refl) (λ _. refl)
 
 pub entry-complete : (row : ℕ) → Complete (sectionEntry row)
 entry-complete row =
@@ -71,63 +66,45 @@ entry-full row e o =
     let l = length-append (each sectionItem (entryOf row) .show (e .0)) (sectionLoop (sideOf row) .show (e .1)) in
     omega arith
 
-if-complete : {A : Type 0} (b : Bool) (c d : Form A) → Complete c → Complete d → Complete (if b then c else d)
-if-complete true c d f g = f
-if-complete false c d f g = g
+top-complete : (x : TableShape) → Complete (sectionTopBy x)
+top-complete x =
+    if-case Complete (hasTop x) (λ _. loop-complete descriptor descriptor-complete descriptor-full bare half-bare)
+    (λ _. mute-lawful ([], []) .complete)
 
-pub top-complete : (row : ℕ) → Complete (sectionTop row)
-unfolding sectionTop
-top-complete row =
-    if-complete (eqb (rowAt row .top) 1) (sectionLoop bare) (mute ([], []))
-    (loop-complete descriptor descriptor-complete descriptor-full bare half-bare) (mute-lawful ([], []) .complete)
-
-pub entries-complete : (row n : ℕ) → Complete (sectionEntries row n)
-unfolding sectionEntries
-entries-complete row n =
-    if-complete (eqb (rowAt row .fixed) 0) (mute ([], []))
-    (if eqb (rowAt row .top) 1 then loop (sectionEntry row) bare else mute [] then filling (sectionEntry row) n)
-    (mute-lawful ([], []) .complete)
-    (if-complete (eqb (rowAt row .top) 1) (loop (sectionEntry row) bare) (mute [] then filling (sectionEntry row) n)
-    (loop-complete (sectionEntry row) (entry-complete row) (entry-full row) bare half-bare)
-    (then-complete (mute []) (filling (sectionEntry row) n) (mute-lawful [] .complete)
-    (filling-read (sectionEntry row) (entry-complete row) (entry-full row) n)))
+entries-complete : (x : TableShape) (row n : ℕ) → Complete (sectionEntriesBy x row n)
+entries-complete neither row n = mute-lawful {A = Entries} ([], []) .complete
+entries-complete topOnly row n = mute-lawful {A = Entries} ([], []) .complete
+entries-complete entriesOnly row n =
+    then-complete (mute []) (filling (sectionEntry row) n) (mute-lawful [] .complete)
+    (filling-read (sectionEntry row) (entry-complete row) (entry-full row) n)
+entries-complete both row n = loop-complete (sectionEntry row) (entry-complete row) (entry-full row) bare half-bare
 
 pub body-complete : (row n : ℕ) → Complete (sectionBody row n)
 body-complete row n =
     then-complete (each sectionItem (headOf row)) (sectionTop row then sectionEntries row n)
     (items-complete (headOf row))
-    (then-complete (sectionTop row) (sectionEntries row n) (top-complete row) (entries-complete row n))
+    (then-complete (sectionTop row) (sectionEntries row n) (top-complete (shapeOf row)) (entries-complete (shapeOf row) row n))
 
 -- ---- sizes
 
--- the bytes of an item in a section
-abbrev pub sizeOf : Item → ℕ
-sizeOf (plain n) = n
-sizeOf numbers = 2
-sizeOf (packed fs) = 1
+-- the bytes of items in a section
+abbrev pub sizes : List Item → ℕ
+sizes = total inSection
 
-unfoldable pub sizes : List Item → ℕ
-sizes [] = 0
-sizes (x ∷ xs) = sizeOf x + sizes xs
-
-pub item-size : (x : Item) (v : List ℕ) → sectionItem x .Ok v → length (sectionItem x .show v) ≡ sizeOf x
+item-size : (x : Item) (v : List ℕ) → sectionItem x .Ok v → length (sectionItem x .show v) ≡ inSection x
 item-size (plain n) v o = o
 item-size numbers v o = o .0
 item-size (packed fs) v o = refl
 
-pub items-size : (xs : List Item) (l : Fields) → EachOk sectionItem xs l → length (eachShow sectionItem xs l) ≡ sizes xs
-unfolding eachShow EachOk sizes
-items-size [] l o = refl
-items-size (x ∷ xs) [] o = absurd o
-items-size (x ∷ xs) (v ∷ l) o =
-    let n = length-append (sectionItem x .show v) (eachShow sectionItem xs l) in
-    let a = item-size x v (o .0) in
-    let b = items-size xs l (o .1) in
-    omega arith
+pub section-items : (xs : List Item) (l : Fields) → EachOk sectionItem xs l → length (eachShow sectionItem xs l) ≡ sizes xs
+section-items = items-size sectionItem sectionItem inSection item-size
 
 -- the bytes that top loop and entries have at least: their lengths
-unfoldable pub shortest : ℕ → ℕ
-shortest row = if eqb (rowAt row .top) 1 then (if eqb (rowAt row .fixed) 0 then 2 else 4) else 0
+abbrev pub shortest : TableShape → ℕ
+shortest neither = 0
+shortest topOnly = 2
+shortest entriesOnly = 0
+shortest both = 4
 
 -- what the description and the table of tables have in common
 pub record Numbers (row : ℕ) : Type 0 where
@@ -137,7 +114,7 @@ pub record Numbers (row : ℕ) : Type 0 where
   pub syntax : rowAt row .syntax ≤ 1
   pub most : rowAt row .most ≤ 4093
   pub crc-bit : rowAt row .crc ≤ 1
-  pub least : 3 + rowAt row .least ≡ rowAt row .before + shortest row + 4 * rowAt row .crc
+  pub least : 3 + rowAt row .least ≡ rowAt row .before + shortest (shapeOf row) + 4 * rowAt row .crc
 
 -- what is so of each row
 pub each-row : (P : ℕ → Type 0) → P 0 → P 1 → P 2 → P 3 → P 4 → P 5 → (row : ℕ) → row < 6 → P row
@@ -150,7 +127,7 @@ each-row P a b c d e f (suc (suc (suc (suc (suc zero))))) h = f
 each-row P a b c d e f (suc (suc (suc (suc (suc (suc row)))))) h = absurd (omega arith)
 
 pub numbers-of : (row : ℕ) → row < 6 → Numbers row
-unfolding cell headOf entryOf sizes shortest
+unfolding cell headOf entryOf shapeOf total
 numbers-of =
     each-row Numbers
     (has refl (λ _. refl) refl (omega arith) (omega arith) (omega arith) (omega arith))
@@ -162,31 +139,18 @@ numbers-of =
   where
     has : {row : ℕ} → 3 + sizes (headOf row) ≡ rowAt row .before
         → ((rowAt row .fixed ≡ 0 → ⊥) → sizes (entryOf row) + 2 ≡ rowAt row .fixed)
-        → 3 + rowAt row .least ≡ rowAt row .before + shortest row + 4 * rowAt row .crc
+        → 3 + rowAt row .least ≡ rowAt row .before + shortest (shapeOf row) + 4 * rowAt row .crc
         → 5 ≤ sizes (headOf row) → rowAt row .syntax ≤ 1 → rowAt row .most ≤ 4093 → rowAt row .crc ≤ 1 → Numbers row
     has h e l f s m c = record { head = h; five = f; entry = e; syntax = s; most = m; crc-bit = c; least = l }
 
 -- ---- what can stand in a section
 
--- the form of the top loop, by the row's column for it
-abbrev pub topBy : Bool → Form Loop
-topBy top = if top then sectionLoop bare else mute ([], [])
-
--- the form of entries by the two columns of their row: whether there are none, and whether there is a top loop
-abbrev pub entriesBy : ℕ → ℕ → Bool → Bool → Form Entries
-entriesBy row n bare-row top =
-    if bare-row then mute ([], []) else if top then loop (sectionEntry row) bare
-    else mute [] then filling (sectionEntry row) n
-
 -- how entries are shown does not depend on the number of bytes
-pub shown-alike : (row n m : ℕ) (e : Entries) → sectionEntries row n .show e ≡ sectionEntries row m .show e
-unfolding sectionEntries
-shown-alike row n m e = go (eqb (rowAt row .fixed) 0) (eqb (rowAt row .top) 1)
-  where
-    go : (z t : Bool) → entriesBy row n z t .show e ≡ entriesBy row m z t .show e
-    go true t = refl
-    go false true = refl
-    go false false = refl
+pub shown-alike : (x : TableShape) (row n m : ℕ) (e : Entries) → sectionEntriesBy x row n .show e ≡ sectionEntriesBy x row m .show e
+shown-alike neither row n m e = refl
+shown-alike topOnly row n m e = refl
+shown-alike entriesOnly row n m e = refl
+shown-alike both row n m e = refl
 
 -- the head's bytes, those of the top loop, those of the entries
 pub body-length : (c : Content) → Holds c
@@ -199,24 +163,17 @@ body-length c h =
     let z = entriesBytes c in
     let a = length-append x (y ++ z) in
     let b = length-append y z in
-    let s = items-size (headOf row) (headIn c) (h .body .0) in
+    let s = section-items (headOf row) (headIn c) (h .body .0) in
     let n = numbers-of row (h .known) .head in
     omega arith
 
 -- and where they have a length of their own, neither does whether they can be
-ok-at : (row n m : ℕ) (e : Entries) → (eqb (rowAt row .top) 1 ≡ false → n ≡ m) → sectionEntries row n .Ok e
-    → sectionEntries row m .Ok e
-unfolding sectionEntries
-ok-at row n m e h = go (eqb (rowAt row .fixed) 0) (eqb (rowAt row .top) 1) h
-  where
-    go : (z t : Bool) → (t ≡ false → n ≡ m) → entriesBy row n z t .Ok e → entriesBy row m z t .Ok e
-    go true t h o = o
-    go false true h o = o
-    go false false h o = let l = o .1 .0 in let q = h refl in (o .0, (omega arith, o .1 .1))
-
-no-top : (row : ℕ) (l : Loop) → eqb (rowAt row .top) 1 ≡ false → length (sectionTop row .show l) ≡ 0
-unfolding sectionTop
-no-top row l e = rw e refl
+ok-at : (x : TableShape) (row n m : ℕ) (l : Loop) (e : Entries) → (length (sectionTopBy x .show l) ≡ 0 → n ≡ m)
+    → sectionEntriesBy x row n .Ok e → sectionEntriesBy x row m .Ok e
+ok-at neither row n m l e h o = o
+ok-at topOnly row n m l e h o = o
+ok-at entriesOnly row n m l e h o = let k = o .1 .0 in let q = h refl in (o .0, (omega arith, o .1 .1))
+ok-at both row n m l e h o = o
 
 -- ---- what a section holds is read from it again
 
@@ -252,14 +209,13 @@ content-again c h =
     let row = rowIn c in
     let n : ℕ = 3 + length (bodyBytes c) - rowAt row .before in
     let l = body-length c h in
-    let same : eqb (rowAt row .top) 1 ≡ false → length (entriesBytes c) ≡ n =
-    λ e. omega (arith, no-top row (topIn c) e) in
+    let same : length (sectionTop row .show (topIn c)) ≡ 0 → length (entriesBytes c) ≡ n = λ e. omega arith in
     let ok : sectionBody row n .Ok (bodyOf c) =
-    (h .body .0, (h .body .1 .0, ok-at row (length (entriesBytes c)) n (restIn c) same (h .body .1 .1))) in
+    (h .body .0, (h .body .1 .0, ok-at (shapeOf row) row (length (entriesBytes c)) n (topIn c) (restIn c) same (h .body .1 .1))) in
     let shows : sectionBody row n .show (bodyOf c) ++ [] ≡ bodyBytes c =
     append-nil (sectionBody row n .show (bodyOf c))
     ∙ ap (λ x. each sectionItem (headOf row) .show (headIn c) ++ (sectionTop row .show (topIn c) ++ x))
-    (shown-alike row n 0 (restIn c)) in
+    (shown-alike (shapeOf row) row n 0 (restIn c)) in
     let f = frame-lt c h in
     let m = h .most in
     let k = numbers-of row (h .known) in

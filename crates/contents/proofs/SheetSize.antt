@@ -2,25 +2,23 @@
 use Prim.Native.Nat.{ℕ, _+_, _*_, _<_, _≤_}
 use mathlib.Core.Path.{_≡_, sym, ap, subst}
 use mathlib.Core.List.{List, [], _∷_}
-use mathlib.Core.Bool.{Bool, true, false}
 use native.Mathlib.Omega.{arith}
 use native.Mathlib.Nat.{mul-suc}
 use lib.ListN.{length, length-append}
-use lib.Dec.{eqb}
 use Rattle.tables.specs.Tables.{cell, rowAt}
 use Rattle.forms.specs.Form.{eachShow}
 use Rattle.forms.specs.Fields.{sheetField}
 use Rattle.forms.specs.Lists.{loopShow, all, All, none, one}
 use Rattle.forms.proofs.FieldLaws.{field-lawful}
-use Rattle.sheet.specs.Content.{entryOf, sideOf, Entry, Entries, Content, entriesIn, rowIn, restIn}
+use Rattle.sheet.specs.Content.{entryOf, TableShape, neither, topOnly, entriesOnly, both, shapeOf, sideOf, Entry, Entries, Content, entriesIn, rowIn, restIn}
 use Rattle.sheet.specs.Sheet.{sheetOf, SheetOk}
-use Rattle.sheet.specs.Section.{sectionItem, sectionLoop, sectionEntry, sectionEntries, sectionLength, sectionOf}
+use Rattle.sheet.specs.Section.{sectionItem, sectionLoop, sectionEntry, sectionEntriesBy, sectionLength, sectionOf}
 use Rattle.sheet.specs.Inner.Lengths.{cut, gain}
 use Rattle.sheet.proofs.SectionSize.{section-length}
-use Rattle.sheet.proofs.Sizes.{section-size}
+use Rattle.sheet.proofs.Sizes.{total, section-size}
 use Rattle.contents.specs.Holds.{Holds, entriesBytes}
 use Rattle.contents.specs.Ones.{Ones}
-use Rattle.contents.proofs.SectionLaws.{sizes, items-size, each-row, numbers-of, entriesBy, body-length, shown-alike}
+use Rattle.contents.proofs.SectionLaws.{sizes, section-items, each-row, numbers-of, body-length, shown-alike}
 use Rattle.contents.proofs.AnySheet.{same-sheet, holds-of}
 use Rattle.contents.proofs.Held.{ones-kin}
 
@@ -33,20 +31,17 @@ entries-at-least row (e ∷ l) (one o os) =
     let r = entries-at-least row l os in
     let a = length-append (sectionEntry row .show e) (all (sectionEntry row) l) in
     let b = length-append (eachShow sectionItem (entryOf row) (e .0)) (sectionLoop (sideOf row) .show (e .1)) in
-    let g = items-size (entryOf row) (e .0) (o .0) in
+    let g = section-items (entryOf row) (e .0) (o .0) in
     let k = mul-suc (sizes (entryOf row) + 2) (length l) in
     omega arith
 
-rest-at-least : (row n : ℕ) (p : Entries) → sectionEntries row n .Ok p
-    → (sizes (entryOf row) + 2) * length (p .1) ≤ length (sectionEntries row n .show p)
-unfolding sectionEntries loopShow
-rest-at-least row n p = go (eqb (rowAt row .fixed) 0) (eqb (rowAt row .top) 1)
-  where
-    go : (z t : Bool) → entriesBy row n z t .Ok p
-        → (sizes (entryOf row) + 2) * length (p .1) ≤ length (entriesBy row n z t .show p)
-    go true t o = subst (λ (q : Entries). (sizes (entryOf row) + 2) * length (q .1) ≤ 0) (sym o) (omega arith)
-    go false true o = let h = entries-at-least row (p .1) (o .2) in omega arith
-    go false false o = entries-at-least row (p .1) (o .1 .1)
+rest-at-least : (x : TableShape) (row n : ℕ) (p : Entries) → sectionEntriesBy x row n .Ok p
+    → (sizes (entryOf row) + 2) * length (p .1) ≤ length (sectionEntriesBy x row n .show p)
+unfolding loopShow
+rest-at-least neither row n p o = subst (λ (q : Entries). (sizes (entryOf row) + 2) * length (q .1) ≤ 0) (sym o) (omega arith)
+rest-at-least topOnly row n p o = subst (λ (q : Entries). (sizes (entryOf row) + 2) * length (q .1) ≤ 0) (sym o) (omega arith)
+rest-at-least entriesOnly row n p o = entries-at-least row (p .1) (o .1 .1)
+rest-at-least both row n p o = let h = entries-at-least row (p .1) (o .2) in omega arith
 
 -- the numbers of a row
 abbrev Small : ℕ → Type 0
@@ -54,7 +49,7 @@ Small row = (n k l : ℕ) → n ≤ rowAt row .most → (sizes (entryOf row) + 2
     → n + cut row * k + 1 ≡ l + gain row → l ≤ 5120
 
 small : (row : ℕ) → row < 6 → Small row
-unfolding cell entryOf sizes cut gain
+unfolding cell entryOf total cut gain
 small =
     each-row Small (λ n k l m f e. omega arith) (λ n k l m f e. omega arith) (λ n k l m f e. omega arith)
     (λ n k l m f e. omega arith) (λ n k l m f e. omega arith) (λ n k l m f e. omega arith)
@@ -66,8 +61,8 @@ shown-fits c o h =
     let row = rowIn c in
     let n : ℕ = length (entriesBytes c) in
     let rest = restIn c in
-    let same = ap length (shown-alike row n 0 rest) in
-    let k = rest-at-least row n rest (h .body .1 .1) in
+    let same = ap length (shown-alike (shapeOf row) row n 0 rest) in
+    let k = rest-at-least (shapeOf row) row n rest (h .body .1 .1) in
     let l = body-length c h in
     let b = numbers-of row (h .known) .head in
     small row (h .known) (sectionLength c) (length (entriesIn c)) (length (sheetOf c)) (h .most) (omega arith)

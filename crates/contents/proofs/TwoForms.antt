@@ -4,21 +4,17 @@ use Prim.{Unit, tt}
 use Prim.Native.Nat.{ℕ, suc, _/_, _%_, _^_, _<_}
 use mathlib.Core.Path.{_≡_, refl, sym, ap, ap₂, subst}
 use mathlib.Core.List.{List, [], _∷_, _++_}
-use mathlib.Core.Bool.{Bool, true, false}
 use native.Mathlib.Omega.{arith}
 use lib.ListN.{length, length-append}
-use lib.Dec.{eqb}
-use Rattle.wire.specs.If.{if_then_else_}
-use Rattle.tables.specs.Tables.{rowAt}
 use Rattle.forms.specs.Form.{Form, mute, _then_, each, eachShow, EachOk}
 use Rattle.forms.specs.Fields.{Field, width, below, byteOf}
 use Rattle.forms.specs.Lists.{all, All, none, one, times, counted, countedShow, loop, loopShow, filling}
 use Rattle.forms.proofs.ListLaws.{Full}
-use Rattle.sheet.specs.Content.{Item, plain, numbers, packed, bare, headOf, entryOf, sideOf, Fields, Loop, Entry, Entries, Body}
-use Rattle.sheet.specs.Sheet.{descriptor, itemFor, loopFor, entryFor, topFor, entriesFor, bodyFor}
-use Rattle.sheet.specs.Section.{sectionItem, sectionLoop, sectionEntry, sectionTop, sectionEntries, sectionBody}
-use Rattle.contents.specs.Ones.{Pairwise, Each, OfItem, OfEntry, lengthBits}
-use Rattle.contents.proofs.SectionLaws.{descriptor-full, entry-full, no-more, topBy, entriesBy}
+use Rattle.sheet.specs.Content.{Item, plain, numbers, packed, bare, headOf, entryOf, TableShape, neither, topOnly, entriesOnly, both, shapeOf, sideOf, Fields, Loop, Entry, Entries, Body}
+use Rattle.sheet.specs.Sheet.{descriptor, itemFor, loopFor, entryFor, topForBy, entriesForBy, bodyFor}
+use Rattle.sheet.specs.Section.{sectionItem, sectionLoop, sectionEntry, sectionTopBy, sectionEntries, sectionEntriesBy, sectionBody}
+use Rattle.contents.specs.Ones.{Pairwise, Each, OfItem, OfEntry, lengthBits, lengthBitsBy}
+use Rattle.contents.proofs.SectionLaws.{descriptor-full, entry-full, no-more}
 
 -- another value that the sheet's form d can show, as it shows a; in the section's form c it is as long. It is a itself
 -- if P.
@@ -225,16 +221,11 @@ module _ (field : Field → Form ℕ) (O : Field → ℕ → Type 0)
   entry-kin : (row : ℕ) (e : Entry) → Kin (sectionEntry row) (entryFor field row) (OfEntry O row) e
   entry-kin row e = then-kin e (items-kin (entryOf row) (e .0)) (loop-kin (sideOf row) (e .1))
 
-  top-kin : (row : ℕ) (p : Loop)
-      → Kin (sectionTop row) (topFor field row) (λ q. Pairwise O (lengthBits row) (q .0)) p
-  unfolding sectionTop topFor
-  top-kin row p = go (eqb (rowAt row .top) 1)
-    where
-      go : (t : Bool)
-          → Kin (topBy t) (if t then loopFor field bare else mute ([], []))
-          (λ q. Pairwise O (if t then bare else []) (q .0)) p
-      go true = loop-kin bare p
-      go false = same-kin (λ o. o) (λ o. o) (λ o. tt)
+  top-kin : (x : TableShape) (p : Loop) → Kin (sectionTopBy x) (topForBy field x) (λ q. Pairwise O (lengthBitsBy x) (q .0)) p
+  top-kin neither p = same-kin (λ o. o) (λ o. o) (λ o. tt)
+  top-kin topOnly p = loop-kin bare p
+  top-kin entriesOnly p = same-kin (λ o. o) (λ o. o) (λ o. tt)
+  top-kin both p = loop-kin bare p
 
   -- no field
   none-kin : (vs : List ℕ) → Kin (mute []) (each field []) (Pairwise O []) vs
@@ -242,34 +233,24 @@ module _ (field : Field → Form ℕ) (O : Field → ℕ → Type 0)
   none-kin [] = same-kin (λ o. refl) (λ o. tt) (λ o. tt)
   none-kin (v ∷ vs) = same-kin (λ o. absurd o) (λ o. let n = ap length o in absurd (omega arith)) (λ o. tt)
 
-  abbrev OfEntries : ℕ → Entries → Type 0
-  OfEntries row q = Pairwise O (lengthBits row) (q .0) × Each (OfEntry O row) (q .1)
+  abbrev OfEntries : TableShape → ℕ → Entries → Type 0
+  OfEntries x row q = Pairwise O (lengthBitsBy x) (q .0) × Each (OfEntry O row) (q .1)
 
-  entries-kin : (row n : ℕ) (p : Entries) → length (sectionEntries row n .show p) ≡ n
-      → Kin (sectionEntries row n) (entriesFor field row) (OfEntries row) p
-  unfolding sectionEntries entriesFor
-  entries-kin row n p = go (eqb (rowAt row .fixed) 0) (eqb (rowAt row .top) 1)
-    where
-      go : (z t : Bool) → length (entriesBy row n z t .show p) ≡ n
-          → Kin (entriesBy row n z t)
-          (if z then mute ([], []) else each field (if t then bare else []) then counted (entryFor field row))
-          (λ q. Pairwise O (if t then bare else []) (q .0) × Each (OfEntry O row) (q .1)) p
-      go true true e = same-kin (λ o. o) (λ o. o)
-          (λ o. subst (λ (q : Entries). Pairwise O bare (q .0) × Each (OfEntry O row) (q .1)) (sym o) (tt, tt))
-      go true false e = same-kin (λ o. o) (λ o. o)
-          (λ o. subst (λ (q : Entries). Pairwise O [] (q .0) × Each (OfEntry O row) (q .1)) (sym o) (tt, tt))
-      go false true e =
-          sized-kin (sectionEntry row) (entryFor field row) (OfEntry O row) (entry-kin row) (entry-full row) bare p
-      go false false e =
-          then-kin p (none-kin (p .0))
-          (filled-kin (sectionEntry row) (entryFor field row) (OfEntry O row) (entry-kin row) (entry-full row) n (p .1)
-          e)
+  entries-kin : (x : TableShape) (row n : ℕ) (p : Entries) → length (sectionEntriesBy x row n .show p) ≡ n
+      → Kin (sectionEntriesBy x row n) (entriesForBy field x row) (OfEntries x row) p
+  entries-kin neither row n p e = same-kin (λ o. o) (λ o. o) (λ o. subst (OfEntries neither row) (sym o) (tt, tt))
+  entries-kin topOnly row n p e = same-kin (λ o. o) (λ o. o) (λ o. subst (OfEntries topOnly row) (sym o) (tt, tt))
+  entries-kin entriesOnly row n p e =
+      then-kin p (none-kin (p .0))
+      (filled-kin (sectionEntry row) (entryFor field row) (OfEntry O row) (entry-kin row) (entry-full row) n (p .1) e)
+  entries-kin both row n p e =
+      sized-kin (sectionEntry row) (entryFor field row) (OfEntry O row) (entry-kin row) (entry-full row) bare p
 
   pub body-kin : (row n : ℕ) (b : Body) → length (sectionEntries row n .show (b .1 .1)) ≡ n
       → Kin (sectionBody row n) (bodyFor field row)
       (λ q. Pairwise (OfItem O) (headOf row) (q .0)
-      × (Pairwise O (lengthBits row) (q .1 .0 .0) × OfEntries row (q .1 .1)))
+      × (Pairwise O (lengthBits row) (q .1 .0 .0) × OfEntries (shapeOf row) row (q .1 .1)))
       b
   body-kin row n b e =
       then-kin b (items-kin (headOf row) (b .0))
-      (then-kin (b .1) (top-kin row (b .1 .0)) (entries-kin row n (b .1 .1) e))
+      (then-kin (b .1) (top-kin (shapeOf row) (b .1 .0)) (entries-kin (shapeOf row) row n (b .1 .1) e))

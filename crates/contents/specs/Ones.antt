@@ -3,12 +3,10 @@ use Prim.{Unit}
 use Prim.Native.Nat.{ℕ, _-_, _^_}
 use mathlib.Core.Path.{_≡_}
 use mathlib.Core.List.{List, [], _∷_}
-use lib.Dec.{eqb}
 use Rattle.wire.specs.If.{if_then_else_}
 use Rattle.wire.specs.Reading.{Reading, value, refused}
-use Rattle.tables.specs.Tables.{rowAt}
 use Rattle.forms.specs.Fields.{Field, kept, reserved}
-use Rattle.sheet.specs.Content.{Item, plain, numbers, packed, bare, frame, headOf, entryOf, sideOf, Entry, Content, fieldsIn, besideIn, frameOf, headIn, topIn, secondIn, entriesIn, rowIn}
+use Rattle.sheet.specs.Content.{Item, plain, numbers, packed, bare, frame, headOf, entryOf, TableShape, shapeOf, hasTop, sideOf, Entry, Content, fieldsIn, besideIn, frameOf, headIn, topIn, secondIn, entriesIn, rowIn}
 use Rattle.sheet.specs.Section.{contentOf}
 
 -- R of each value and what it is the value of
@@ -23,8 +21,12 @@ Each O [] = Unit {0}
 Each O (a ∷ l) = O a × Each O l
 
 -- before the length of the top loop, and before that over the entries
+abbrev pub lengthBitsBy : TableShape → List Field
+lengthBitsBy x = if hasTop x then bare else []
+
+-- those of a row
 abbrev pub lengthBits : ℕ → List Field
-lengthBits row = if eqb (rowAt row .top) 1 then bare else []
+lengthBits row = lengthBitsBy (shapeOf row)
 
 -- O of every field of a table and its value
 module _ (O : Field → ℕ → Type 0) where

@@ -47,25 +47,25 @@ turned-nothing c d s p o h = record {
       record { room = sym (ap (put o (p .to)) (e .1) ∙ put-none o (p .to) (omega arith)); read = omega arith; written = omega arith };
 }
 
+-- one behind the other: y stands where x ends, and v is put where u ends
+pub done-then : {s : List ℕ} {p q r : Place} {o o' o'' : List ℕ} (x y u v : List ℕ) → Part s (p .at) (x ++ y)
+    → p .to + length (u ++ v) ≤ length o → (Part s (p .at) x → p .to + length u ≤ length o → Done p x u o q o')
+    → (Done p x u o q o' → Part s (q .at) y → q .to + length v ≤ length o' → Done q y v o' r o'')
+    → Done p (x ++ y) (u ++ v) o r o''
+done-then {s} x y u v w f g h =
+    let lu = length-append u v in
+    let i = g (part-first x y w) (omega arith) in
+    let l = done-length x u (omega arith) i in
+    let e = i .written in
+    done-both x y u v f i (h i (subst (λ n. Part s n y) (sym (i .read)) (part-second x y w)) (omega arith))
+
 module _ {A B : Type 0} {c d : Form A} {c' d' : Form B} {s : List ℕ} {p q r : Place} {o o' o'' : List ℕ} where
-  -- one behind the other
   pub turned-then : Turned c d s p o q o' → Turned c' d' s q o' r o'' → Turned (c then c') (d then d') s p o r o''
-  turned-then g h = record { turned = λ a k w f. go (a .0) (a .1) (k .0) (k .1) w f }
-    where
-      go : (a : A) (b : B) → c .Ok a → c' .Ok b → Part s (p .at) (c .show a ++ c' .show b)
-          → p .to + length (d .show a ++ d' .show b) ≤ length o
-          → Done p (c .show a ++ c' .show b) (d .show a ++ d' .show b) o r o''
-      go a b k m w f =
-          let x = c .show a in
-          let y = c' .show b in
-          let u = d .show a in
-          let v = d' .show b in
-          let lu = length-append u v in
-          let i = g .turned a k (part-first x y w) (omega arith) in
-          let l = done-length x u (omega arith) i in
-          let e = i .written in
-          let j = h .turned b m (subst (λ n. Part s n y) (sym (i .read)) (part-second x y w)) (omega arith) in
-          done-both x y u v f i j
+  turned-then g h = record {
+    turned = λ a k w f.
+        done-then (c .show (a .0)) (c' .show (a .1)) (d .show (a .0)) (d' .show (a .1)) w f (g .turned (a .0) (k .0))
+        (λ _. h .turned (a .1) (k .1));
+  }
 
 -- what is turned as one form is turned as another that shows the same
 module _ {A B : Type 0} {c d : Form A} {c' d' : Form B} {s : List ℕ} {p q : Place} {o o' : List ℕ} where

@@ -13,12 +13,12 @@ pub data Outcome : Type 0 where
 -- what the caller is told: how many bytes were written, or a refusal's number and place
 pub data Told : Type 0 where
   wrote : ℕ → Told
-  refused : ℕ → ℕ → Told
+  refusedWith : ℕ → ℕ → Told
 
 -- "tells n"
 abbrev pub answer : Outcome → Told
 answer (gives l) = wrote (length l)
-answer (refuses k p) = refused k p
+answer (refuses k p) = refusedWith k p
 
 -- "Success writes the first n bytes ..; later bytes stay."; a refusal writes nothing
 abbrev pub roomAfter : List ℕ → Outcome → List ℕ
@@ -37,4 +37,4 @@ SuccessWrites = (o l : List ℕ) → length l ≤ length o → (answer (gives l)
 
 -- a refusal alters nothing
 abbrev pub RefusalAltersNothing : Type 0
-RefusalAltersNothing = (o : List ℕ) (k p : ℕ) → (answer (refuses k p) ≡ refused k p) × (roomAfter o (refuses k p) ≡ o)
+RefusalAltersNothing = (o : List ℕ) (k p : ℕ) → (answer (refuses k p) ≡ refusedWith k p) × (roomAfter o (refuses k p) ≡ o)

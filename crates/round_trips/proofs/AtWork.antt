@@ -12,9 +12,9 @@ use Rattle.tables.specs.Tables.{cell, holds, first, rowOf}
 use Rattle.forms.specs.Form.{rawRead, bothRead, suchRead, eachRead, eachShow}
 use Rattle.forms.specs.Fields.{belowRead, room, pack, unpack}
 use Rattle.forms.specs.Lists.{timesRead, all, countedRead, loopShow}
-use Rattle.sheet.specs.Content.{headOf, entryOf, sideOf}
-use Rattle.sheet.specs.Sheet.{descriptorRead, topFor, entriesFor, readFor, shownFor}
-use Rattle.sheet.specs.Section.{sectionTop, sectionEntries, sectionLength, front, seal, sectionOf, contentOf, readSheetFor}
+use Rattle.sheet.specs.Content.{headOf, entryOf, shapeOf, sideOf}
+use Rattle.sheet.specs.Sheet.{descriptorRead, readFor, shownFor}
+use Rattle.sheet.specs.Section.{sectionLength, front, seal, sectionOf, contentOf, readSheetFor}
 use Rattle.section.specs.Reading as section
 use Rattle.section.specs.Reading.{judged, read, opening, header, wrongSyntax, lengthOutside, sizeDiffers, crcFails, aboveLast, inside, topped, _andThen_}
 use Rattle.turn.specs.Turn.{gives, toSection, toSheet}
@@ -48,7 +48,7 @@ made :
     × (toSection 4096 eitSheet ≡ gives eitSection) × (toSection 4096 tdtSheet ≡ gives tdtSection)
     × (toSection 4096 totSheet ≡ gives totSection)
 unfolding toSection readSheetFor readFor rawRead bothRead suchRead eachRead eachShow belowRead timesRead countedRead
-    descriptorRead all loopShow room pack headOf entryOf sideOf topFor entriesFor sectionTop sectionEntries
+    descriptorRead all loopShow room pack headOf entryOf shapeOf sideOf
     sectionLength front seal sectionOf feed feedBits feedBytes crc cell holds first rowOf
 made = (refl, refl, refl, refl, refl, refl)
 
@@ -65,6 +65,6 @@ all-six = record {
 
 pub unseen : Unseen
 unfolding toSheet contentOf judged read opening header wrongSyntax lengthOutside sizeDiffers crcFails aboveLast inside
-    topped section.plain _andThen_ shownFor rawRead bothRead suchRead eachRead eachShow room unpack headOf topFor
-    entriesFor sectionTop sectionEntries cell holds first rowOf
+    topped section.plain _andThen_ shownFor rawRead bothRead suchRead eachRead eachShow room unpack headOf
+    shapeOf cell holds first rowOf
 unseen = refl

@@ -1,41 +1,18 @@
 -- What a call does to the room.
-use Prim.Native.Nat.{ℕ, _+_, _≤_}
-use mathlib.Core.Path.{_≡_, refl, sym, ap, _∙_, subst}
+use Prim.Native.Nat.{ℕ, _≤_}
+use mathlib.Core.Path.{_≡_, refl, sym, _∙_, subst}
 use mathlib.Core.List.{List}
 use native.Mathlib.Omega.{arith}
-use lib.ListN.{length, take, drop}
-use lib.Seq.{drop-at}
+use lib.ListN.{length}
 use Rattle.wire.specs.Bytes.{Bytes}
-use Rattle.forms.specs.Room.{put}
-use Rattle.forms.proofs.Puts.{put-fits, length-put}
-use Rattle.turn.specs.Turn.{Outcome, gives, refuses, toSection, toSheet, wrote, refused, answer, roomAfter}
+use Rattle.forms.specs.Outcome.{Begins}
+use Rattle.forms.proofs.Outcomes.{success-writes}
+use Rattle.turn.specs.Turn.{Outcome, gives, refuses, toSection, toSheet, wrote, refusedWith, answer, roomAfter}
 use Rattle.turn.specs.Promise.{ToSection, ToSheet}
-use Rattle.turn.proofs.WholeLaws.{take-put}
 use Rattle.round_trips.specs.Rooms.{Written, SectionIsWritten, SheetIsWritten, RefusedSectionUnaltered, RefusedSheetUnaltered}
 use Rattle.round_trips.proofs.RoundTrips as trips
 use Rattle.turn.specs.declared.SectionAnswer.the-variants as section
 use Rattle.turn.specs.declared.SheetAnswer.the-variants as sheet
-
-drop-put : (o l : List ℕ) → length l ≤ length o → drop (length l) (put o 0 l) ≡ drop (length l) o
-drop-put o l h =
-    let e : 0 + length l ≡ length l = omega arith in
-    ap (drop (length l)) (put-fits o 0 l (omega arith))
-    ∙ drop-at l (drop (0 + length l) o) (length l) refl
-    ∙ ap (λ k. drop k o) e
-
--- bytes that an outcome gives, and that fit the room, are written so
-written : (most : ℕ) (t o o' : List ℕ) (x : Outcome) → x ≡ gives t → length t ≤ most → most ≤ length o
-    → o' ≡ roomAfter o x → Written most (length t) t o o'
-written most t o o' x g small fits e =
-    let r : o' ≡ put o 0 t = e ∙ ap (roomAfter o) g in
-    let h : length t ≤ length o = omega arith in
-    record {
-      size = refl;
-      small = small;
-      first = ap (take (length t)) r ∙ take-put o t h;
-      later = ap (drop (length t)) r ∙ drop-put o t h;
-      same-length = ap length r ∙ length-put o 0 t (omega arith);
-    }
 
 -- what is told to be written is what the outcome x gives
 pub record Given (x : Outcome) (most n : ℕ) (o o' : List ℕ) : Type 0 where
@@ -47,10 +24,11 @@ given : (most n : ℕ) (o o' : List ℕ) (x : Outcome)
     → ((t : List ℕ) → x ≡ gives t → (length t ≤ most) × (most ≤ length o))
     → wrote n ≡ answer x → o' ≡ roomAfter o x → Given x most n o o'
 given most n o o' (gives t) fits e f =
-    let k : length t ≡ n = sym cc in
     let h = fits t refl in
-    let w = written most t o o' (gives t) refl (h .0) (h .1) f in
-    record { bytes = t; is = refl; in-room = subst (λ m. Written most m t o o') k w }
+    let b = subst (Begins t o) (sym f) (success-writes o t (omega arith) .1) in
+    let w : Written most (length t) t o o' =
+    record { size = refl; small = h .0; first = b .first; later = b .later; same-length = b .same-length } in
+    record { bytes = t; is = refl; in-room = subst (λ m. Written most m t o o') (sym cc) w }
 given most n o o' (refuses k p) fits e f = let z : _≡_ {A = ℕ} 0 1 = cc in absurd (omega arith)
 
 pub section-given : (s o o' : List ℕ) (n : ℕ) → Bytes s → ToSection s o (section.Wrote n) o'
@@ -77,7 +55,7 @@ sheet-is-written s o o' n w a =
     let x = trips.from-section (length o) s (g .bytes) w (g .is) in
     (x .is-accepted, (x .content, x .is, x .reads, subst (λ l. Written 5120 n l o o') (x .made) (g .in-room)))
 
-unaltered : (o o' : List ℕ) (x : Outcome) (k q : ℕ) → o' ≡ roomAfter o x → answer x ≡ refused k q → o' ≡ o
+unaltered : (o o' : List ℕ) (x : Outcome) (k q : ℕ) → o' ≡ roomAfter o x → answer x ≡ refusedWith k q → o' ≡ o
 unaltered o o' (gives l) k q e f = let z : _≡_ {A = ℕ} 0 1 = cc in absurd (omega arith)
 unaltered o o' (refuses j p) k q e f = e
 

@@ -3,13 +3,13 @@
 use Prim.Native.Nat.{ℕ, _≤_}
 use mathlib.Core.Path.{_≡_, refl, sym, ap, _∙_, subst}
 use mathlib.Core.List.{List}
-use mathlib.Core.Bool.{Bool, true, false}
 use native.Mathlib.Omega.{arith}
 use borrow.Author.Tests.{ltb-false}
 use lib.ListN.{length}
 use lib.Dec.{ltb}
 use Rattle.wire.specs.If.{if_then_else_}
 use Rattle.wire.specs.Bytes.{Bytes}
+use Rattle.wire.proofs.IfLaws.{if-case}
 use Rattle.wire.specs.Reading as reading
 use Rattle.verdict.specs.Verdict as verdict
 use Rattle.section.specs.Reading.{judged}
@@ -24,12 +24,12 @@ use Rattle.contents.proofs.Accepted.{made-accepted}
 use Rattle.contents.proofs.SheetSize.{sheet-fits, section-fits}
 use Rattle.contents.proofs.ReadBack.{of-accepted}
 use Rattle.turn.specs.Turn.{Outcome, gives, refuses, sectionFrom, toSection, sheetFrom, sheetIf, toSheet}
-use Rattle.turn.proofs.TurnLaws.{to-section, to-sheet}
+use Rattle.turn.proofs.WholeLaws.{to-section, to-sheet}
 
 gives-is : {a b : List ℕ} → gives a ≡ gives b → a ≡ b
 gives-is e = cc
 
-no-gives : {a : List ℕ} {k p : ℕ} → refuses k p ≡ gives a → ⊥
+pub no-gives : {a : List ℕ} {k p : ℕ} → refuses k p ≡ gives a → ⊥
 no-gives e = let z : _≡_ {A = ℕ} 0 1 = cc in omega arith
 
 -- ---- a turn that ends well
@@ -37,11 +37,9 @@ no-gives e = let z : _≡_ {A = ℕ} 0 1 = cc in omega arith
 -- the room was large enough
 roomy : (n least : ℕ) (x : Outcome) (t : List ℕ) → (if ltb n least then refuses 21 0 else x) ≡ gives t
     → (least ≤ n) × (x ≡ gives t)
-roomy n least x t = go (ltb n least) refl
-  where
-    go : (b : Bool) → ltb n least ≡ b → (if b then refuses 21 0 else x) ≡ gives t → (least ≤ n) × (x ≡ gives t)
-    go true q e = absurd (no-gives e)
-    go false q e = (ltb-false n least q, e)
+roomy n least x t =
+    if-case (λ y. y ≡ gives t → (least ≤ n) × (x ≡ gives t)) (ltb n least) (λ _ e. absurd (no-gives e))
+    (λ q e. (ltb-false n least q, e))
 
 -- the content of a sheet that is turned into a section
 pub record FromSheet (n : ℕ) (s t : List ℕ) : Type 0 where

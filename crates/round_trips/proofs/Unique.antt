@@ -2,12 +2,10 @@
 use mathlib.Core.Path.{_≡_, refl, sym, ap, _∙_}
 use lib.Dec.{eqb}
 use Rattle.wire.specs.If.{if_then_else_}
-use Rattle.verdict.specs.Verdict as verdict
 use Rattle.verdict.proofs.Unique.{verdictOf, verdict-back}
-use Rattle.verdict.specs.declared.Verdict.{Verdict}
 use Rattle.verdict.specs.declared.Verdict.the-variants as variants
-use Rattle.turn.specs.Turn.{Told, wrote, refused}
-use Rattle.turn.specs.Answers.{toldSection, toldRefusal, toldSheet}
+use Rattle.turn.specs.Turn.{Told, wrote, refusedWith}
+use Rattle.turn.specs.Answers.{toldSection, toldSheet}
 use Rattle.turn.specs.declared.SectionAnswer.{SectionAnswer}
 use Rattle.turn.specs.declared.SectionAnswer.the-variants as section
 use Rattle.turn.specs.declared.SheetAnswer.{SheetAnswer}
@@ -16,7 +14,7 @@ use Rattle.turn.specs.declared.SheetAnswer.the-variants as sheet
 -- the answer that tells it
 sectionBy : Told → SectionAnswer
 sectionBy (wrote n) = section.Wrote n
-sectionBy (refused k p) =
+sectionBy (refusedWith k p) =
     if eqb k 21 then section.Room
     else if eqb k 22 then section.Early
     else if eqb k 23 then section.Unknown
@@ -39,32 +37,24 @@ section-once a b e = sym (section-back a) ∙ ap sectionBy e ∙ section-back b
 
 sheetBy : Told → SheetAnswer
 sheetBy (wrote n) = sheet.Wrote n
-sheetBy (refused k p) = if eqb k 21 then sheet.Room else sheet.Refused (verdictOf k p)
+sheetBy (refusedWith k p) = if eqb k 21 then sheet.Room else sheet.Refused (verdictOf k p)
 
 -- no verdict has the number 21
-refusal-back : (v : Verdict) → sheetBy (toldRefusal (verdict.told v)) ≡ sheet.Refused v
-unfolding sheetBy
-refusal-back v = go v (verdict-back v)
-  where
-    go : (v : Verdict) → verdictOf (verdict.numberOf (verdict.told v)) (verdict.placeOf (verdict.told v)) ≡ v
-        → sheetBy (toldRefusal (verdict.told v)) ≡ sheet.Refused v
-    go variants.Accepted e = ap sheet.Refused e
-    go variants.TooShort e = ap sheet.Refused e
-    go variants.UnknownTable e = ap sheet.Refused e
-    go variants.WrongSyntax e = ap sheet.Refused e
-    go variants.LengthOutside e = ap sheet.Refused e
-    go variants.SizeDiffers e = ap sheet.Refused e
-    go variants.CrcFails e = ap sheet.Refused e
-    go variants.NumberAboveLast e = ap sheet.Refused e
-    go (variants.LoopPast p) e = ap sheet.Refused e
-    go (variants.DescriptorPast p) e = ap sheet.Refused e
-    go (variants.BytesLeft p) e = ap sheet.Refused e
-
 sheet-back : (a : SheetAnswer) → sheetBy (toldSheet a) ≡ a
 unfolding sheetBy
 sheet-back (sheet.Wrote n) = refl
 sheet-back sheet.Room = refl
-sheet-back (sheet.Refused v) = refusal-back v
+sheet-back (sheet.Refused variants.Accepted) = ap sheet.Refused (verdict-back variants.Accepted)
+sheet-back (sheet.Refused variants.TooShort) = ap sheet.Refused (verdict-back variants.TooShort)
+sheet-back (sheet.Refused variants.UnknownTable) = ap sheet.Refused (verdict-back variants.UnknownTable)
+sheet-back (sheet.Refused variants.WrongSyntax) = ap sheet.Refused (verdict-back variants.WrongSyntax)
+sheet-back (sheet.Refused variants.LengthOutside) = ap sheet.Refused (verdict-back variants.LengthOutside)
+sheet-back (sheet.Refused variants.SizeDiffers) = ap sheet.Refused (verdict-back variants.SizeDiffers)
+sheet-back (sheet.Refused variants.CrcFails) = ap sheet.Refused (verdict-back variants.CrcFails)
+sheet-back (sheet.Refused variants.NumberAboveLast) = ap sheet.Refused (verdict-back variants.NumberAboveLast)
+sheet-back (sheet.Refused (variants.LoopPast p)) = ap sheet.Refused (verdict-back (variants.LoopPast p))
+sheet-back (sheet.Refused (variants.DescriptorPast p)) = ap sheet.Refused (verdict-back (variants.DescriptorPast p))
+sheet-back (sheet.Refused (variants.BytesLeft p)) = ap sheet.Refused (verdict-back (variants.BytesLeft p))
 
 pub sheet-once : (a b : SheetAnswer) → toldSheet a ≡ toldSheet b → a ≡ b
 sheet-once a b e = sym (sheet-back a) ∙ ap sheetBy e ∙ sheet-back b

@@ -10,7 +10,7 @@ use Rattle.loops.specs.Descriptors.{Placed}
 use Rattle.section.specs.Grammar.{Section}
 use Rattle.section.specs.Faults.{First}
 use Rattle.sheet.specs.Faults.{SheetFault, AcceptedSheet}
-use Rattle.turn.specs.Turn.{refused}
+use Rattle.turn.specs.Turn.{refusedWith}
 use Rattle.turn.specs.Answers.{toldSection, toldSheet}
 use Rattle.turn.specs.Promise.{ToSection, ToSheet}
 use Rattle.turn.specs.declared.SectionAnswer.{SectionAnswer}
@@ -34,7 +34,7 @@ pub data SheetRefusal (n : ℕ) (s : List ℕ) : ℕ → ℕ → Type 0 where
 -- a call of `to_section` refuses exactly if
 abbrev pub SectionRefusedExactlyIf : Type 0
 SectionRefusedExactlyIf = (s o o' : List ℕ) (r : SectionAnswer) → Bytes s → ToSection s o r o'
-    → (k q : ℕ) → (toldSection r ≡ refused k q) ↔ SectionRefusal (length o) s k q
+    → (k q : ℕ) → (toldSection r ≡ refusedWith k q) ↔ SectionRefusal (length o) s k q
 
 -- an accepted sheet and a room of 4,096 bytes give a section: 3 bytes and its section_length; nothing else does
 abbrev pub SectionMadeExactlyIf : Type 0
@@ -44,7 +44,7 @@ SectionMadeExactlyIf = (s o o' : List ℕ) (r : SectionAnswer) → Bytes s → T
 -- a call of `to_sheet` refuses exactly if
 abbrev pub SheetRefusedExactlyIf : Type 0
 SheetRefusedExactlyIf = (s o o' : List ℕ) (r : SheetAnswer) → Bytes s → ToSheet s o r o'
-    → (k q : ℕ) → (toldSheet r ≡ refused k q) ↔ SheetRefusal (length o) s k q
+    → (k q : ℕ) → (toldSheet r ≡ refusedWith k q) ↔ SheetRefusal (length o) s k q
 
 -- an accepted section and a room of 5,120 bytes give a sheet; nothing else does
 abbrev pub SheetMadeExactlyIf : Type 0

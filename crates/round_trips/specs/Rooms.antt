@@ -11,7 +11,7 @@ use Rattle.section.specs.Reading.{judged}
 use Rattle.sheet.specs.Content.{Content}
 use Rattle.sheet.specs.Sheet.{SheetOk, sheetOf}
 use Rattle.sheet.specs.Section.{sectionOf, contentOf}
-use Rattle.turn.specs.Turn.{refused}
+use Rattle.turn.specs.Turn.{refusedWith}
 use Rattle.turn.specs.Answers.{toldSection, toldSheet}
 use Rattle.turn.specs.Promise.{ToSection, ToSheet}
 use Rattle.turn.specs.declared.SectionAnswer.{SectionAnswer}
@@ -41,9 +41,9 @@ SheetIsWritten = (s o o' : List ℕ) (n : ℕ) → Bytes s → ToSheet s o (shee
 -- a refusal alters nothing
 abbrev pub RefusedSectionUnaltered : Type 0
 RefusedSectionUnaltered = (s o o' : List ℕ) (r : SectionAnswer) (k q : ℕ) → ToSection s o r o'
-    → toldSection r ≡ refused k q → o' ≡ o
+    → toldSection r ≡ refusedWith k q → o' ≡ o
 
 -- the same for a sheet
 abbrev pub RefusedSheetUnaltered : Type 0
 RefusedSheetUnaltered = (s o o' : List ℕ) (r : SheetAnswer) (k q : ℕ) → ToSheet s o r o'
-    → toldSheet r ≡ refused k q → o' ≡ o
+    → toldSheet r ≡ refusedWith k q → o' ≡ o

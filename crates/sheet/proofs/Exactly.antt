@@ -9,7 +9,6 @@ use native.Mathlib.Omega.{arith}
 use native.Mathlib.Decide.{decLe, decLt}
 use borrow.Author.Tests.{lt-ltb, le-ltb, le-leb, lt-leb}
 use lib.ListN.{length, getD, length-append}
-use lib.Dec.{eqb}
 use Rattle.wire.specs.If.{if_then_else_}
 use Rattle.wire.specs.Bytes.{Bytes}
 use Rattle.wire.specs.Reading.{value, refused}
@@ -23,7 +22,7 @@ use Rattle.forms.specs.Laws.{Lawful}
 use Rattle.forms.proofs.Lawful.{read-on, stays, raw-read}
 use Rattle.forms.proofs.FieldLaws.{field-lawful}
 use Rattle.forms.proofs.Fronts.{View, whole, early, wide, Seen, then-seen, mute-seen, raw-short, raw-seen, below-seen, each-seen, counted-seen}
-use Rattle.sheet.specs.Content.{Item, plain, numbers, packed, bare, frame, headOf, entryOf, sideOf, Content, tableOf, rowIn}
+use Rattle.sheet.specs.Content.{Item, plain, numbers, packed, bare, frame, headOf, entryOf, shapeOf, hasTop, hasEntries, sideOf, Content, tableOf, rowIn}
 use Rattle.sheet.specs.Sheet.{inOrder, descriptorRead, descriptor, itemFor, loopFor, entryFor, topFor, entriesFor, behindFor, readFor, shownFor, OkFor}
 use Rattle.sheet.specs.Section.{sectionLength, sectionOf, readSheetFor}
 use Rattle.sheet.specs.Reads.{judgedFor}
@@ -102,15 +101,13 @@ module _ (field : Field → Form ℕ) (lawful : (f : Field) → Lawful (field f)
   entry-seen row = then-seen (items-lawful field lawful (entryOf row) .complete) (items-seen (entryOf row)) (loop-seen (sideOf row))
 
   top-seen : (row : ℕ) → Seen (topFor field row)
-  unfolding topFor
-  top-seen row = if-seen (eqb (rowAt row .top) 1) (loop-seen bare) (mute-seen ([], []))
+  top-seen row = if-seen (hasTop (shapeOf row)) (loop-seen bare) (mute-seen ([], []))
 
   entries-seen : (row : ℕ) → Seen (entriesFor field row)
-  unfolding entriesFor
   entries-seen row =
-      if-seen (eqb (rowAt row .fixed) 0) (mute-seen ([], []))
-      (then-seen (fields-lawful field lawful _ .complete) (fields-seen (if eqb (rowAt row .top) 1 then bare else []))
-      (counted-seen (entryFor field row) (entry-lawful field lawful row) (entry-seen row)))
+      if-seen (hasEntries (shapeOf row))
+      (then-seen (fields-lawful field lawful _ .complete) (fields-seen (if hasTop (shapeOf row) then bare else []))
+      (counted-seen (entryFor field row) (entry-lawful field lawful row) (entry-seen row))) (mute-seen ([], []))
 
   behind-seen : (row : ℕ) → Seen (behindFor field row)
   behind-seen row =

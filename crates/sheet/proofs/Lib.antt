@@ -1,3 +1,4 @@
+pub mod Shapes
 pub mod SheetLaws
 pub mod ReadLaws
 pub mod Sizes

@@ -4,15 +4,15 @@ use Rattle.tables.specs.Tables.{cell, holds, first, rowOf}
 use Rattle.forms.specs.Form.{rawRead, bothRead, suchRead, eachRead, eachShow}
 use Rattle.forms.specs.Fields.{belowRead, room, pack}
 use Rattle.forms.specs.Lists.{timesRead, all, countedRead, loopShow}
-use Rattle.sheet.specs.Content.{headOf, entryOf, sideOf}
-use Rattle.sheet.specs.Sheet.{descriptorRead, topFor, entriesFor, readFor}
-use Rattle.sheet.specs.Section.{sectionTop, sectionEntries, sectionLength, readSheetFor}
+use Rattle.sheet.specs.Content.{headOf, entryOf, shapeOf, sideOf}
+use Rattle.sheet.specs.Sheet.{descriptorRead, readFor}
+use Rattle.sheet.specs.Section.{sectionLength, readSheetFor}
 use Rattle.sheet.specs.Reads.{judgedFor}
 use Rattle.sheet.specs.Limits.{Limits}
 
 pub limits : Limits
 unfolding judgedFor readSheetFor readFor rawRead bothRead suchRead eachRead eachShow belowRead timesRead countedRead
-    descriptorRead all loopShow room pack headOf entryOf sideOf topFor entriesFor sectionTop sectionEntries
+    descriptorRead all loopShow room pack headOf entryOf shapeOf sideOf
     sectionLength cell holds first rowOf
 limits = record {
   service = record {

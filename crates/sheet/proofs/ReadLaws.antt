@@ -7,7 +7,7 @@ use native.Mathlib.Omega.{arith}
 use borrow.Author.Tests.{le-leb, lt-leb, lt-ltb, le-ltb, ne-eqb}
 use lib.ListN.{length, getD, take, drop, length-drop}
 use lib.Seq.{drop-drop, getD-take, getD-drop}
-use lib.Dec.{ltb, leb}
+use lib.Dec.{ltb, leb, eqb}
 use Rattle.wire.specs.If.{if_then_else_}
 use Rattle.wire.specs.Number.{number, numberAt}
 use Rattle.wire.specs.Reading.{value, refused, _>>=_}
@@ -17,9 +17,10 @@ use Rattle.forms.specs.Form.{Form, mute, rawRead, raw, bothRead, _then_, suchRe
 use Rattle.forms.specs.Fields.{kept, reserved, belowRead, below, sheetField, sheetFields}
 use Rattle.forms.specs.Lists.{timesRead, times, countedRead, counted}
 use Rattle.forms.proofs.Lawful.{read-on, stays}
-use Rattle.sheet.specs.Content.{Item, plain, numbers, version, flags, filler, bare, frame, common, headOf, entryOf, sideOf, Entries}
-use Rattle.sheet.specs.Sheet.{inOrder, sheetItem, descriptorRead, descriptor, sheetLoop, sheetTop, topFor, sheetEntries, entriesFor}
+use Rattle.sheet.specs.Content.{Item, plain, numbers, version, flags, filler, bare, frame, common, headOf, entryOf, shapeOf, sideOf, Entries}
+use Rattle.sheet.specs.Sheet.{inOrder, sheetItem, descriptorRead, descriptor, sheetLoop, sheetTop, sheetEntries}
 use Rattle.sheet.specs.Inner.Places.{Reads, Onward, Follows, Common, entryBy, sideBy, entryWith, topBy}
+use Rattle.sheet.proofs.Shapes.{has-top}
 use Rattle.sheet.specs.declared.End.{End}
 use Rattle.sheet.specs.declared.End.the-variants.{At, EndsEarly, TooWide}
 
@@ -420,7 +421,7 @@ module _ (row : ℕ) {s : List ℕ} where
   entries-are {x} {y} c e p = subst (λ d. Follows d s x y) (sym e) p
 
   pub entries-none : {x : End} → 4 ≤ row → Follows (sheetEntries row) s x x
-  unfolding entriesFor cell
+  unfolding cell shapeOf
   entries-none h = entries-are (mute ([], [])) (go row h) (follows-mute ([], []))
     where
       go : (row : ℕ) → 4 ≤ row → _≡_ {A = Form Entries} (sheetEntries row) (mute ([], []))
@@ -434,21 +435,21 @@ module _ (row : ℕ) {s : List ℕ} where
 
   pub entries-service : {x y : End} → row ≡ 1 → Follows (counted (entryWith 2 true true)) s x y
       → Follows (sheetEntries row) s x y
-  unfolding entriesFor cell entryOf sideOf
+  unfolding cell entryOf shapeOf sideOf
   entries-service e p =
       entries-are (sheetFields [] then counted (entryWith 2 true true)) (ap sheetEntries e)
       (follows-then (follows-nil sheetField) p)
 
   pub entries-event : {x y : End} → row ≡ 3 → Follows (counted (entryWith 10 false true)) s x y
       → Follows (sheetEntries row) s x y
-  unfolding entriesFor cell entryOf sideOf
+  unfolding cell entryOf shapeOf sideOf
   entries-event e p =
       entries-are (sheetFields [] then counted (entryWith 10 false true)) (ap sheetEntries e)
       (follows-then (follows-nil sheetField) p)
 
   pub entries-stream : {x y : End} → row < 4 → (row ≡ 1 → ⊥) → (row ≡ 3 → ⊥)
       → Follows (counted (entryWith 4 false false)) s x y → Follows (sheetEntries row) s x y
-  unfolding entriesFor cell entryOf sideOf
+  unfolding cell entryOf shapeOf sideOf
   entries-stream h f g p =
       entries-are (sheetFields bare then counted (entryWith 4 false false)) (go row h f g)
       (follows-then side-reserved p)
@@ -462,8 +463,8 @@ module _ (row : ℕ) {s : List ℕ} where
       go (suc (suc (suc (suc n)))) h f g = absurd (omega arith)
 
   pub top-of : {n : ℕ} {x y : End} → n ≡ rowAt row .top → Follows (topBy n) s x y → Follows (sheetTop row) s x y
-  unfolding topFor
-  top-of {x = x} {y} e p = subst (λ n. Follows (topBy n) s x y) e p
+  top-of {x = x} {y} e p =
+      subst (λ b. Follows (if b then sheetLoop bare else mute ([], [])) s x y) (ap (λ n. eqb n 1) e ∙ has-top row) p
 
 -- the bits before section_length stand in no sheet
 pub frame-none : {s : List ℕ} {x : End} → Follows (sheetFields frame) s x x

@@ -6,18 +6,18 @@ use mathlib.Core.Bool.{Bool, true, false}
 use native.Mathlib.Omega.{arith}
 use borrow.Author.Tests.{ltb-true, lt-ltb}
 use lib.ListN.{length, getD}
-use lib.Dec.{ltb, eqb}
+use lib.Dec.{ltb}
 use Rattle.wire.specs.If.{if_then_else_}
 use Rattle.wire.specs.Bytes.{Bytes}
 use Rattle.wire.proofs.ReadingLaws.{value-is, through}
-use Rattle.tables.specs.Tables.{rowOf, rowAt}
+use Rattle.tables.specs.Tables.{rowOf}
 use Rattle.forms.specs.Form.{Form, rawRead, raw, _then_, such, each}
 use Rattle.forms.specs.Fields.{Field}
 use Rattle.forms.specs.Lists.{counted}
 use Rattle.forms.specs.Laws.{Lawful, Sound, Complete}
 use Rattle.forms.proofs.Lawful.{read-on, mute-lawful, raw-read, raw-shown, one-of, two-of, raw-lawful, then-lawful, such-lawful, each-lawful, bytes-behind}
 use Rattle.forms.proofs.ListLaws.{counted-lawful}
-use Rattle.sheet.specs.Content.{Item, plain, numbers, packed, bare, frame, headOf, entryOf, sideOf, Descriptor, Content, tableOf, rowIn}
+use Rattle.sheet.specs.Content.{Item, plain, numbers, packed, bare, frame, headOf, entryOf, shapeOf, hasTop, hasEntries, sideOf, Descriptor, Content, tableOf, rowIn}
 use Rattle.sheet.specs.Sheet.{inOrder, descriptorRead, descriptor, itemFor, loopFor, entryFor, topFor, entriesFor, bodyFor, behindFor, readFor, shownFor, OkFor, sheetFor}
 
 descriptor-sound : Sound descriptor
@@ -78,15 +78,13 @@ module _ (field : Field → Form ℕ) (lawful : (f : Field) → Lawful (field f)
       (loop-lawful (sideOf row))
 
   pub top-lawful : (row : ℕ) → Lawful (topFor field row)
-  unfolding topFor
-  top-lawful row = if-lawful (eqb (rowAt row .top) 1) (loop-lawful bare) (mute-lawful ([], []))
+  top-lawful row = if-lawful (hasTop (shapeOf row)) (loop-lawful bare) (mute-lawful ([], []))
 
   pub entries-lawful : (row : ℕ) → Lawful (entriesFor field row)
-  unfolding entriesFor
   entries-lawful row =
-      if-lawful (eqb (rowAt row .fixed) 0) (mute-lawful ([], []))
-      (then-lawful (each field (if eqb (rowAt row .top) 1 then bare else [])) (counted (entryFor field row)) (fields-lawful _)
-      (counted-lawful (entryFor field row) (entry-lawful row)))
+      if-lawful (hasEntries (shapeOf row))
+      (then-lawful (each field (if hasTop (shapeOf row) then bare else [])) (counted (entryFor field row)) (fields-lawful _)
+      (counted-lawful (entryFor field row) (entry-lawful row))) (mute-lawful ([], []))
 
   pub behind-lawful : (row : ℕ) → Lawful (behindFor field row)
   behind-lawful row =

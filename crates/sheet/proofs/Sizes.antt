@@ -6,28 +6,41 @@ use mathlib.Core.List.{List, [], _∷_, _++_}
 use native.Mathlib.Omega.{arith}
 use lib.ListN.{length, getD, length-append}
 use lib.Seq.{getD-append-add}
-use lib.Dec.{eqb}
 use Rattle.wire.specs.If.{if_then_else_}
 use Rattle.wire.specs.Number.{numberAt}
 use Rattle.tables.specs.Tables.{cell, rowAt}
 use Rattle.forms.specs.Form.{Form, mute, _then_, eachShow, EachOk, each}
 use Rattle.forms.specs.Fields.{Field, kept, reserved, sheetField, sheetFields}
 use Rattle.forms.specs.Lists.{all, All, none, one, countedShow, counted, loopShow, loop, filling}
-use Rattle.sheet.specs.Content.{Item, plain, numbers, packed, bare, frame, headOf, entryOf, sideOf, Fields, Loop, Entry, Entries, Body, Content, tableOf, rowIn}
-use Rattle.sheet.specs.Sheet.{itemFor, loopFor, entryFor, behindFor, sheetItem, descriptor, sheetEntry, sheetTop, topFor, entriesFor, behindId, sheetOf, shownFor, SheetOk, OkFor}
+use Rattle.sheet.specs.Content.{Item, plain, numbers, packed, bare, frame, headOf, entryOf, TableShape, neither, topOnly, entriesOnly, both, shapeOf, hasTop, sideOf, Fields, Loop, Entry, Entries, Body, Content, tableOf, rowIn}
+use Rattle.sheet.specs.Sheet.{itemFor, loopFor, entryFor, behindFor, sheetItem, descriptor, sheetEntry, topFor, topForBy, entriesFor, behindId, sheetOf, shownFor, SheetOk, OkFor}
 use Rattle.sheet.specs.Inner.Lengths.{cut, gain, countAt, spare}
-use Rattle.sheet.specs.Section.{sectionItem, sectionLoop, sectionEntry, sectionTop, sectionEntries, sectionBody, sectionLength}
+use Rattle.sheet.specs.Section.{sectionItem, sectionLoop, sectionEntry, sectionTop, sectionTopBy, sectionEntries, sectionBody, sectionLength}
 
 -- ---- items and loops
 
-abbrev inSection : Item → ℕ
+-- the bytes of an item in a section
+abbrev pub inSection : Item → ℕ
 inSection (plain n) = n
 inSection numbers = 2
 inSection (packed fs) = 1
 
-total : (Item → ℕ) → List Item → ℕ
+unfoldable pub total : (Item → ℕ) → List Item → ℕ
 total f [] = 0
 total f (x ∷ xs) = f x + total f xs
+
+-- items are as long as each of them, shown in the form f, where they can be shown in the form g
+pub items-size : (f g : Item → Form (List ℕ)) (size : Item → ℕ) → ((x : Item) (v : List ℕ) → g x .Ok v → length (f x .show v) ≡ size x)
+    → (xs : List Item) (vs : Fields) → EachOk g xs vs → length (eachShow f xs vs) ≡ total size xs
+unfolding eachShow EachOk total
+items-size f g size h [] [] o = refl
+items-size f g size h [] (v ∷ vs) o = absurd o
+items-size f g size h (x ∷ xs) [] o = absurd o
+items-size f g size h (x ∷ xs) (v ∷ vs) o =
+    let l = length-append (f x .show v) (eachShow f xs vs) in
+    let i = h x v (o .0) in
+    let j = items-size f g size h xs vs (o .1) in
+    omega arith
 
 counted-size : {A : Type 0} (c : Form A) (l : List A) → length (counted c .show l) ≡ 2 + length (all c l)
 unfolding countedShow
@@ -73,24 +86,11 @@ module _ (field : Field → Form ℕ) (fieldSize : Field → ℕ)
   section-item numbers v o = o .0
   section-item (packed fs) v o = refl
 
-  items-size : (f : Item → Form (List ℕ)) (size : Item → ℕ)
-      → ((x : Item) (v : List ℕ) → itemFor field x .Ok v → length (f x .show v) ≡ size x)
-      → (xs : List Item) (vs : Fields) → EachOk (itemFor field) xs vs → length (eachShow f xs vs) ≡ total size xs
-  unfolding eachShow EachOk total
-  items-size f size h [] [] o = refl
-  items-size f size h [] (v ∷ vs) o = absurd o
-  items-size f size h (x ∷ xs) [] o = absurd o
-  items-size f size h (x ∷ xs) (v ∷ vs) o =
-      let l = length-append (f x .show v) (eachShow f xs vs) in
-      let i = h x v (o .0) in
-      let j = items-size f size h xs vs (o .1) in
-      omega arith
-
   sheet-items : (xs : List Item) (vs : Fields) → EachOk (itemFor field) xs vs → length (each (itemFor field) xs .show vs) ≡ total inSheet xs
-  sheet-items = items-size (itemFor field) inSheet sheet-item
+  sheet-items = items-size (itemFor field) (itemFor field) inSheet sheet-item
 
   section-items : (xs : List Item) (vs : Fields) → EachOk (itemFor field) xs vs → length (each sectionItem xs .show vs) ≡ total inSection xs
-  section-items = items-size sectionItem inSection section-item
+  section-items = items-size sectionItem (itemFor field) inSection section-item
 
   -- ---- loops and entries
 
@@ -152,17 +152,12 @@ module _ (field : Field → Form ℕ) (fieldSize : Field → ℕ)
 
   -- ---- the top loop
 
-  top-size : (row : ℕ) (p : Loop) → topFor field row .Ok p
-      → length (topFor field row .show p)
-      ≡ (if eqb (rowAt row .top) 1 then fieldsSize bare else 0) + length (sectionTop row .show p)
-  unfolding topFor sectionTop
-  top-size row p = go (eqb (rowAt row .top) 1)
-    where
-      go : (b : Bool) → (if b then loopFor field bare else mute ([], [])) .Ok p
-          → length ((if b then loopFor field bare else mute ([], [])) .show p)
-          ≡ (if b then fieldsSize bare else 0) + length ((if b then sectionLoop bare else mute ([], [])) .show p)
-      go true o = side-size bare p o
-      go false o = refl
+  top-size : (x : TableShape) (p : Loop) → topForBy field x .Ok p
+      → length (topForBy field x .show p) ≡ (if hasTop x then fieldsSize bare else 0) + length (sectionTopBy x .show p)
+  top-size neither p o = refl
+  top-size topOnly p o = side-size bare p o
+  top-size entriesOnly p o = refl
+  top-size both p o = side-size bare p o
 
   -- ---- by the row
 
@@ -206,11 +201,12 @@ field-size : (f : Field) (v : ℕ) → length (sheetField f .show v) ≡ fieldSi
 field-size (kept w) v = refl
 field-size (reserved w) v = refl
 
-same-top : (row : ℕ) (p : Loop) → sheetTop row .Ok p → length (sheetTop row .show p) ≡ length (sectionTop row .show p)
+same-top : (x : TableShape) (p : Loop) → topForBy sheetField x .Ok p
+    → length (topForBy sheetField x .show p) ≡ length (sectionTopBy x .show p)
 unfolding fieldsSize
-same-top row p o = top-size sheetField fieldSize field-size row p o ∙ go (eqb (rowAt row .top) 1)
+same-top x p o = top-size sheetField fieldSize field-size x p o ∙ go (hasTop x)
   where
-    go : (b : Bool) → (if b then 0 else 0) + length (sectionTop row .show p) ≡ length (sectionTop row .show p)
+    go : (b : Bool) → (if b then 0 else 0) + length (sectionTopBy x .show p) ≡ length (sectionTopBy x .show p)
     go true = omega arith
     go false = omega arith
 
@@ -222,14 +218,14 @@ Sized : ℕ → List ℕ × Body → Type 0
 Sized row b = length (sectionBody row 0 .show (b .1)) + 4 * rowAt row .crc + cut row * numberIn b ≡ length (behindId row .show b) + gain row
 
 size-of : (row : ℕ) (b : List ℕ × Body) → row < 6 → behindId row .Ok b → Sized row b
-unfolding Sized cell cut gain headOf entryOf sideOf total fieldsSize entriesFor sectionEntries
+unfolding Sized cell cut gain headOf entryOf shapeOf sideOf total fieldsSize
 size-of zero b h o =
     let e = sized-entries sheetField fieldSize field-size 0 0 refl (b .1 .1 .1) (o .1 .1 .1) in
     omega (
       arith,
       behind-size sheetField fieldSize field-size 0 b o,
       body-size sheetField fieldSize field-size 0 b o,
-      same-top 0 (b .1 .1 .0) (o .1 .1 .0),
+      same-top (shapeOf 0) (b .1 .1 .0) (o .1 .1 .0),
     )
 size-of (suc zero) b h o =
     let e = bare-entries sheetField fieldSize field-size 1 3 refl (b .1 .1 .1) (o .1 .1 .1) in
@@ -237,7 +233,7 @@ size-of (suc zero) b h o =
       arith,
       behind-size sheetField fieldSize field-size 1 b o,
       body-size sheetField fieldSize field-size 1 b o,
-      same-top 1 (b .1 .1 .0) (o .1 .1 .0),
+      same-top (shapeOf 1) (b .1 .1 .0) (o .1 .1 .0),
     )
 size-of (suc (suc zero)) b h o =
     let e = sized-entries sheetField fieldSize field-size 2 0 refl (b .1 .1 .1) (o .1 .1 .1) in
@@ -245,7 +241,7 @@ size-of (suc (suc zero)) b h o =
       arith,
       behind-size sheetField fieldSize field-size 2 b o,
       body-size sheetField fieldSize field-size 2 b o,
-      same-top 2 (b .1 .1 .0) (o .1 .1 .0),
+      same-top (shapeOf 2) (b .1 .1 .0) (o .1 .1 .0),
     )
 size-of (suc (suc (suc zero))) b h o =
     let e = bare-entries sheetField fieldSize field-size 3 2 refl (b .1 .1 .1) (o .1 .1 .1) in
@@ -253,19 +249,19 @@ size-of (suc (suc (suc zero))) b h o =
       arith,
       behind-size sheetField fieldSize field-size 3 b o,
       body-size sheetField fieldSize field-size 3 b o,
-      same-top 3 (b .1 .1 .0) (o .1 .1 .0),
+      same-top (shapeOf 3) (b .1 .1 .0) (o .1 .1 .0),
     )
 size-of (suc (suc (suc (suc zero)))) b h o = omega (
   arith,
   behind-size sheetField fieldSize field-size 4 b o,
   body-size sheetField fieldSize field-size 4 b o,
-  same-top 4 (b .1 .1 .0) (o .1 .1 .0),
+  same-top (shapeOf 4) (b .1 .1 .0) (o .1 .1 .0),
 )
 size-of (suc (suc (suc (suc (suc zero))))) b h o = omega (
   arith,
   behind-size sheetField fieldSize field-size 5 b o,
   body-size sheetField fieldSize field-size 5 b o,
-  same-top 5 (b .1 .1 .0) (o .1 .1 .0),
+  same-top (shapeOf 5) (b .1 .1 .0) (o .1 .1 .0),
 )
 size-of (suc (suc (suc (suc (suc (suc n)))))) b h o = absurd (omega arith)
 
@@ -303,7 +299,7 @@ count-behind id k f h c l e g =
 
 entries-cut : (row id : ℕ) (b : List ℕ × Body) → row < 6 → behindId row .Ok b
     → cut row * numberAt 2 (id ∷ behindId row .show b) (countAt row) ≡ cut row * numberIn b
-unfolding cut countAt cell headOf total fieldsSize topFor entriesFor eachShow
+unfolding cut countAt cell headOf shapeOf total fieldsSize eachShow
 entries-cut zero id b h o = omega arith
 entries-cut (suc zero) id b h o =
     ap (λ n. 3 * n)

@@ -2,6 +2,7 @@
 -- of which section and sheet are two forms.
 use Prim.Native.Nat.{ℕ}
 use mathlib.Core.List.{List, [], _∷_}
+use mathlib.Core.Bool.{Bool, true, false}
 use lib.ListN.{getD}
 use lib.Dec.{eqb}
 use Rattle.wire.specs.If.{if_then_else_}
@@ -75,9 +76,41 @@ headOf row = getD heads row []
 unfoldable pub entryOf : ℕ → List Item
 entryOf row = getD entryItems row []
 
+-- the four shapes of a table: neither a top loop nor entries (TDT), a top loop (TOT), entries (SDT, EIT), both (NIT, BAT)
+pub data TableShape : Type 0 where
+  neither : TableShape
+  topOnly : TableShape
+  entriesOnly : TableShape
+  both : TableShape
+
+-- by whether there is a top loop, and whether there are no entries
+abbrev pub shapeBy : Bool → Bool → TableShape
+shapeBy false true = neither
+shapeBy true true = topOnly
+shapeBy false false = entriesOnly
+shapeBy true false = both
+
+-- a row's, by its columns
+unfoldable pub shapeOf : ℕ → TableShape
+shapeOf row = shapeBy (eqb (rowAt row .top) 1) (eqb (rowAt row .fixed) 0)
+
+-- it has a top loop
+abbrev pub hasTop : TableShape → Bool
+hasTop neither = false
+hasTop topOnly = true
+hasTop entriesOnly = false
+hasTop both = true
+
+-- it has entries
+abbrev pub hasEntries : TableShape → Bool
+hasEntries neither = false
+hasEntries topOnly = false
+hasEntries entriesOnly = true
+hasEntries both = true
+
 -- "SDT: .. running_status 1, free_CA_mode 1; EIT: .. running_status 1, free_CA_mode 1": those without a top loop
 unfoldable pub sideOf : ℕ → List Field
-sideOf row = if eqb (rowAt row .top) 1 then bare else status
+sideOf row = if hasTop (shapeOf row) then bare else status
 
 -- the values of fields, a list for each item
 abbrev pub Fields : Type 0

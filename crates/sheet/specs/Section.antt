@@ -10,7 +10,7 @@ use Rattle.tables.specs.Tables.{rowOf, rowAt}
 use Rattle.forms.specs.Form.{Form, mute, raw, _then_, such, each}
 use Rattle.forms.specs.Fields.{Field, sheetField, pack, unpack, byteOf}
 use Rattle.forms.specs.Lists.{loop, filling}
-use Rattle.sheet.specs.Content.{Item, plain, numbers, packed, bare, frame, headOf, entryOf, sideOf, Loop, Entry, Entries, Body, Content, tableOf, frameOf, bodyOf, rowIn}
+use Rattle.sheet.specs.Content.{Item, plain, numbers, packed, bare, frame, headOf, entryOf, TableShape, shapeOf, hasTop, hasEntries, sideOf, Loop, Entry, Entries, Body, Content, tableOf, frameOf, bodyOf, rowIn}
 use Rattle.sheet.specs.Sheet.{inOrder, descriptor, sheetFor}
 
 -- an item of a head or an entry in a section; 7 is the section's refusal of a section_number above the last
@@ -27,16 +27,22 @@ sectionLoop fs = loop descriptor fs
 abbrev pub sectionEntry : ℕ → Form Entry
 sectionEntry row = each sectionItem (entryOf row) then sectionLoop (sideOf row)
 
--- the top loop, where the row has one
-unfoldable pub sectionTop : ℕ → Form Loop
-sectionTop row = if eqb (rowAt row .top) 1 then sectionLoop bare else mute ([], [])
+-- the top loop, where the table has one
+abbrev pub sectionTopBy : TableShape → Form Loop
+sectionTopBy x = if hasTop x then sectionLoop bare else mute ([], [])
+
+-- that of a row
+abbrev pub sectionTop : ℕ → Form Loop
+sectionTop row = sectionTopBy (shapeOf row)
 
 -- entries after a length of their own (NIT, BAT), or in the n bytes up to the CRC_32 (SDT, EIT)
-unfoldable pub sectionEntries : ℕ → ℕ → Form Entries
-sectionEntries row n =
-    if eqb (rowAt row .fixed) 0 then mute ([], [])
-    else if eqb (rowAt row .top) 1 then loop (sectionEntry row) bare
-    else mute [] then filling (sectionEntry row) n
+abbrev pub sectionEntriesBy : TableShape → ℕ → ℕ → Form Entries
+sectionEntriesBy x row n =
+    if hasEntries x then (if hasTop x then loop (sectionEntry row) bare else mute [] then filling (sectionEntry row) n) else mute ([], [])
+
+-- those of a row
+abbrev pub sectionEntries : ℕ → ℕ → Form Entries
+sectionEntries row n = sectionEntriesBy (shapeOf row) row n
 
 -- what stands behind section_length; n bytes follow the head
 abbrev pub sectionBody : ℕ → ℕ → Form Body

@@ -3,14 +3,14 @@ use Prim.Native.Nat.{ℕ, _<_}
 use mathlib.Core.List.{List, [], _∷_}
 use mathlib.Core.Bool.{Bool}
 use lib.ListN.{length, getD}
-use lib.Dec.{ltb, leb, eqb}
+use lib.Dec.{ltb, leb}
 use Rattle.wire.specs.If.{if_then_else_}
 use Rattle.wire.specs.Reading.{value, _>>=_}
-use Rattle.tables.specs.Tables.{UNKNOWN, rowOf, rowAt}
+use Rattle.tables.specs.Tables.{UNKNOWN, rowOf}
 use Rattle.forms.specs.Form.{Front, Form, mute, rawRead, raw, _then_, such, each}
 use Rattle.forms.specs.Fields.{Field, sheetField}
 use Rattle.forms.specs.Lists.{counted}
-use Rattle.sheet.specs.Content.{Item, plain, numbers, packed, bare, frame, headOf, entryOf, sideOf, Descriptor, Loop, Entry, Entries, Body, Content, tableOf, rowIn}
+use Rattle.sheet.specs.Content.{Item, plain, numbers, packed, bare, frame, headOf, entryOf, TableShape, shapeOf, hasTop, hasEntries, sideOf, Descriptor, Loop, Entry, Entries, Body, Content, tableOf, rowIn}
 
 -- "24 .. section number above last"
 abbrev pub inOrder : List ℕ → Bool
@@ -46,14 +46,21 @@ module _ (field : Field → Form ℕ) where
   entryFor row = each itemFor (entryOf row) then loopFor (sideOf row)
 
   -- "NIT, BAT, TOT: count, descriptors as broadcast."
-  unfoldable pub topFor : ℕ → Form Loop
-  topFor row = if eqb (rowAt row .top) 1 then loopFor bare else mute ([], [])
+  abbrev pub topForBy : TableShape → Form Loop
+  topForBy x = if hasTop x then loopFor bare else mute ([], [])
+
+  -- that of a row
+  abbrev pub topFor : ℕ → Form Loop
+  topFor row = topForBy (shapeOf row)
 
   -- "NIT, BAT, SDT, EIT: count, entries."; the four bits before the second length of NIT and BAT are reserved
-  unfoldable pub entriesFor : ℕ → Form Entries
-  entriesFor row =
-      if eqb (rowAt row .fixed) 0 then mute ([], [])
-      else each field (if eqb (rowAt row .top) 1 then bare else []) then counted (entryFor row)
+  abbrev pub entriesForBy : TableShape → ℕ → Form Entries
+  entriesForBy x row =
+      if hasEntries x then each field (if hasTop x then bare else []) then counted (entryFor row) else mute ([], [])
+
+  -- those of a row
+  abbrev pub entriesFor : ℕ → Form Entries
+  entriesFor row = entriesForBy (shapeOf row) row
 
   -- head, top loop, entries
   abbrev pub bodyFor : ℕ → Form Body

@@ -11,18 +11,18 @@ use Rattle.wire.specs.Number.{numberAt}
 use Rattle.wire.specs.Parts.{Part}
 use Rattle.wire.proofs.PartLaws.{part-second, part-taken}
 use Rattle.tables.specs.Tables.{cell}
-use Rattle.forms.specs.Form.{eachShow, EachOk}
-use Rattle.forms.specs.Fields.{room, pack, sheetFields}
-use Rattle.forms.specs.Lists.{all, none, one, times, countedShow, loopShow}
+use Rattle.forms.specs.Form.{Form, mute, eachShow, EachOk}
+use Rattle.forms.specs.Fields.{room, pack, sheetField, sheetFields}
+use Rattle.forms.specs.Lists.{all, All, none, one, times, countedShow, loopShow}
 use Rattle.forms.specs.Room.{put, sum}
 use Rattle.forms.specs.Inner.Turning.{Turned}
 use Rattle.forms.proofs.Puts.{sum-fits, put-put, length-put}
-use Rattle.forms.proofs.Turns.{turned-as, turned-zero, turned-suc}
-use Rattle.sheet.specs.Content.{Entry, bare, entryOf, sideOf}
-use Rattle.sheet.specs.Sheet.{sheetEntry}
+use Rattle.forms.proofs.Turns.{turned-nothing, turned-as, turned-zero, turned-suc}
+use Rattle.sheet.specs.Content.{Entry, Entries, bare, entryOf, shapeOf, sideOf}
+use Rattle.sheet.specs.Sheet.{sheetEntry, entriesForBy}
 use Rattle.sheet.specs.Section.{sectionEntry}
 use Rattle.turn.specs.Inner.Fields.{Shape, running, bared}
-use Rattle.turn.specs.Inner.Ways.{entryFrom, entryTo, topIf, entriesShown, behindOwn, ownSize, ownPut, BesideOk, BesideFit, EntriesForth, EntriesBack, NumberIn, putNumber}
+use Rattle.turn.specs.Inner.Ways.{from, entryFrom, entryTo, topIf, entriesFrom, withEntries, behindOwn, ownSize, ownPut, EntriesTurned, NumberIn, putNumber}
 use Rattle.contents.proofs.SectionLaws.{half-bare, no-more, entry-full}
 use Rattle.contents.proofs.Accepted.{says}
 use Rattle.turn.proofs.PieceLaws.{part-within, part-byte, part-first-byte, number-put}
@@ -31,11 +31,11 @@ use Rattle.forms.specs.declared.Place.{Place}
 -- ---- what stands beside an entry's loop length
 
 pub bare-sides : Shape (sideOf 0) 0 16 × Shape (sideOf 2) 0 16 × Shape (sideOf 5) 0 16
-unfolding sideOf cell
+unfolding sideOf shapeOf cell
 bare-sides = (bared, bared, bared)
 
 pub status-side : (row : ℕ) → (row ≡ 0 → ⊥) → (row ≡ 2 → ⊥) → (row ≡ 5 → ⊥) → Shape (sideOf row) 8 16
-unfolding sideOf cell
+unfolding sideOf shapeOf cell
 status-side zero f g h = absurd (f refl)
 status-side (suc zero) f g h = running
 status-side (suc (suc zero)) f g h = absurd (g refl)
@@ -99,90 +99,132 @@ beside-ones [] o = absurd o
 beside-ones (v ∷ []) o = let e = o .0 in omega arith
 beside-ones (v ∷ w ∷ vs) o = absurd (o .1)
 
--- entries put behind their length, where they have one, are put with it
-own-put : (top : Bool) (row : ℕ) (o : List ℕ) (to end : ℕ) → length o < 2 ^ 64 → (vs : List ℕ) (es : List Entry) → BesideOk top vs
-    → to + length (entriesShown top row vs es) ≡ end → end ≤ 4096 → end ≤ length o
-    → (behindOwn top to + length (all (sectionEntry row) es) ≡ end) × (length (ownPut top o to end) ≡ length o)
-    × (put (ownPut top o to end) (behindOwn top to) (all (sectionEntry row) es) ≡ put o to (entriesShown top row vs es))
-unfolding loopShow
-own-put true row o to end lo vs es ov e small f =
-    let body = all (sectionEntry row) es in
-    let N : ℕ = length body in
-    let behind : sum to 2 ≡ to + 2 = sum-fits to 2 (omega arith) in
-    let left : end - sum to 2 ≡ N = omega arith in
-    let v : ℕ = 0xF000 + N in
-    let u : List ℕ = v / 256 % 256 ∷ v % 256 ∷ [] in
-    let iv : sum 0xF000 (end - sum to 2) ≡ v = ap (sum 0xF000) left ∙ sum-fits 0xF000 N (omega arith) in
-    let put₁ : putNumber o to (sum 0xF000 (end - sum to 2)) ≡ put o to u = ap (putNumber o to) iv ∙ number-put o to v lo (omega arith) in
-    let ones = beside-ones vs ov in
-    let high : v / 256 % 256 ≡ pack bare vs * 16 + N / 256 = omega arith in
-    let low : v % 256 ≡ N % 256 = omega arith in (
-      omega arith,
-      ap length put₁ ∙ length-put o to u (omega arith),
-      ap₂ (λ i j. put i j body) put₁ behind
-          ∙ put-put o to u (omega arith) body (omega arith)
-          ∙ ap₂ (λ i j. put o to (i ∷ j ∷ body)) high low,
-    )
-own-put false row o to end lo vs es ov e small f = (e, refl, refl)
+-- they are no byte of a sheet
+bare-shown : (vs : List ℕ) → sheetFields bare .show vs ≡ []
+unfolding eachShow
+bare-shown [] = refl
+bare-shown (v ∷ vs) = refl
 
--- where a section has entries, and how many bytes they are
-own-read : (top : Bool) (row : ℕ) (s : List ℕ) (at end : ℕ) → length s < 2 ^ 64 → (vs : List ℕ) (es : List Entry) → BesideFit top vs
-    → length (all (sectionEntry row) es) < 4096 → Part s at (entriesShown top row vs es)
-    → at + length (entriesShown top row vs es) ≡ end
-    → Part s (behindOwn top at) (all (sectionEntry row) es) × (ownSize top s at end ≡ length (all (sectionEntry row) es))
-    × (behindOwn top at + length (all (sectionEntry row) es) ≡ end)
-unfolding loopShow
-own-read true row s at end ls vs es ov small w e =
-    let body = all (sectionEntry row) es in
-    let N : ℕ = length body in
-    let a : ℕ = pack bare vs * 16 + N / 256 in
-    let b : ℕ = N % 256 in
-    let within = part-within (a ∷ b ∷ body) w in
-    let behind : sum at 2 ≡ at + 2 = sum-fits at 2 (omega arith) in (
-      subst (λ k. Part s k body) (sym behind) (part-second (a ∷ b ∷ []) body w),
-      ap₂ len12 (part-first-byte (a ∷ b ∷ body) w (omega arith)) (part-byte (a ∷ b ∷ body) w 1 (omega arith))
-          ∙ says bare half-bare vs ov N small,
-      omega arith,
-    )
-own-read false row s at end ls vs es ov small w e = (w, omega arith, e)
+both-ok : (row : ℕ) (es : List Entry) → All (sheetEntry row) es → All (sectionEntry row) es → All (entryFrom true row) es
+both-ok row [] none none = none
+both-ok row (e ∷ es) (one o os) (one u us) = one (o .0, (o .1, u .1)) (both-ok row es os us)
+
+-- what is shown of entries that a section can hold, by whether they have a length of their own
+module _ (row : ℕ) (e : Entries) where
+  abbrev sheets : Bool → Form Entries
+  sheets top = entriesForBy sheetField (withEntries top) row
+
+  abbrev sections : Bool → Form Entries
+  sections top = entriesFrom false (withEntries top) row
+
+  abbrev body : List ℕ
+  body = all (sectionEntry row) (e .1)
+
+  held : (top : Bool) → sections top .Ok e → (sheets top .show e ≡ countedShow (sheetEntry row) (e .1)) × All (sectionEntry row) (e .1)
+  unfolding eachShow
+  held true o = (ap (λ l. l ++ countedShow (sheetEntry row) (e .1)) (bare-shown (e .0)), o .2)
+  held false o = (refl, o .1 .1)
+
+  counted : (top : Bool) → sheets top .Ok e → (length (e .1) < 65536) × All (sheetEntry row) (e .1)
+  counted true o = o .1
+  counted false o = o .1
+
+  -- entries put behind their length, where they have one, are put with it
+  own-put : (top : Bool) (o : List ℕ) (to end : ℕ) → length o < 2 ^ 64 → sheets top .Ok e → to + length (sections top .show e) ≡ end
+      → end ≤ 4096 → end ≤ length o
+      → (behindOwn top to + length body ≡ end) × (length (ownPut top o to end) ≡ length o)
+      × (put (ownPut top o to end) (behindOwn top to) body ≡ put o to (sections top .show e))
+  unfolding loopShow
+  own-put true o to end lo ok i small f =
+      let N : ℕ = length body in
+      let behind : sum to 2 ≡ to + 2 = sum-fits to 2 (omega arith) in
+      let left : end - sum to 2 ≡ N = omega arith in
+      let v : ℕ = 0xF000 + N in
+      let u : List ℕ = v / 256 % 256 ∷ v % 256 ∷ [] in
+      let iv : sum 0xF000 (end - sum to 2) ≡ v = ap (sum 0xF000) left ∙ sum-fits 0xF000 N (omega arith) in
+      let put₁ : putNumber o to (sum 0xF000 (end - sum to 2)) ≡ put o to u = ap (putNumber o to) iv ∙ number-put o to v lo (omega arith) in
+      let ones = beside-ones (e .0) (ok .0) in
+      let high : v / 256 % 256 ≡ pack bare (e .0) * 16 + N / 256 = omega arith in
+      let low : v % 256 ≡ N % 256 = omega arith in (
+        omega arith,
+        ap length put₁ ∙ length-put o to u (omega arith),
+        ap₂ (λ i j. put i j body) put₁ behind
+            ∙ put-put o to u (omega arith) body (omega arith)
+            ∙ ap₂ (λ i j. put o to (i ∷ j ∷ body)) high low,
+      )
+  own-put false o to end lo ok i small f = (i, refl, refl)
+
+  -- where a section has entries, and how many bytes they are
+  own-read : (top : Bool) (s : List ℕ) (at end : ℕ) → length s < 2 ^ 64 → sections top .Ok e → Part s at (sections top .show e)
+      → at + length (sections top .show e) ≡ end
+      → Part s (behindOwn top at) body × (ownSize top s at end ≡ length body) × (behindOwn top at + length body ≡ end)
+  unfolding loopShow
+  own-read true s at end ls ok w i =
+      let N : ℕ = length body in
+      let a : ℕ = pack bare (e .0) * 16 + N / 256 in
+      let b : ℕ = N % 256 in
+      let within = part-within (a ∷ b ∷ body) w in
+      let behind : sum at 2 ≡ at + 2 = sum-fits at 2 (omega arith) in (
+        subst (λ k. Part s k body) (sym behind) (part-second (a ∷ b ∷ []) body w),
+        ap₂ len12 (part-first-byte (a ∷ b ∷ body) w (omega arith)) (part-byte (a ∷ b ∷ body) w 1 (omega arith))
+            ∙ says (sectionEntry row) bare half-bare e ok,
+        omega arith,
+      )
+  own-read false s at end ls ok w i = (w, omega arith, i)
+
+-- that length is put
+pub own-written : (top : Bool) (o : List ℕ) (to end : ℕ) {o' : List ℕ} {i j v : ℕ} → top ≡ true → i ≡ sum to 2 → j ≡ end - i
+    → v ≡ sum 0xF000 j → o' ≡ putNumber o to v → o' ≡ ownPut top o to end
+own-written top o to end e hi hj hv h = rw e (h ∙ ap (putNumber o to) (hv ∙ ap (sum 0xF000) (hj ∙ ap (λ i. end - i) hi)))
 
 -- ---- entries either way; z is the place of the first of them, x the room before they are written
 
 module _ {s o : List ℕ} (ls : length s < 2 ^ 64) (lo : length o < 2 ^ 64) (top : Bool) (row : ℕ) {p q z : Place} {x o' : List ℕ} where
   pub entries-forth : {end number : ℕ} → number ≡ numberAt 2 s (p .at) → z .at ≡ sum (p .at) 2 → z .to ≡ behindOwn top (p .to)
       → x ≡ ownPut top o (p .to) end → Turned (times (entryFrom true row) number) (times (entryTo true row) number) s z x q o'
-      → EntriesForth top row s p end o q o'
+      → EntriesTurned true (withEntries top) row s p end o q o'
   unfolding countedShow
   entries-forth {end} {number} hn ha ht hx t = record {
-    turned = λ vs es ov oe h w e small f.
+    turned = λ e k v f i small.
+        let es = e .1 in
         let body = all (sheetEntry row) es in
+        let h = held row e top (k .1) in
+        let w = subst (Part s (p .at)) (h .0) v in
+        let few = counted row e top (k .0) .0 in
         let n = part-within (countedShow (sheetEntry row) es) w in
-        let own = own-put top row o (p .to) end lo vs es ov e small f in
+        let own = own-put row e top o (p .to) end lo (k .0) i small (omega arith) in
         let a : z .at ≡ p .at + 2 = ha ∙ sum-fits (p .at) 2 (omega arith) in
-        let i : length es ≡ number = sym (hn ∙ number-read row s (p .at) es h w) in
+        let j : length es ≡ number = sym (hn ∙ number-read row s (p .at) es few w) in
         let wb : Part s (z .at) body =
         subst (λ k. Part s k body) (sym a) (part-second (length es / 256 ∷ length es % 256 ∷ []) body w) in
         let lx : length x ≡ length o = ap length hx ∙ own .1 in
         let ends : z .to + length (all (sectionEntry row) es) ≡ end = ap (λ k. k + length (all (sectionEntry row) es)) ht ∙ own .0 in
-        let d = t .turned es (i, oe) (subst (Part s (z .at)) (sym (sheet-shown row es)) wb) (omega arith) in
+        let d = t .turned es (j, both-ok row es (counted row e top (k .0) .1) (h .1))
+        (subst (Part s (z .at)) (sym (sheet-shown row es)) wb) (omega arith) in
+        let m = ap length (h .0) in
         record {
           room = d .room ∙ ap₂ (λ j k. put j k (all (sectionEntry row) es)) hx ht ∙ own .2;
           read = d .read ∙ ap (λ l. z .at + length l) (sheet-shown row es) ∙ omega arith;
-          written = d .written ∙ ends ∙ sym e;
+          written = d .written ∙ ends ∙ sym i;
         };
   }
 
-  pub entries-back : {end k : ℕ} → NumberIn (sectionEntry row) (take (ownSize top s (p .at) end) (drop (behindOwn top (p .at)) s)) k
-      → z .at ≡ behindOwn top (p .at) → z .to ≡ sum (p .to) 2 → x ≡ putNumber o (p .to) k
-      → Turned (times (entryFrom false row) k) (times (entryTo false row) k) s z x q o' → EntriesBack top row s p end o q o'
+  pub entries-back : {end k n : ℕ} {l : List ℕ} → n ≡ ownSize top s (p .at) end → l ≡ take n (drop (z .at) s)
+      → NumberIn (sectionEntry row) l k → z .at ≡ behindOwn top (p .at) → z .to ≡ sum (p .to) 2 → x ≡ putNumber o (p .to) k
+      → Turned (times (entryFrom false row) k) (times (entryTo false row) k) s z x q o'
+      → EntriesTurned false (withEntries top) row s p end o q o'
   unfolding countedShow
-  entries-back {end} {k} hk ha ht hx t = record {
-    turned = λ vs es ov oe small w e f.
+  entries-back {end} {k} {n} hn hl hk ha ht hx t = record {
+    turned = λ e ok w f i small.
+        let es = e .1 in
         let body = all (sheetEntry row) es in
-        let own = own-read top row s (p .at) end ls vs es ov small w e in
-        let few = no-more (sectionEntry row) (entry-full row) es oe in
+        let h = held row e top ok in
+        let own = own-read row e top s (p .at) end ls ok w i in
+        let far = own .2 in
+        let m = ap length (h .0) in
+        let few = no-more (sectionEntry row) (entry-full row) es (h .1) in
         let ik : k ≡ length es =
-        hk es oe (sym (ap (λ i. take i (drop (behindOwn top (p .at)) s)) (own .1) ∙ part-taken (own .0))) in
+        hk es (h .1) (sym (hl ∙ ap₂ (λ i j. take i (drop j s)) (hn ∙ own .1) ha ∙ part-taken (own .0))) in
         let to : z .to ≡ p .to + 2 = ht ∙ sum-fits (p .to) 2 (omega arith) in
         let high : k / 256 % 256 ≡ length es / 256 = omega arith in
         let low : k % 256 ≡ length es % 256 = omega arith in
@@ -191,23 +233,31 @@ module _ {s o : List ℕ} (ls : length s < 2 ^ 64) (lo : length o < 2 ^ 64) (top
         let lx : length x ≡ length o = ap length put₁ ∙ length-put o (p .to) u (omega arith) in
         let shown = sheet-shown row es in
         let ls' = ap length shown in
-        let d = t .turned es (sym ik, oe) (subst (λ j. Part s j (all (sectionEntry row) es)) (sym ha) (own .0)) (omega arith) in
+        let d = t .turned es (sym ik, h .1) (subst (λ j. Part s j (all (sectionEntry row) es)) (sym ha) (own .0)) (omega arith) in
         record {
           room =
               d .room ∙ ap₂ (λ i j. put x i j) to shown ∙ ap (λ i. put i (p .to + 2) body) put₁
               ∙ put-put o (p .to) u (omega arith) body (omega arith)
-              ∙ ap₂ (λ i j. put o (p .to) (i ∷ j ∷ body)) high low;
-          read = d .read ∙ ap (λ j. j + length (all (sectionEntry row) es)) ha ∙ own .2 ∙ sym e;
+              ∙ ap₂ (λ i j. put o (p .to) (i ∷ j ∷ body)) high low ∙ ap (put o (p .to)) (sym (h .0));
+          read = d .read ∙ ap (λ j. j + length (all (sectionEntry row) es)) ha ∙ own .2 ∙ sym i;
           written = d .written ∙ omega arith;
         };
   }
+
+-- ---- nothing
+
+-- no byte is turned into none
+pub none-turned : {A : Type 0} (v : A) {s o : List ℕ} {p : Place} (b : Bool)
+    → Turned (from b (mute v) (mute v)) (from (not b) (mute v) (mute v)) s p o p o
+none-turned v {s} {o} {p} true = turned-nothing (from true (mute v) (mute v)) (mute v) s p o (λ a k. (refl, refl))
+none-turned v {s} {o} {p} false = turned-nothing (mute v) (from true (mute v) (mute v)) s p o (λ a k. (refl, refl))
 
 -- ---- the top loop
 
 -- an entry without fields is its loop
 pub top-turned : {s o o' : List ℕ} {p q : Place} (b t : Bool) → t ≡ true
     → Turned (times (entryFrom b 5) 1) (times (entryTo b 5) 1) s p o q o' → Turned (topIf b t) (topIf (not b) t) s p o q o'
-unfolding sideOf entryOf cell all eachShow EachOk
+unfolding sideOf shapeOf entryOf cell all eachShow EachOk
 top-turned {s} {o} {o'} {p} {q} b t e u =
     subst (λ x. Turned (topIf b x) (topIf (not b) x) s p o q o') (sym e)
     (turned-as (λ l k. (([], l) ∷ [], (refl, one (tt, k) none), sym (append-nil _), sym (append-nil _))) u)

@@ -10,10 +10,19 @@ use Rattle.forms.specs.Inner.Turning.{Turned}
 use Rattle.forms.proofs.Turns.{turned-none, turned-one, turned-such}
 use Rattle.sheet.specs.Content.{Item, plain, numbers, version, flags, filler, headOf, entryOf}
 use Rattle.sheet.specs.Sheet.{inOrder}
+use Rattle.contents.proofs.SectionLaws.{each-row}
 use Rattle.turn.specs.Inner.Ways.{itemFrom, itemTo, itemsFrom, itemsTo}
 use Rattle.forms.specs.declared.Place.{Place}
 
 -- ---- items row by row
+
+-- what is so of each row that has section numbers
+pub four-rows : (P : ℕ → Type 0) → P 0 → P 1 → P 2 → P 3 → (row : ℕ) → row < 4 → P row
+four-rows P a b c d zero h = a
+four-rows P a b c d (suc zero) h = b
+four-rows P a b c d (suc (suc zero)) h = c
+four-rows P a b c d (suc (suc (suc zero))) h = d
+four-rows P a b c d (suc (suc (suc (suc row)))) h = absurd (omega arith)
 
 pub sdt-ids : (row : ℕ) → row ≡ 1 → plain 2 ∷ filler ∷ [] ≡ drop 3 (headOf row)
 unfolding headOf
@@ -23,31 +32,26 @@ pub eit-ids : (row : ℕ) → row ≡ 3 → plain 6 ∷ [] ≡ drop 3 (headOf ro
 unfolding headOf
 eit-ids row e = ap (λ r. drop 3 (headOf r)) (sym e)
 
-pub no-ids : (row : ℕ) → row < 4 → (row ≡ 1 → ⊥) → (row ≡ 3 → ⊥) → [] ≡ drop 3 (headOf row)
-unfolding headOf
-no-ids zero h f g = refl
-no-ids (suc zero) h f g = absurd (f refl)
-no-ids (suc (suc zero)) h f g = refl
-no-ids (suc (suc (suc zero))) h f g = absurd (g refl)
-no-ids (suc (suc (suc (suc row)))) h f g = absurd (omega arith)
+-- NIT and BAT
+abbrev Networks : ℕ → Type 0
+Networks row = (row ≡ 1 → ⊥) → (row ≡ 3 → ⊥) → ([] ≡ drop 3 (headOf row)) × (plain 4 ∷ [] ≡ entryOf row)
+
+pub networks : (row : ℕ) → row < 4 → Networks row
+unfolding headOf entryOf
+networks = four-rows Networks (λ f g. (refl, refl)) (λ f g. absurd (f refl)) (λ f g. (refl, refl)) (λ f g. absurd (g refl))
 
 pub common-items : (row : ℕ) → row < 4 → plain 2 ∷ version ∷ numbers ∷ drop 3 (headOf row) ≡ headOf row
 unfolding headOf
-common-items zero h = refl
-common-items (suc zero) h = refl
-common-items (suc (suc zero)) h = refl
-common-items (suc (suc (suc zero))) h = refl
-common-items (suc (suc (suc (suc row)))) h = absurd (omega arith)
+common-items = four-rows (λ row. plain 2 ∷ version ∷ numbers ∷ drop 3 (headOf row) ≡ headOf row) refl refl refl refl
 
-pub time-items : (row : ℕ) → row < 6 → 4 ≤ row → plain 5 ∷ [] ≡ headOf row
+abbrev Times : ℕ → Type 0
+Times row = 4 ≤ row → plain 5 ∷ [] ≡ headOf row
+
+pub time-items : (row : ℕ) → row < 6 → Times row
 unfolding headOf
-time-items zero h g = absurd (omega arith)
-time-items (suc zero) h g = absurd (omega arith)
-time-items (suc (suc zero)) h g = absurd (omega arith)
-time-items (suc (suc (suc zero))) h g = absurd (omega arith)
-time-items (suc (suc (suc (suc zero)))) h g = refl
-time-items (suc (suc (suc (suc (suc zero))))) h g = refl
-time-items (suc (suc (suc (suc (suc (suc row)))))) h g = absurd (omega arith)
+time-items =
+    each-row Times (λ h. absurd (omega arith)) (λ h. absurd (omega arith)) (λ h. absurd (omega arith))
+    (λ h. absurd (omega arith)) (λ h. refl) (λ h. refl)
 
 pub sdt-entry : (row : ℕ) → row ≡ 1 → plain 2 ∷ flags ∷ [] ≡ entryOf row
 unfolding entryOf
@@ -56,14 +60,6 @@ sdt-entry row e = ap entryOf (sym e)
 pub eit-entry : (row : ℕ) → row ≡ 3 → plain 10 ∷ [] ≡ entryOf row
 unfolding entryOf
 eit-entry row e = ap entryOf (sym e)
-
-pub nit-entry : (row : ℕ) → row < 4 → (row ≡ 1 → ⊥) → (row ≡ 3 → ⊥) → plain 4 ∷ [] ≡ entryOf row
-unfolding entryOf
-nit-entry zero h f g = refl
-nit-entry (suc zero) h f g = absurd (f refl)
-nit-entry (suc (suc zero)) h f g = refl
-nit-entry (suc (suc (suc zero))) h f g = absurd (g refl)
-nit-entry (suc (suc (suc (suc row)))) h f g = absurd (omega arith)
 
 pub no-entry : (row : ℕ) → 4 ≤ row → [] ≡ entryOf row
 unfolding entryOf

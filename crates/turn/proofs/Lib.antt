@@ -1,8 +1,6 @@
-pub mod TurnLaws
 pub mod PieceLaws
 pub mod HeadLaws
 pub mod CountLaws
-pub mod EntryLaws
 pub mod LoopLaws
 pub mod EntriesLaws
 pub mod BodyLaws

@@ -161,42 +161,42 @@ fields-joined {s} {at} {fs} {span} {all} ls sh vs ok w =
 pub joined-none : (span : ℕ) (s : List ℕ) (at : ℕ) → span ≡ 0 → 255 ≡ joinedAt span s at
 joined-none span s at e = rw (eq-eqb span 0 e) refl
 
-pub joined-two : (span : ℕ) (s : List ℕ) (at : ℕ) {m a b : ℕ} → (span ≡ 0 → ⊥) → m ≡ span → a ≡ getD s at 0 → b ≡ getD s (sum at 1) 0
-    → 512 - 2 * m + a * 2 + b ≡ joinedAt span s at
-joined-two span s at n hm ha hb = rw (ne-eqb span 0 n, hm, ha, hb) refl
+pub joined-two : (span : ℕ) (s : List ℕ) (at : ℕ) {m a b x y i : ℕ} → (span ≡ 0 → ⊥) → m ≡ span → a ≡ x → x ≡ getD s at 0 → b ≡ y
+    → y ≡ getD s i 0 → i ≡ sum at 1 → 512 - 2 * m + a * 2 + b ≡ joinedAt span s at
+joined-two span s at n hm ha hx hb hy hi = rw (ne-eqb span 0 n, hm, ha, hx, hb, hy, hi) refl
 
 -- fields put into a sheet
 module _ (span x : ℕ) (o : List ℕ) (to : ℕ) where
   pub parted-none : span ≡ 0 → Parted span x o to o
   parted-none e h = sym (ap (λ b. put o to (if b then [] else x / 2 % span ∷ x % 2 ∷ [])) (eq-eqb span 0 e) ∙ put-none o to (omega arith))
 
-  pub parted-two : length o < 2 ^ 64 → (span ≡ 0 → ⊥) → {o₁ o' : List ℕ} → o₁ ≡ put o to (x / 2 % span ∷ [])
-      → o' ≡ put o₁ (sum to 1) (x % 2 ∷ []) → Parted span x o to o'
-  parted-two lo n e₁ e h =
+  pub parted-two : length o < 2 ^ 64 → (span ≡ 0 → ⊥) → {i : ℕ} {o₁ o' : List ℕ} → o₁ ≡ put o to (x / 2 % span ∷ [])
+      → i ≡ sum to 1 → o' ≡ put o₁ i (x % 2 ∷ []) → Parted span x o to o'
+  parted-two lo n e₁ hi e h =
       let no : eqb span 0 ≡ false = ne-eqb span 0 n in
       let f : to + 2 ≤ length o = subst (λ b. to + (if b then 0 else 2) ≤ length o) no h in
-      e ∙ ap (λ z. put z (sum to 1) (x % 2 ∷ [])) e₁
+      e ∙ ap₂ (λ z i. put z i (x % 2 ∷ [])) e₁ hi
       ∙ two-put o to (x / 2 % span) (x % 2) lo f
       ∙ ap (λ b. put o to (if b then [] else x / 2 % span ∷ x % 2 ∷ [])) (sym no)
 
 -- ---- a byte of fields
 
 module _ {s o : List ℕ} (ls : length s < 2 ^ 64) (lo : length o < 2 ^ 64) {p q : Place} {span x : ℕ} {o' : List ℕ} where
-  pub byte-joined : x ≡ joinedAt span s (p .at) → o' ≡ put o (p .to) (x % 256 ∷ []) → q .at ≡ sum (p .at) (keptSize span)
-      → q .to ≡ sum (p .to) 1 → ByteTurned true span s p o q o'
-  byte-joined is e a b = record { turned = go }
+  pub byte-joined : {k : ℕ} → x ≡ joinedAt span s (p .at) → o' ≡ put o (p .to) (x % 256 ∷ []) → k ≡ keptSize span
+      → q .at ≡ sum (p .at) k → q .to ≡ sum (p .to) 1 → ByteTurned true span s p o q o'
+  byte-joined is e hk a b = record { turned = go }
     where
       go : {fs : List Field} → Shape fs span 256 → Turned (sheetFields fs) (byteOf fs) s p o q o'
       go {fs} sh = record {
         turned = λ vs k w f.
             done ls lo (sheetFields fs .show vs) (pack fs vs ∷ []) w f
             (e ∙ ap (λ z. put o (p .to) (z ∷ [])) (ap (λ z. z % 256) is ∙ fields-joined ls sh vs k w))
-            (a ∙ ap (sum (p .at)) (sym (fields-size sh vs (fields-fit fs vs k)))) b;
+            (a ∙ ap (sum (p .at)) (hk ∙ sym (fields-size sh vs (fields-fit fs vs k)))) b;
       }
 
-  pub byte-parted : x ≡ getD s (p .at) 0 → Parted span x o (p .to) o' → q .at ≡ sum (p .at) 1 → q .to ≡ sum (p .to) (keptSize span)
-      → ByteTurned false span s p o q o'
-  byte-parted is e a b = record { turned = go }
+  pub byte-parted : {k : ℕ} → x ≡ getD s (p .at) 0 → Parted span x o (p .to) o' → q .at ≡ sum (p .at) 1 → k ≡ keptSize span
+      → q .to ≡ sum (p .to) k → ByteTurned false span s p o q o'
+  byte-parted is e a hk b = record { turned = go }
     where
       go : {fs : List Field} → Shape fs span 256 → Turned (byteOf fs) (sheetFields fs) s p o q o'
       go {fs} sh = record {
@@ -205,7 +205,7 @@ module _ {s o : List ℕ} (ls : length s < 2 ^ 64) (lo : length o < 2 ^ 64) {p q
             let x-is : x ≡ pack fs vs = is ∙ part-first-byte (pack fs vs ∷ []) w (omega arith) in
             done ls lo (pack fs vs ∷ []) (sheetFields fs .show vs) w f
             (e (omega arith) ∙ ap (put o (p .to)) (ap (partedOf span) x-is ∙ sym (fields-shown sh vs k)))
-            a (b ∙ ap (sum (p .to)) (sym l));
+            a (b ∙ ap (sum (p .to)) (hk ∙ sym l));
       }
 
 -- ---- either way

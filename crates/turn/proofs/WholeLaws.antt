@@ -6,7 +6,7 @@ use mathlib.Core.Bool.{Bool, true, false}
 use native.Mathlib.Omega.{arith}
 use borrow.Author.Tests.{eqb-true, lt-ltb, le-ltb}
 use lib.ListN.{length, getD, take, length-append}
-use lib.Dec.{eqb, ltb, lit<}
+use lib.Dec.{eqb, lit<}
 use Prim.{tt}
 use Rattle.wire.specs.If.{if_then_else_}
 use Rattle.wire.specs.Bytes.{Bytes}
@@ -22,16 +22,16 @@ use Rattle.tables.specs.declared.Row.{Row}
 use Rattle.verdict.specs.Verdict as verdict
 use Rattle.section.specs.Reading.{judged}
 use Rattle.forms.specs.Form.{eachShow, EachOk}
-use Rattle.forms.specs.Fields.{Fit, room, pack, sheetFields}
+use Rattle.forms.specs.Fields.{room, pack, sheetFields}
 use Rattle.forms.specs.Room.{put, sum}
 use Rattle.forms.proofs.Puts.{sum-fits, put-put, length-put}
 pub use Rattle.forms.proofs.Outcomes.{take-put}
 use Rattle.sheet.specs.Content.{Content, frame, tableOf, frameOf, bodyOf, rowIn}
 use Rattle.sheet.specs.Sheet.{sheetBody, sheetOf, shownFor, OkFor}
 use Rattle.sheet.specs.Section.{bodyBytes, sectionLength, front, seal, sectionOf, contentOf, readSheet}
-use Rattle.sheet.specs.Reads.{judgedFor, judgedSheet}
+use Rattle.sheet.specs.Reads.{told, judgedFor, judgedSheet}
 use Rattle.turn.specs.Inner.Ways.{putNumber}
-use Rattle.turn.specs.Inner.Bodies.{BodyForth, BodyBack, crcSize, leadingOf, begun, sealed, SectionWritten, SheetWritten, AcceptedWritten}
+use Rattle.turn.specs.Inner.Bodies.{BodyTurned, crcSize, leadingOf, begun, sealed, SectionWritten, SheetWritten, AcceptedWritten}
 use Rattle.turn.specs.Turn as turn
 use Rattle.turn.specs.Answers.{toldRefusal}
 use Rattle.sheet.proofs.SectionSize.{front-is, front-length, second, section-length, seal-length}
@@ -40,18 +40,17 @@ use Rattle.contents.proofs.SectionLaws.{numbers-of, first-byte}
 use Rattle.contents.proofs.Held.{held}
 use Rattle.contents.proofs.SheetSize.{sheet-fits}
 use Rattle.contents.proofs.ReadBack.{of-accepted}
-use Rattle.turn.proofs.TurnLaws.{to-section, to-sheet}
 use Rattle.turn.proofs.PieceLaws.{number-put}
 use Rattle.forms.specs.declared.Place.{Place}
+use Rattle.sheet.specs.declared.Judged.{Judged}
 
 -- ---- the frame
 
-frame-shown : (vs : List ℕ) → Fit frame vs → sheetFields frame .show vs ≡ []
-unfolding eachShow EachOk
-frame-shown [] o = absurd o
-frame-shown (a ∷ []) o = absurd (o .1)
-frame-shown (a ∷ b ∷ []) o = refl
-frame-shown (a ∷ b ∷ c ∷ vs) o = absurd (o .1 .1)
+pub frame-shown : (vs : List ℕ) → sheetFields frame .show vs ≡ []
+unfolding eachShow
+frame-shown [] = refl
+frame-shown (a ∷ []) = refl
+frame-shown (a ∷ b ∷ vs) = refl
 
 frame-ones : (vs : List ℕ) → sheetFields frame .Ok vs → pack frame vs ≡ 7
 unfolding EachOk pack room
@@ -60,9 +59,9 @@ frame-ones (a ∷ []) o = absurd (o .1)
 frame-ones (a ∷ b ∷ []) o = let e = o .0 in let f = o .1 .0 in omega arith
 frame-ones (a ∷ b ∷ c ∷ vs) o = absurd (o .1 .1)
 
-sheet-is : (c : Content) → Fit frame (frameOf c) → sheetOf c ≡ tableOf c ∷ sheetBody (rowIn c) .show (bodyOf c)
+sheet-is : (c : Content) → sheetOf c ≡ tableOf c ∷ sheetBody (rowIn c) .show (bodyOf c)
 unfolding shownFor
-sheet-is c o = ap (λ l. tableOf c ∷ (l ++ sheetBody (rowIn c) .show (bodyOf c))) (frame-shown (frameOf c) o)
+sheet-is c = ap (λ l. tableOf c ∷ (l ++ sheetBody (rowIn c) .show (bodyOf c))) (frame-shown (frameOf c))
 
 -- a part behind one that is known
 behind : {s : List ℕ} (x l y : List ℕ) → s ≡ x ++ (l ++ y) → Part s (length x) l
@@ -70,18 +69,16 @@ behind x l y e = record { front = x; back = y; whole = e; place = refl }
 
 -- ---- a section
 
-syntax-bits : (x n : ℕ) → x ≤ 1 → n ≤ 4093 → (leadingOf x + n) / 256 % 256 ≡ x * 128 + 7 * 16 + n / 256
-syntax-bits zero n h g = omega arith
-syntax-bits (suc zero) n h g = omega arith
-syntax-bits (suc (suc x)) n h g = absurd (omega arith)
+-- the syntax bit x and the reserved bits before section_length n
+leading-is : (x n : ℕ) → x ≤ 1 → n ≤ 4093 → ((leadingOf x + n) / 256 % 256 ≡ x * 128 + 7 * 16 + n / 256)
+    × ((leadingOf x + n) % 256 ≡ n % 256) × (leadingOf x ≤ 0xF000)
+leading-is zero n h g = (omega arith, omega arith, omega arith)
+leading-is (suc zero) n h g = (omega arith, omega arith, omega arith)
+leading-is (suc (suc x)) n h g = absurd (omega arith)
 
-lead-mod : (b : Bool) (n : ℕ) → ((if b then 0xF000 else 0x7000) + n) % 256 ≡ n % 256
-lead-mod true n = omega arith
-lead-mod false n = omega arith
-
-lead-small : (b : Bool) → (if b then 0xF000 else 0x7000) ≤ 0xF000
-lead-small true = omega arith
-lead-small false = omega arith
+pub begun-is : (o : List ℕ) (id syntax n : ℕ) {o₁ o' : List ℕ} {x v : ℕ} → o₁ ≡ put o 0 (id ∷ []) → x ≡ leadingOf syntax → v ≡ sum x n
+    → o' ≡ putNumber o₁ 1 v → o' ≡ begun o id syntax n
+begun-is o id syntax n h₁ hx hv h = h ∙ ap₂ (λ o n. putNumber o 1 n) h₁ (hv ∙ ap (λ x. sum x n) hx)
 
 crc-bytes : (x : ℕ) → x ≤ 1 → crcSize x ≡ 4 * x
 crc-bytes zero h = refl
@@ -113,9 +110,9 @@ unfolding crc
 crc-small s = bytes-lt s (2 ^ 32 - 1) (lit< tt)
 
 -- the room, and what each step made of it; m are the bytes of the section, of which `end` stand before the CRC_32
-module _ (s o : List ℕ) (w : Bytes s) (lo : length o < 2 ^ 64) (n : ℕ) {number id m end : ℕ} {row : Row} {o₂ o₃ : List ℕ} {q : Place}
+module _ (s o : List ℕ) (w : Bytes s) (lo : length o < 2 ^ 64) (n number : ℕ) {id m end : ℕ} {row : Row} {o₂ o₃ : List ℕ} {q : Place}
     (hr : row ≡ rowAt number) (hm : m ≡ sum n 3) (he : end ≡ m - crcSize (row .crc)) (hid : id ≡ getD s 0 0)
-    (h₂ : o₂ ≡ begun o id (row .syntax) n) (h₃ : BodyForth number s (record { at = 1; to = 3 }) end o₂ q o₃) where
+    (h₂ : o₂ ≡ begun o id (row .syntax) n) (h₃ : BodyTurned true number s (record { at = 1; to = 3 }) end o₂ q o₃) where
   -- all but the CRC_32
   pub record Fronted (c : Content) : Type 0 where
     pub room : o₃ ≡ put o 0 (front c)
@@ -140,12 +137,14 @@ module _ (s o : List ℕ) (w : Bytes s) (lo : length o < 2 ^ 64) (n : ℕ) {numb
       ap (λ (x : Row). crcSize (x .crc)) row-is ∙ crc-bytes (rowAt (rowIn c) .crc) (facts .crc-bit) in
       let e-is : end ≡ 3 + L = omega arith in
       let body = sheetBody (rowIn c) .show (bodyOf c) in
-      let si : s ≡ tableOf c ∷ (body ++ []) = h .shows ∙ sheet-is c (k .frame-fits) ∙ ap (λ l. tableOf c ∷ l) (sym (append-nil body)) in
+      let si : s ≡ tableOf c ∷ (body ++ []) = h .shows ∙ sheet-is c ∙ ap (λ l. tableOf c ∷ l) (sym (append-nil body)) in
       let part : Part s 1 body = behind (tableOf c ∷ []) body [] si in
       let id-is : id ≡ tableOf c = hid ∙ ap (λ z. getD z 0 0) si in
       let lead : ℕ = leadingOf (row .syntax) in
       let v : ℕ = lead + n in
-      let small = lead-small (eqb (row .syntax) 1) in
+      let bit : row .syntax ≤ 1 = subst (λ (r : Row). r .syntax ≤ 1) (sym row-is) (facts .syntax) in
+      let leading = leading-is (row .syntax) n bit (omega arith) in
+      let small = leading .2 in
       let x : ℕ = v / 256 % 256 in
       let y : ℕ = v % 256 in
       let u : List ℕ = id ∷ x ∷ y ∷ [] in
@@ -155,15 +154,16 @@ module _ (s o : List ℕ) (w : Bytes s) (lo : length o < 2 ^ 64) (n : ℕ) {numb
       ∙ number-put (put o 0 (id ∷ [])) 1 v (omega arith) (omega arith)
       ∙ put-put o 0 (id ∷ []) (omega arith) (x ∷ y ∷ []) (omega arith) in
       let l₂ : length o₂ ≡ length o = ap length p₂ ∙ length-put o 0 u (omega arith) in
-      let t : BodyForth (rowIn c) s (record { at = 1; to = 3 }) end o₂ q o₃ =
-      subst (λ i. BodyForth i s (record { at = 1; to = 3 }) end o₂ q o₃) hnumber h₃ in
-      let d = t .turned (bodyOf c) (h .ok .1 .1) (k .body) part (sym e-is) (omega arith) (omega arith) in
+      let t = subst (λ i. BodyTurned true i s (record { at = 1; to = 3 }) end o₂ q o₃) hnumber h₃ in
+      let ok = h .ok .1 .1 in
+      let d = t .turned (bodyOf c) (ok .0, ((ok .1 .0, k .body .1 .0), (ok .1 .1, k .body .1 .1))) part (omega arith) (sym e-is)
+      (omega arith) in
       let ones = frame-ones (frameOf c) (h .ok .1 .0) in
       let x-is : x ≡ second c =
-      ap (λ (r : Row). (leadingOf (r .syntax) + n) / 256 % 256) row-is
-      ∙ syntax-bits (rowAt (rowIn c) .syntax) n (facts .syntax) (omega arith)
+      leading .0
+      ∙ ap (λ (r : Row). r .syntax * 128 + 7 * 16 + n / 256) row-is
       ∙ ap₂ (λ i j. rowAt (rowIn c) .syntax * 128 + i * 16 + j / 256) (sym ones) hn in
-      let y-is : y ≡ sectionLength c % 256 = lead-mod (eqb (row .syntax) 1) n ∙ ap (λ i. i % 256) hn in
+      let y-is : y ≡ sectionLength c % 256 = leading .1 ∙ ap (λ i. i % 256) hn in
       record {
         room =
             d .room ∙ ap (λ z. put z 3 b) p₂ ∙ put-put o 0 u (omega arith) b (omega arith)
@@ -210,9 +210,9 @@ written-never {s} w h = record { written = λ c r hn hr big. let k = held s c w 
 
 -- ---- a sheet
 
-module _ {s o : List ℕ} (w : Bytes s) {number : ℕ} {row : Row} {id end : ℕ} {o₁ o₂ : List ℕ} {q : Place}
+module _ {s o : List ℕ} (w : Bytes s) (number : ℕ) {row : Row} {id end : ℕ} {o₁ o₂ : List ℕ} {q : Place}
     (hr : row ≡ rowAt number) (he : end ≡ length s - crcSize (row .crc)) (hid : id ≡ getD s 0 0) (h₁ : o₁ ≡ put o 0 (id ∷ []))
-    (h₂ : BodyBack number s (record { at = 3; to = 1 }) end o₁ q o₂) where
+    (h₂ : BodyTurned false number s (record { at = 3; to = 1 }) end o₁ q o₂) where
   pub sheet-written : SheetWritten s number o (q .to) o₂
   unfolding sectionOf
   sheet-written = record {
@@ -238,12 +238,11 @@ module _ {s o : List ℕ} (w : Bytes s) {number : ℕ} {row : Row} {id end : ℕ
         let part : Part s 3 b = behind hd b (seal c) si in
         let body = sheetBody (rowIn c) .show (bodyOf c) in
         let fits = sheet-fits c k in
-        let sh = sheet-is c (k .frame-fits) in
+        let sh = sheet-is c in
         let lsh = ap length sh in
         let p₁ : length o₁ ≡ length o = ap length h₁ ∙ length-put o 0 (id ∷ []) (omega arith) in
-        let t : BodyBack (rowIn c) s (record { at = 3; to = 1 }) end o₁ q o₂ =
-        subst (λ i. BodyBack i s (record { at = 3; to = 1 }) end o₁ q o₂) hnumber h₂ in
-        let d = t .turned (bodyOf c) (k .body) part e-is (omega arith) (omega arith) (omega arith) in
+        let t = subst (λ i. BodyTurned false i s (record { at = 3; to = 1 }) end o₁ q o₂) hnumber h₂ in
+        let d = t .turned (bodyOf c) (k .body) part (omega arith) e-is (omega arith) in
         let id-is : id ≡ tableOf c = hid ∙ ap (λ z. getD z 0 0) si in
         let dw = d .written in (
           d .room
@@ -266,16 +265,31 @@ sheet-never {s} w h = record {
 
 -- ---- the answers
 
+pub to-section : (n : ℕ) (s : List ℕ) (c : Content) → 4096 ≤ n → readSheet s ≡ reading.value c
+    → turn.toSection n s ≡ turn.gives (sectionOf c)
+unfolding turn.toSection
+to-section n s c h e = rw (le-ltb n 4096 h, e) refl
+
+pub to-sheet : (n : ℕ) (s : List ℕ) (c : Content) → 5120 ≤ n → judged s ≡ verdict.accepted → contentOf s ≡ reading.value c
+    → turn.toSheet n s ≡ turn.gives (sheetOf c)
+unfolding turn.toSheet
+to-sheet n s c h e f = rw (le-ltb n 5120 h, e, f) refl
+
+-- a refusal is told, and the room is as it was
+pub told-refusal : {x : turn.Outcome} {k p : ℕ} (o : List ℕ) → x ≡ turn.refuses k p
+    → (turn.refusedWith k p ≡ turn.answer x) × (o ≡ turn.roomAfter o x)
+told-refusal o e = (ap turn.answer (sym e), ap (turn.roomAfter o) (sym e))
+
 pub section-no-room : (n : ℕ) (s : List ℕ) → n < 4096 → turn.toSection n s ≡ turn.refuses 21 0
 unfolding turn.toSection
 section-no-room n s h = rw (lt-ltb n 4096 h) refl
 
 -- written where it was accepted, and only there
-pub accepted-written : (x : Bool) (s : List ℕ) → x ≡ true → {row r : ℕ} {o o' : List ℕ} → row ≡ rowOf (getD s 0 0)
+pub accepted-written : (x : Bool) (s : List ℕ) → x ≡ true → {row id r : ℕ} {o o' : List ℕ} → id ≡ getD s 0 0 → row ≡ rowOf id
     → SheetWritten s row o r o' → AcceptedWritten x s o r o'
-accepted-written x s e {row} {r} {o} {o'} h w =
+accepted-written x s e {r = r} {o} {o'} i h w =
     record {
-      written = λ f. subst (λ k. SheetWritten s k o r o') h w;
+      written = λ f. subst (λ k. SheetWritten s k o r o') (h ∙ ap rowOf i) w;
       kept = λ f. absurd (true-not-false (sym e ∙ f));
     }
 
@@ -294,6 +308,11 @@ refused-through (reading.refused j) f k e = ap reading.refused (refused-is e)
 pub section-refused : (n : ℕ) (s : List ℕ) (k : ℕ) → 4096 ≤ n → judgedSheet s ≡ reading.refused k → turn.toSection n s ≡ turn.refuses k 0
 unfolding turn.toSection judgedFor
 section-refused n s k h e = let r = refused-through (readSheet s) sectionLength k e in rw (le-ltb n 4096 h, r) refl
+
+-- what the judge's answer j, which is r, comes to
+pub section-told : (s o : List ℕ) (k : ℕ) {j r : Judged} → 4096 ≤ length o → told j ≡ judgedSheet s → j ≡ r → told r ≡ reading.refused k
+    → (turn.refusedWith k 0 ≡ turn.answer (turn.toSection (length o) s)) × (o ≡ turn.roomAfter o (turn.toSection (length o) s))
+section-told s o k h e f g = told-refusal o (section-refused (length o) s k h (sym e ∙ ap told f ∙ g))
 
 -- what an accepted sheet gives
 pub record Made (n : ℕ) (s : List ℕ) (k : ℕ) : Type 0 where
@@ -314,7 +333,7 @@ section-made n s k w h e =
     let hk : k ≡ sectionLength c = sym (value-is (x .2)) in
     let m = y .holds .most in
     let mm = numbers-of (rowIn c) (y .holds .known) .most in
-    let si = y .shows ∙ sheet-is c (y .holds .frame-fits) in
+    let si = y .shows ∙ sheet-is c in
     record {
       content = c;
       reads = x .1;
@@ -328,18 +347,18 @@ pub sheet-no-room : (n : ℕ) (s : List ℕ) → n < 5120 → turn.toSheet n s �
 unfolding turn.toSheet
 sheet-no-room n s h = rw (lt-ltb n 5120 h) refl
 
+pub sheet-large : (n : ℕ) (s : List ℕ) → 5120 ≤ n → turn.toSheet n s ≡ turn.sheetIf (judged s) (turn.sheetFrom (contentOf s))
+unfolding turn.toSheet
+sheet-large n s h = rw (le-ltb n 5120 h)
+
+refusal-kept : (v : verdict.Said) (l o : List ℕ) → verdict.isAccepted v ≡ false
+    → (toldRefusal v ≡ turn.answer (turn.sheetIf v l)) × (o ≡ turn.roomAfter o (turn.sheetIf v l))
+refusal-kept verdict.accepted l o e = absurd (true-not-false e)
+refusal-kept (verdict.refused k p) l o e = (refl, refl)
+
 pub sheet-refused : (n : ℕ) (s o : List ℕ) → 5120 ≤ n → verdict.isAccepted (judged s) ≡ false
     → (toldRefusal (judged s) ≡ turn.answer (turn.toSheet n s)) × (o ≡ turn.roomAfter o (turn.toSheet n s))
-unfolding turn.toSheet
-sheet-refused n s o h e = go (judged s) refl
-  where
-    go : (v : verdict.Said) → judged s ≡ v
-        → (toldRefusal (judged s)
-        ≡ turn.answer (if ltb n 5120 then turn.refuses 21 0 else turn.sheetIf (judged s)
-        (turn.sheetFrom (contentOf s))))
-        × (o ≡ turn.roomAfter o (if ltb n 5120 then turn.refuses 21 0 else turn.sheetIf (judged s) (turn.sheetFrom (contentOf s))))
-    go verdict.accepted q = absurd (true-not-false (ap verdict.isAccepted (sym q) ∙ e))
-    go (verdict.refused k p) q = (rw (le-ltb n 5120 h, q) refl, rw (le-ltb n 5120 h, q) refl)
+sheet-refused n s o h e = rw (sheet-large n s h) (refusal-kept (judged s) (turn.sheetFrom (contentOf s)) o e)
 
 pub accepted-is : (v : verdict.Said) → verdict.isAccepted v ≡ true → v ≡ verdict.accepted
 accepted-is verdict.accepted e = refl

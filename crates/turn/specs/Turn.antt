@@ -7,7 +7,7 @@ use Rattle.wire.specs.If.{if_then_else_}
 use Rattle.wire.specs.Reading as reading
 use Rattle.verdict.specs.Verdict as verdict
 use Rattle.section.specs.Reading.{judged}
-pub use Rattle.forms.specs.Outcome.{Outcome, gives, refuses, Told, wrote, refused, answer, roomAfter}
+pub use Rattle.forms.specs.Outcome.{Outcome, gives, refuses, Told, wrote, refusedWith, answer, roomAfter}
 use Rattle.sheet.specs.Content.{Content}
 use Rattle.sheet.specs.Sheet.{sheetOf}
 use Rattle.sheet.specs.Section.{sectionOf, contentOf, readSheet}

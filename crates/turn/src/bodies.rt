@@ -2,7 +2,8 @@
 ghost use mathlib.Core.Path.{_≡_};
 ghost use Prim.Native.Nat.{_<_};
 ghost use lib.Dec.{eqb};
-ghost use Rattle.turn.specs.Inner.Bodies.{BodyForth, BodyBack};
+ghost use mathlib.Core.Bool.{true, false};
+ghost use Rattle.turn.specs.Inner.Bodies.{BodyTurned};
 use crate::entries::entries_back;
 use crate::entries::entries_forth;
 use crate::entries::top_loop;
@@ -22,7 +23,7 @@ pub fn is_one(n: usize) -> bool
 // From a sheet into a section, which ends at the place `end`.
 pub fn body_forth(number: usize, s: &[u8], p: Place, end: usize, room: &mut [u8]) -> Place
     requires { ⌜ number < 6 ⌝ }
-    ensures { λ r. ⌜ BodyForth number (now (s .entry)) p end (now (room .entry)) r (now (room .exit)) ⌝ }
+    ensures { λ r. ⌜ BodyTurned true number (now (s .entry)) p end (now (room .entry)) r (now (room .exit)) ⌝ }
 {
     let row = row_at(number);
     let top = is_one(row.top);
@@ -37,7 +38,7 @@ pub fn body_forth(number: usize, s: &[u8], p: Place, end: usize, room: &mut [u8]
 // From a section, which ends at the place `end`, into a sheet.
 pub fn body_back(number: usize, s: &[u8], p: Place, end: usize, room: &mut [u8]) -> Place
     requires { ⌜ number < 6 ⌝ }
-    ensures { λ r. ⌜ BodyBack number (now (s .entry)) p end (now (room .entry)) r (now (room .exit)) ⌝ }
+    ensures { λ r. ⌜ BodyTurned false number (now (s .entry)) p end (now (room .entry)) r (now (room .exit)) ⌝ }
 {
     let row = row_at(number);
     let top = is_one(row.top);

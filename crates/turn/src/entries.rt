@@ -1,11 +1,11 @@
 // The entries of a table, and its top loop.
 ghost use mathlib.Core.Path.{_≡_};
-ghost use mathlib.Core.Bool.{not};
+ghost use mathlib.Core.Bool.{true, false, not};
 ghost use Rattle.forms.specs.Lists.{times};
 ghost use Rattle.forms.specs.Inner.Turning.{Turned};
 ghost use Rattle.sheet.specs.Content.{sideOf};
 ghost use Rattle.turn.specs.Inner.Fields.{Shape};
-ghost use Rattle.turn.specs.Inner.Ways.{topIf, entryFrom, entryTo, behindOwn, ownSize, ownPut, EntriesForth, EntriesBack, EntrySizes};
+ghost use Rattle.turn.specs.Inner.Ways.{topIf, entryFrom, entryTo, behindOwn, ownSize, ownPut, withEntries, EntriesTurned, EntrySizes};
 use crate::counts::entries_in;
 use crate::descriptors::put_number;
 use crate::descriptors::turn_loop;
@@ -94,7 +94,7 @@ pub fn entries_forth(
     end: usize,
     room: &mut [u8],
 ) -> Place
-    ensures { λ r. ⌜ EntriesForth top row (now (s .entry)) p end (now (room .entry)) r (now (room .exit)) ⌝ }
+    ensures { λ r. ⌜ EntriesTurned true (withEntries top) row (now (s .entry)) p end (now (room .entry)) r (now (room .exit)) ⌝ }
 {
     let number = number16_at(s, p.at) as usize;
     let first = Place {
@@ -116,7 +116,7 @@ pub fn entries_back(
     room: &mut [u8],
 ) -> Place
     requires { ⌜ EntrySizes fixed row ⌝ }
-    ensures { λ r. ⌜ EntriesBack top row (now (s .entry)) p end (now (room .entry)) r (now (room .exit)) ⌝ }
+    ensures { λ r. ⌜ EntriesTurned false (withEntries top) row (now (s .entry)) p end (now (room .entry)) r (now (room .exit)) ⌝ }
 {
     let at = behind_own(top, p.at);
     let number = entries_in(part(s, at, own_size(top, s, p.at, end)), fixed, row);

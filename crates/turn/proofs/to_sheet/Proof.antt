@@ -4,17 +4,10 @@ use lib.ListN.{length}
 use Rattle.verdict.specs.Verdict.{isAccepted}
 use Rattle.turn.specs.Turn.{wrote, answer, roomAfter}
 use Rattle.turn.specs.Answers.{toldRefusal}
-use Rattle.turn.proofs.WholeLaws.{sheet-no-room, sheet-refused, sheet-made, accepted-is}
+use Rattle.turn.proofs.WholeLaws.{told-refusal, sheet-no-room, sheet-refused, sheet-made, accepted-is}
 use borrow.Author.Needs.{needs}
 use Rattle.turn.proofs.to_sheet.Statement.{statement}
 use Rattle.turn.proofs.to_sheet.Tie as tie
-
-returns : tie.Need-returns
-returns c =
-    let start = c .before .before .before in
-    let o = start .args .room .now in
-    let f = sheet-no-room (length o) (start .args .section .now) (c .if1 .taken) in
-    (ap answer (sym f), ap (roomAfter o) (sym f))
 
 returns-2 : tie.Need-returns-2
 returns-2 c =
@@ -37,5 +30,5 @@ returns-3 c =
 
 pub to-sheet-spec : {M : Type 1} → statement M
 to-sheet-spec =
-    tie.close (tie.spec returns (λ c κs. search needs) (λ c κs. search needs) (λ c κs. search needs)
-    (λ c. search needs) returns-2 (λ c. search needs) returns-3)
+    tie.close (tie.spec (λ c. search (told-refusal, sheet-no-room)) (λ c κs. search needs) (λ c κs. search needs)
+    (λ c κs. search needs) (λ c. search needs) returns-2 (λ c. search needs) returns-3)

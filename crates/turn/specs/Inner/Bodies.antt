@@ -1,39 +1,31 @@
 -- What the functions that turn whole tables promise each other.
-use Prim.Native.Nat.{ℕ, _+_, _/_, _%_, _≤_, _<_}
+use Prim.Native.Nat.{ℕ, _/_, _%_, _≤_}
 use mathlib.Core.Path.{_≡_}
 use mathlib.Core.List.{List, [], _∷_}
-use mathlib.Core.Bool.{Bool, true, false}
+use mathlib.Core.Bool.{Bool, true, false, not}
 use lib.ListN.{length, getD, take}
 use lib.Dec.{eqb}
 use Rattle.wire.specs.If.{if_then_else_}
-use Rattle.wire.specs.Parts.{Part}
 use Rattle.wire.specs.Reading.{value}
 use Rattle.tables.specs.Tables.{rowOf}
 use Rattle.verdict.specs.Verdict as verdict
 use Rattle.section.specs.Reading.{judged}
 use Rattle.crc.specs.Crc.{crc}
+use Rattle.forms.specs.Form.{Form, _then_}
 use Rattle.forms.specs.Room.{put, sum}
-use Rattle.forms.specs.Inner.Turning.{Done}
-use Rattle.sheet.specs.Content.{Body, Content, rowIn}
-use Rattle.sheet.specs.Sheet.{sheetBody, sheetOf}
-use Rattle.sheet.specs.Section.{sectionEntries, sectionBody, sectionLength, sectionOf, contentOf, readSheet}
-use Rattle.turn.specs.Inner.Ways.{putNumber}
+use Rattle.sheet.specs.Content.{Body, Content, rowIn, headOf, shapeOf}
+use Rattle.sheet.specs.Sheet.{sheetTop, sheetOf}
+use Rattle.sheet.specs.Section.{sectionTop, sectionLength, sectionOf, contentOf, readSheet}
+use Rattle.turn.specs.Inner.Ways.{from, itemsFrom, entriesFrom, TurnedTo, putNumber}
 use Rattle.forms.specs.declared.Place.{Place}
 
--- a section can hold it
-abbrev pub SectionOk : ℕ → Body → Type 0
-SectionOk row b = sectionBody row (length (sectionEntries row 0 .show (b .1 .1))) .Ok b
+-- the body that is read: head, top loop, entries
+abbrev pub bodyFrom : Bool → ℕ → Form Body
+bodyFrom b row = itemsFrom b (headOf row) then from b (sheetTop row) (sectionTop row) then entriesFrom b (shapeOf row) row
 
--- what a sheet has at p's first place, and what takes the room up to `end` from its second, is turned
-pub record BodyForth (row : ℕ) (s : List ℕ) (p : Place) (end : ℕ) (o : List ℕ) (q : Place) (o' : List ℕ) : Type 0 where
-  pub turned : (b : Body) → sheetBody row .Ok b → SectionOk row b → Part s (p .at) (sheetBody row .show b) → p .to + length (sectionBody row 0 .show b) ≡ end
-      → end ≤ 4096 → end ≤ length o → Done p (sheetBody row .show b) (sectionBody row 0 .show b) o q o'
-
--- what a section has at p's first place, up to `end`, is turned
-pub record BodyBack (row : ℕ) (s : List ℕ) (p : Place) (end : ℕ) (o : List ℕ) (q : Place) (o' : List ℕ) : Type 0 where
-  pub turned : (b : Body) → SectionOk row b → Part s (p .at) (sectionBody row 0 .show b)
-      → p .at + length (sectionBody row 0 .show b) ≡ end → end ≤ 4096 → 0 < p .at
-      → p .to + length (sheetBody row .show b) ≤ length o → Done p (sectionBody row 0 .show b) (sheetBody row .show b) o q o'
+-- it is turned, and ends in the section at the place `end`
+abbrev pub BodyTurned : Bool → ℕ → List ℕ → Place → ℕ → List ℕ → Place → List ℕ → Type 0
+BodyTurned b row = TurnedTo b (bodyFrom b row) (bodyFrom (not b) row)
 
 -- the bytes of a CRC_32, where the table has one
 abbrev pub crcSize : ℕ → ℕ

@@ -9,29 +9,29 @@ use Rattle.wire.specs.Bytes.{len12At}
 use Rattle.wire.specs.Parts.{Part}
 use Rattle.tables.specs.Tables.{TDT, rowAt}
 use Rattle.forms.specs.Form.{Form, mute, _then_, each}
-use Rattle.forms.specs.Fields.{Field, sheetFields, Fit}
-use Rattle.forms.specs.Lists.{all, All, countedShow, loopShow}
+use Rattle.forms.specs.Fields.{Field, sheetField}
+use Rattle.forms.specs.Lists.{all, All, countedShow}
 use Rattle.forms.specs.Room.{put, sum}
 use Rattle.forms.specs.Inner.Turning.{Done, Turned}
-use Rattle.sheet.specs.Content.{Item, packed, bare, entryOf, sideOf, Fields, Descriptor, Loop, Entry}
-use Rattle.sheet.specs.Sheet.{descriptor, sheetItem, sheetLoop, sheetEntry}
-use Rattle.sheet.specs.Section.{sectionItem, sectionLoop, sectionEntry}
+use Rattle.sheet.specs.Content.{Item, packed, bare, entryOf, TableShape, entriesOnly, both, sideOf, Fields, Descriptor, Loop, Entry, Entries}
+use Rattle.sheet.specs.Sheet.{descriptor, sheetItem, sheetLoop, entriesForBy}
+use Rattle.sheet.specs.Section.{sectionItem, sectionLoop, sectionEntriesBy}
 use Rattle.turn.specs.Inner.Fields.{Shape}
 use Rattle.forms.specs.declared.Place.{Place}
 
--- a form for values of which more is known
-abbrev pub with : {A : Type 0} → Form A → (A → Type 0) → Form A
-with c P = record { read = c .read; show = c .show; Ok = λ a. c .Ok a × P a }
+-- of a form in sheets and a form in sections the one that is read; of what a sheet has it is known that a section can hold it
+abbrev pub from : {A : Type 0} → Bool → Form A → Form A → Form A
+from true c d = record { read = c .read; show = c .show; Ok = λ a. c .Ok a × d .Ok a }
+from false c d = d
 
 -- the form that is read
 abbrev pub itemFrom : Bool → Item → Form (List ℕ)
 itemFrom true = sheetItem
 itemFrom false = sectionItem
 
--- of a sheet's loop it is known that a section can hold it
+-- a loop
 abbrev pub loopFrom : Bool → List Field → Form Loop
-loopFrom true fs = with (sheetLoop fs) (λ a. sectionLoop fs .Ok a)
-loopFrom false fs = sectionLoop fs
+loopFrom b fs = from b (sheetLoop fs) (sectionLoop fs)
 
 -- the items of a head or an entry
 abbrev pub itemsFrom : Bool → List Item → Form Fields
@@ -94,7 +94,7 @@ pub record LoopTurned (forth : Bool) (span : ℕ) (s : List ℕ) (p : Place) (o 
 
 -- the top loop that is read, where the table has one
 abbrev pub topIf : Bool → Bool → Form Loop
-topIf b top = if top then loopFrom b bare else mute ([], [])
+topIf b top = from b (if top then sheetLoop bare else mute ([], [])) (if top then sectionLoop bare else mute ([], []))
 
 -- the place behind the entries' own length, where they have one
 abbrev pub behindOwn : Bool → ℕ → ℕ
@@ -108,29 +108,28 @@ ownSize top s at end = if top then len12At s at else end - at
 abbrev pub ownPut : Bool → List ℕ → ℕ → ℕ → List ℕ
 ownPut top o to end = if top then putNumber o to (sum 0xF000 (end - sum to 2)) else o
 
--- entries in a section: after a length of their own, or up to the CRC_32
-abbrev pub entriesShown : Bool → ℕ → List ℕ → List Entry → List ℕ
-entriesShown true row vs es = loopShow (sectionEntry row) bare (vs, es)
-entriesShown false row vs es = all (sectionEntry row) es
+-- entries as a section has them, in as many bytes as they are
+abbrev pub owned : (ℕ → Form Entries) → Form Entries
+owned f = record { read = f 0 .read; show = f 0 .show; Ok = λ e. f (length (f 0 .show e)) .Ok e }
 
--- the fields beside that length
-abbrev pub BesideOk : Bool → List ℕ → Type 0
-BesideOk true vs = sheetFields bare .Ok vs
-BesideOk false vs = vs ≡ []
+-- the entries that are read, in a table of that shape
+abbrev pub entriesFrom : Bool → TableShape → ℕ → Form Entries
+entriesFrom b x row = from b (entriesForBy sheetField x row) (owned (sectionEntriesBy x row))
 
--- entries that a sheet has at p's first place, and that take the room up to `end` from its second, are turned
-pub record EntriesForth (top : Bool) (row : ℕ) (s : List ℕ) (p : Place) (end : ℕ) (o : List ℕ) (q : Place) (o' : List ℕ) : Type 0 where
-  pub turned : (vs : List ℕ) (es : List Entry) → BesideOk top vs → All (entryFrom true row) es → length es < 65536
-      → Part s (p .at) (countedShow (sheetEntry row) es) → p .to + length (entriesShown top row vs es) ≡ end → end ≤ 4096 → end ≤ length o
-      → Done p (countedShow (sheetEntry row) es) (entriesShown top row vs es) o q o'
+-- a table that has entries, by whether they have a length of their own
+abbrev pub withEntries : Bool → TableShape
+withEntries top = if top then both else entriesOnly
 
--- the fields beside that length, as a section has them
-abbrev pub BesideFit : Bool → List ℕ → Type 0
-BesideFit true vs = Fit bare vs
-BesideFit false vs = vs ≡ []
+-- of what is read and what is written that which is the section's
+abbrev pub inSection : {A : Type 0} → Bool → A → A → A
+inSection true read written = written
+inSection false read written = read
 
--- entries that a section has at p's first place, up to `end` where they have no length of their own, are turned
-pub record EntriesBack (top : Bool) (row : ℕ) (s : List ℕ) (p : Place) (end : ℕ) (o : List ℕ) (q : Place) (o' : List ℕ) : Type 0 where
-  pub turned : (vs : List ℕ) (es : List Entry) → BesideFit top vs → All (sectionEntry row) es → length (all (sectionEntry row) es) < 4096
-      → Part s (p .at) (entriesShown top row vs es) → p .at + length (entriesShown top row vs es) ≡ end
-      → p .to + length (countedShow (sheetEntry row) es) ≤ length o → Done p (entriesShown top row vs es) (countedShow (sheetEntry row) es) o q o'
+-- a value is turned whose bytes in the section end at the place `end`
+pub record TurnedTo {A : Type 0} (b : Bool) (c d : Form A) (s : List ℕ) (p : Place) (end : ℕ) (o : List ℕ) (q : Place) (o' : List ℕ) : Type 0 where
+  pub turned : (a : A) → c .Ok a → Part s (p .at) (c .show a) → p .to + length (d .show a) ≤ length o
+      → inSection b (p .at) (p .to) + length (inSection b (c .show a) (d .show a)) ≡ end → end ≤ 4096 → Done p (c .show a) (d .show a) o q o'
+
+-- the entries of a table of that shape
+abbrev pub EntriesTurned : Bool → TableShape → ℕ → List ℕ → Place → ℕ → List ℕ → Place → List ℕ → Type 0
+EntriesTurned b x row = TurnedTo b (entriesFrom b x row) (entriesFrom (not b) x row)

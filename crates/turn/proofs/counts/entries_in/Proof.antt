@@ -6,8 +6,7 @@ use lib.ListN.{length}
 use Rattle.wire.specs.Bytes.{len12At}
 use Rattle.sheet.specs.Section.{sectionEntry}
 use Rattle.contents.proofs.SectionLaws.{entry-full}
-use Rattle.turn.proofs.CountLaws.{Counting, count-begins, count-on, count-less, count-ends}
-use Rattle.turn.proofs.EntryLaws.{fixed-small, entry-size}
+use Rattle.turn.proofs.CountLaws.{Counting, count-begins, count-on, count-less, count-ends, fixed-small, entry-says}
 use borrow.Author.Needs.{needs}
 use Rattle.turn.proofs.counts.entries_in.Statement.{statement}
 use Rattle.turn.proofs.counts.entries_in.Tie as tie
@@ -17,11 +16,6 @@ Inv-loop bytes fixed row p₀ k₀ p k = Counting (sectionEntry row) (entry-full
 
 abbrev μ-loop : tie.MeasureT-loop
 μ-loop bytes fixed row p₀ k₀ p k = length bytes - p
-
-loop-holds : tie.Need-loop-holds Inv-loop μ-loop
-loop-holds c =
-    let row = c .before .args .row in
-    count-begins (sectionEntry row) (entry-full row) (c .before .args .bytes .now)
 
 sub-past : tie.Need-sub-past Inv-loop μ-loop
 sub-past c =
@@ -42,7 +36,7 @@ loop-less : tie.Need-loop-less Inv-loop μ-loop
 loop-less c =
     let test = c .before .before .before in let start = test .before .before .before in
     let a = start .args in
-    count-less (sectionEntry (a .row)) (entry-full (a .row)) (a .bytes .now) (c .past2 .ensures)
+    count-less (length (a .bytes .now)) (c .past2 .ensures)
     (omega (arith, fixed-small (a .fixed) (a .row) (start .pre))) (test .loop-test .taken) (start .good .0 .0)
 
 loop-again : tie.Need-loop-again Inv-loop μ-loop
@@ -53,18 +47,12 @@ loop-again c =
     let q = test .before .loop .p in
     count-on (sectionEntry (a .row)) (entry-full (a .row)) l (c .past2 .ensures)
     (omega (arith, fixed-small (a .fixed) (a .row) (start .pre)))
-    (λ e r o z.
+    (λ e o t.
     ap (λ x. a .fixed + x) (c .before .length12-at .ensures .same ∙ ap (len12At l) (c .before .before .past .ensures))
-    ∙ entry-size (a .fixed) (a .row) (start .pre) e r l q (start .good .0 .0) o z)
+    ∙ entry-says (a .fixed) (a .row) (start .pre) l q (start .good .0 .0) e o t)
     (test .loop-test .taken) (start .good .0 .0) (test .before .loop .inv)
-
-returns : tie.Need-returns Inv-loop μ-loop
-returns c =
-    let turn = c .before in let start = turn .before .before in
-    let row = start .args .row in
-    count-ends (sectionEntry row) (entry-full row) (start .args .bytes .now) (omega arith) (turn .loop .inv)
 
 pub entries-in-spec : {M : Type 1} → statement M
 entries-in-spec =
-    tie.close (tie.spec Inv-loop μ-loop loop-holds sub-past (λ c κs. search needs) (λ c κs. search needs) add-size
-    (λ c κs. search needs) add-k loop-less loop-again returns)
+    tie.close (tie.spec Inv-loop μ-loop (λ c. search count-begins) sub-past (λ c κs. search needs)
+    (λ c κs. search needs) add-size (λ c κs. search needs) add-k loop-less loop-again (λ c. search (count-ends, needs)))

@@ -6,11 +6,6 @@ use borrow.Author.Needs.{needs}
 use Rattle.turn.proofs.heads.head.Statement.{statement}
 use Rattle.turn.proofs.heads.head.Tie as tie
 
-common-requires : tie.Need-common-requires
-common-requires c κs =
-    let numbered = c .before .before in let start = numbered .before .before .before in
-    numbered-below (start .args .row) (numbered .is-numbered .ensures) (c .before .if1 .taken)
-
 returns-2 : tie.Need-returns-2
 returns-2 c =
     let last = c .before .before in let test = last .before .before in let numbered = test .before in
@@ -22,5 +17,5 @@ returns-2 c =
 
 pub head-spec : {M : Type 1} → statement M
 head-spec =
-    tie.close (tie.spec (λ c κs. search needs) common-requires (λ c. search needs) (λ c. search needs)
+    tie.close (tie.spec (λ c κs. search needs) (λ c κs. search numbered-below) (λ c. search needs) (λ c. search needs)
     (λ c κs. search needs) (λ c. search needs) returns-2)

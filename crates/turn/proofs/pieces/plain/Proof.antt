@@ -1,5 +1,4 @@
 -- `turn::pieces::plain` meets its contract.
-use mathlib.Core.Path.{refl}
 use native.Mathlib.Omega.{arith}
 use Rattle.copy.proofs.Copies.{copies-fits}
 use Rattle.turn.proofs.PieceLaws.{turned-raw, raw-not-there}
@@ -23,13 +22,7 @@ add-t9 c =
     let fits = copies-fits (a .s .now) (a .p .at) (a .n) (a .room .now) (a .p .to) (made .copy-few .ensures .0) (test .if1 .taken) in
     omega (arith, fits, start .good .1 .1 .1 .0 .0)
 
-returns : tie.Need-returns
-returns c =
-    let test = c .before .before in let made = test .before .before .before in
-    turned-raw (made .copy-few .ensures .1) refl refl
-
-returns-2 : tie.Need-returns-2
-returns-2 c = raw-not-there (c .before .before .before .copy-few .ensures .0) (c .if1 .left)
-
 pub plain-spec : {M : Type 1} → statement M
-plain-spec = tie.close (tie.spec (λ c κs. search needs) add-t8 add-t9 (λ c. search needs) returns (λ c. search needs) returns-2)
+plain-spec =
+    tie.close (tie.spec (λ c κs. search needs) add-t8 add-t9 (λ c. search needs) (λ c. search turned-raw)
+    (λ c. search needs) (λ c. search raw-not-there))

@@ -21,8 +21,9 @@ returns-2 c =
     let ended = begun .before .before .before in let found = ended .before .before in
     let known = found .before .before .before in let start = known .before in
     section-written (start .args .sheet .now) (start .args .room .now) (λ k. known .shared-slice-known .given k .fits)
-    (start .good .1 .1 .1 .0 .0) (start .args .n) (found .row-at .ensures) (ended .before .past .ensures) (ended .body-end .ensures)
-    (begun .before .byte-at .ensures) (begun .begin .ensures) (turned .body-forth .ensures) (sealed .seal .ensures)
+    (start .good .1 .1 .1 .0 .0) (start .args .n) (start .args .number) (found .row-at .ensures) (ended .before .past .ensures)
+    (ended .body-end .ensures) (begun .before .byte-at .ensures) (begun .begin .ensures) (turned .body-forth .ensures)
+    (sealed .seal .ensures)
 
 pub write-section-spec : {M : Type 1} → statement M
 write-section-spec =

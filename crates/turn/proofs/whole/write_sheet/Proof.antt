@@ -19,8 +19,8 @@ returns-2 c =
     let turned = c .before .before in let room = turned .before .before .before in let begun = room .before in
     let ended = begun .before .before .before in let found = ended .before in
     let known = found .before .before .before in
-    sheet-written (λ k. known .shared-slice-known .given k .fits) (found .row-at .ensures) (ended .body-end .ensures)
-    (begun .before .byte-at .ensures) (begun .put-byte .ensures) (turned .body-back .ensures)
+    sheet-written (λ k. known .shared-slice-known .given k .fits) _ (found .row-at .ensures)
+    (ended .body-end .ensures) (begun .before .byte-at .ensures) (begun .put-byte .ensures) (turned .body-back .ensures)
 
 pub write-sheet-spec : {M : Type 1} → statement M
 write-sheet-spec =
