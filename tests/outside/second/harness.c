@@ -1,6 +1,7 @@
 /*
  * The library against the second implementation:
  *     harness SEED COUNT [KIND [FIRST]]      COUNT cases of each kind, or of one, from case number FIRST on
+ *     harness --kinds                        the kinds, by name
  *     harness SEED COUNT --sections FILE     COUNT sections with the library's answers, for other parsers to judge
  *     harness SEED COUNT --fields FILE       COUNT sections with the library's readings of them
  *     harness SEED COUNT --streams FOLDER    COUNT streams of packets, each with its account by the second implementation
@@ -46,6 +47,11 @@ static void run_kind(const struct kind *k, unsigned which, uint64_t seed, uint64
 
 int main(int argc, char **argv)
 {
+    if (argc == 2 && strcmp(argv[1], "--kinds") == 0) {
+        for (unsigned i = 0; i < kind_count; i++)
+            puts(kinds[i].name);
+        return 0;
+    }
     if (argc < 3) {
         fprintf(stderr, "usage: %s SEED COUNT [KIND [FIRST] | --sections FILE | --fields FILE | --streams FOLDER]\n", argv[0]);
         return 2;
