@@ -14,4 +14,6 @@ for kind in bytes:1 bytes:6 sections:2 sections:3 sections:4 sections:5 sections
     [ $status -eq 1 ] || { echo "faults: the harness does not see fault ${kind#*:} of stand_in.c (status $status)"; exit 1; }
     faults=$((faults + 1))
 done
+written=$(grep -o 'fault([0-9]*)' tests/outside/second/stand_in.c | sort -u | wc -l)
+[ $faults -eq "$written" ] || { echo "faults: stand_in.c has $written faults, and $faults are tried here"; exit 1; }
 echo "faults: each of the $faults faults of stand_in.c is seen"
