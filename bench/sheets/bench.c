@@ -1,30 +1,11 @@
 /* Both turns of content sheets on EIT sections of so many entries, without descriptors and with as many as fit: how their time grows, beside copies of the
    section, by memcpy and byte by byte, the judge, which a turn to a sheet asks first, and the same sheet made in C with biTStream's accessors. */
-#include "../rounds.h"
-#include "lohitunga.h"
+#include "sections.h"
 #include <bitstream/mpeg/psi.h>
 #include <bitstream/dvb/si.h>
 #include <string.h>
 
-enum { ROUNDS = 41, SHEET = 5120, SECTION = 4096 };
-
-/* A section of so many entries; each has a descriptor of `body` bytes, or none where it is negative. It tells the section's size. */
-static size_t make(uint8_t *s, size_t entries, int body) {
-    size_t loop = body < 0 ? 0 : 2 + (size_t)body, size = 14 + entries * (12 + loop) + 4, at = 14;
-    memset(s, 0, size);
-    s[0] = 0x50;
-    s[1] = 0xF0 | (uint8_t)((size - 3) >> 8);
-    s[2] = (uint8_t)(size - 3);
-    s[5] = 0xC1;
-    for (size_t e = 0; e < entries; e++) {
-        at += 12 + loop;
-        s[at - loop - 2] = (uint8_t)(loop >> 8);
-        s[at - loop - 1] = (uint8_t)loop;
-        if (loop) s[at - loop] = 0x4D, s[at - loop + 1] = (uint8_t)body;
-    }
-    seal(s, size);
-    return size;
-}
+enum { ROUNDS = 41 };
 
 __attribute__((optimize("no-tree-loop-distribute-patterns", "no-tree-vectorize"), noinline)) static void copy_bytes(uint8_t *to, const uint8_t *from, size_t n) {
     for (size_t i = 0; i < n; i++) to[i] = from[i];

@@ -10,7 +10,7 @@
 
 #include "lohitunga.h"
 
-enum { ROOM = 65536, GAP = 1024 };
+enum { ROOM = 65536, GAP = 1024, BLOCK = 256 };
 
 static uint8_t stack[ROOM] __attribute__((aligned(64)));
 static ucontext_t here, there;
@@ -34,7 +34,11 @@ static size_t used_by(void (*thunk)(void), int paint) {
     chosen = thunk;
     makecontext(&there, below_a_gap, 0);
     swapcontext(&here, &there);
+    uint8_t painted[BLOCK];
+    memset(painted, paint, BLOCK);
     size_t deepest = 0;
+    while (memcmp(stack + deepest, painted, BLOCK) == 0)
+        deepest += BLOCK;
     while (stack[deepest] == (uint8_t)paint)
         deepest++;
     return pointer_at_call - (stack + deepest);

@@ -1,6 +1,7 @@
 #!/bin/sh
-# The account program on the shipped stream, on the worked packet, on nothing, on 187 bytes, on a stream with a cut last piece, and, by pieces.py,
-# on a stream of some megabytes as a file and through a pipe in pieces of odd sizes, and on reads that fail; by words.py its words, --why and --pid.
+# The account program on the shipped stream, on the worked packet, on nothing, on 187 bytes, on a stream with a cut last piece; by pieces.py on a stream
+# of some megabytes as a file and through a pipe in pieces of odd sizes, and on reads that fail; on streams from a fresh seed, whose accounts the second
+# implementation keeps.
 set -eu
 cd "$(dirname "$0")/../.."
 room=$(mktemp -d)
@@ -24,4 +25,5 @@ says 'no input' "$room/empty" "$room/none"
 says '187 bytes' "$room/187" "$room/none"
 says 'a cut last piece' "$room/cut" "$room/cut.txt"
 python3 tests/outside/pieces.py
-python3 tests/outside/words.py
+seed=$(od -An -N4 -tu4 /dev/urandom | tr -d ' ')
+tests/outside/second/streams "$seed" 120

@@ -7,7 +7,7 @@ cd "$(dirname "$0")/../.."
 archive cabinet
 compiler
 emulator
-need "${cc%gcc}g++" "$([ -z "$static" ] && echo g++ || echo g++-x86-64-linux-gnu)"
+need "${cc%gcc}g++" $cxx_from
 here=tests/outside/header
 out=target/header
 library=target/staticlib/libcabinet.a

@@ -60,9 +60,7 @@ int write_sections(uint64_t seed, uint64_t count, const char *name)
             tag = s.bytes[s.tags[below(&d, s.tag_count)]];
         lohitunga_judge_answer a = lohitunga_judge(s.bytes, s.size);
         lohitunga_search_answer b = lohitunga_search(s.bytes, s.size, tag);
-#ifdef LOHITUNGA_SHEET
         sheet_size = lohitunga_to_sheet(s.bytes, s.size, sheet, sizeof sheet).size;
-#endif
         put(s.size, 2);
         put(a.number, 1);
         put(a.place, 2);
@@ -329,7 +327,6 @@ static int say_accepted(const uint8_t *s, size_t size)
     return read;
 }
 
-#ifdef LOHITUNGA_SHEET
 
 /* A number of the sheet, from left to right. */
 static const uint8_t *sheet_at;
@@ -396,7 +393,6 @@ static void say_sheet(const uint8_t *sheet)
     }
 }
 
-#endif
 
 /*
  * For each section a line `section` with its bytes in hexadecimal, a line `number` with the judge's number and place, then
@@ -419,11 +415,9 @@ int write_fields(uint64_t seed, uint64_t count, const char *name)
         fprintf(file, "number %u %zu\n", a.number, a.place);
         if (a.number)
             continue;
-#ifdef LOHITUNGA_SHEET
         static uint8_t sheet[5120];
         if (lohitunga_to_sheet(s.bytes, s.size, sheet, sizeof sheet).number == 0)
             say_sheet(sheet);
-#endif
         say("read", say_accepted(s.bytes, s.size));
     }
     return closed(name);

@@ -1,6 +1,7 @@
 /*
  * The library against the second implementation:
  *     harness SEED COUNT [KIND [FIRST]]      COUNT cases of each kind, or of one, from case number FIRST on
+ *     harness --kinds                        the kinds, by name
  *     harness SEED COUNT --sections FILE     COUNT sections with the library's answers, for other parsers to judge
  *     harness SEED COUNT --fields FILE       COUNT sections with the library's readings of them
  *     harness SEED COUNT --streams FOLDER    COUNT streams of packets, each with its account by the second implementation
@@ -13,6 +14,21 @@
 #include <stdio.h>
 #include <stdlib.h>
 #include <string.h>
+
+/* Every kind, each of its own file kinds_NAME.c. Its place in the table goes into the dice of its cases: a new one comes last. */
+#define KINDS(KIND) \
+    KIND(bytes) \
+    KIND(sections) \
+    KIND(packets) \
+    KIND(descriptors) \
+    KIND(times) \
+    KIND(rolls) \
+    KIND(sheets)
+
+#define DECLARED(name) extern const struct kind kind_##name;
+#define LISTED(name) &kind_##name,
+KINDS(DECLARED)
+static const struct kind *const kinds[] = {KINDS(LISTED)};
 
 int write_sections(uint64_t seed, uint64_t count, const char *name);
 int write_fields(uint64_t seed, uint64_t count, const char *name);
@@ -46,6 +62,11 @@ static void run_kind(const struct kind *k, unsigned which, uint64_t seed, uint64
 
 int main(int argc, char **argv)
 {
+    if (argc == 2 && strcmp(argv[1], "--kinds") == 0) {
+        for (unsigned i = 0; i < COUNT(kinds); i++)
+            puts(kinds[i]->name);
+        return 0;
+    }
     if (argc < 3) {
         fprintf(stderr, "usage: %s SEED COUNT [KIND [FIRST] | --sections FILE | --fields FILE | --streams FOLDER]\n", argv[0]);
         return 2;
@@ -62,15 +83,14 @@ int main(int argc, char **argv)
 
     make_rooms();
     watch();
-    printf("second: seed %" PRIu64 ", %" PRIu64 " cases of each kind%s\n", seed, count,
-           has_sheets() ? "" : " (no sheets: the library has none yet)");
+    printf("second: seed %" PRIu64 ", %" PRIu64 " cases of each kind\n", seed, count);
     fflush(stdout);
     unsigned kinds_run = 0;
-    for (unsigned i = 0; i < kind_count; i++) {
-        if (only && strcmp(only, kinds[i].name) != 0)
+    for (unsigned i = 0; i < COUNT(kinds); i++) {
+        if (only && strcmp(only, kinds[i]->name) != 0)
             continue;
-        kinds[i].prepare();
-        run_kind(&kinds[i], i, seed, first, count);
+        kinds[i]->prepare();
+        run_kind(kinds[i], i, seed, first, count);
         kinds_run++;
     }
     if (kinds_run == 0) {

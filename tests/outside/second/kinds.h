@@ -21,14 +21,19 @@ struct kind {
     void (*one)(struct dice *d);        /* one case */
 };
 
-extern const struct kind kinds[];
-extern const unsigned kind_count;
+/* What the files of kinds have in common: the input is lent and taken back, and two rows of values are compared; their
+ * names are the text of the list. */
+const uint8_t *lend(const void *bytes, size_t size, enum placing p);
+void back(void);
 
-/* Of packets.c: a whole history of packets through a collector. */
-void prepare_packets(void);
-void one_history(struct dice *d);
+#define COUNT(array) (sizeof(array) / sizeof *(array))
+#define SAME(names, library, second) same(names, library, second, COUNT(library))
 
-/* Of kinds.c, for the files that other parsers read. */
-int has_sheets(void);
+/* Where the reading is refused, every other field of the library's answer is 0. */
+#define OR_0(number, value) ((number) ? 0 : (long long)(value))
+
+/* Of kinds_parts.c: a part of the kind `sections`. */
+void prepare_parts(void);
+void compare_parts(struct dice *d, const uint8_t *section, size_t size);
 
 #endif

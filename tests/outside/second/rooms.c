@@ -61,12 +61,11 @@ uint8_t *room_lend(struct room *room, const void *bytes, size_t size, enum placi
 
 const uint8_t *room_now(const struct room *room) { return room->ours + room->at; }
 
+/* The first byte is a canary, and each of the others is like the one before it. */
 static int stand(const struct room *room, size_t from, size_t to)
 {
-    for (size_t i = from; i < to; i++)
-        if (room->ours[i] != CANARY)
-            return 0;
-    return 1;
+    const uint8_t *at = room->ours + from;
+    return from == to || (*at == CANARY && memcmp(at, at + 1, to - from - 1) == 0);
 }
 
 int room_back(struct room *room)

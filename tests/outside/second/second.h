@@ -1,6 +1,8 @@
 /*
  * A second implementation of document 01, written from document 01, docs/DECISIONS.md and EN 300 468 alone, a byte at a
- * time. It is the judge in the comparison with the library, so it is plain before it is fast.
+ * time. It is the judge in the comparison with the library, so it is plain before it is fast. It stands in the files
+ * second_*.c. Sentences in quotation marks are document 01's there; where it leaves a choice, docs/DECISIONS.md has what
+ * was chosen. Field layouts are those of EN 300 468, the clause named at each.
  *
  * Every answer has a `number`: 0, or the number of the refusal. `place` is 0 but for 8 to 10.
  */

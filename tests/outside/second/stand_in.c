@@ -436,7 +436,6 @@ lohitunga_roll_answer lohitunga_roll_take(lohitunga_roll *roll, const uint8_t *s
     return a;
 }
 
-#ifdef LOHITUNGA_SHEET
 
 lohitunga_sheet_answer lohitunga_to_sheet(const uint8_t *section, size_t size, uint8_t *room, size_t room_size)
 {
@@ -461,5 +460,3 @@ lohitunga_section_answer lohitunga_to_section(const uint8_t *sheet, size_t size,
         room[1] &= 0x8F;
     return a;
 }
-
-#endif

@@ -222,9 +222,12 @@ void met_word(const char *call, const char *word, unsigned long times) { met(cal
 
 void met_number(const char *call, unsigned number)
 {
-    char text[16];
-    int n = snprintf(text, sizeof text, "%u", number);
-    met(call, text, (size_t)n, 1, 0);
+    char text[12];
+    size_t at = sizeof text;
+    do
+        text[--at] = (char)('0' + number % 10);
+    while (number /= 10);
+    met(call, text + at, sizeof text - at, 1, 0);
 }
 
 void must_meet(const char *call, const char *answers)

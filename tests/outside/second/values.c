@@ -367,12 +367,10 @@ static void ids(void)
         uint8_t eit[32] = {id, 0xF0, 0, 0, 1, 0xC1, 0, 0, 0, 2, 0x04, 0xB5, 0, id};
         size_t size = closed(eit, 14);
         judged("EN 300 468, 5.2.4: a table_id that is its own last_table_id", eit, size, 0, 0);
-#ifdef LOHITUNGA_SHEET
         uint8_t sheet[5120];
         is("EN 300 468, 5.2.4: last_table_id", lohitunga_to_sheet(eit, size, sheet, sizeof sheet).number, 0);
         is("EN 300 468, 5.2.4: last_table_id", sheet[12], id);
         is("NBR 15603-2: original_network_id 1205", sheet[9] * 256 + sheet[10], 1205);
-#endif
         /* The roll goes by it too: another original_network_id is another sub-table. */
         lohitunga_roll roll = lohitunga_roll_empty();
         is("an empty roll takes it", lohitunga_roll_take(&roll, eit, size).number, 0);

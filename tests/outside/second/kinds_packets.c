@@ -10,7 +10,7 @@ enum { HISTORY_MOST = 80, LEDGER_MOST = HISTORY_MOST * 184 };
 
 #define IN_WORDS(NAME, counter, words) words " "
 
-void prepare_packets(void)
+static void prepare_packets(void)
 {
     must_meet("collect", "taken repeated 41 42 43 44 45 46 47 48 49");
     must_meet("42 for", "hold out");
@@ -304,7 +304,7 @@ static void brim(struct dice *d, struct collector *c)
 
 /* A history */
 
-void one_history(struct dice *d)
+static void one_history(struct dice *d)
 {
     static struct collector c;
     static struct sender s;
@@ -355,3 +355,6 @@ void one_history(struct dice *d)
     delivered_in_order();
     fates_met();
 }
+
+/* A history has about eleven packets. */
+const struct kind kind_packets = {"packets", 8, prepare_packets, NULL, one_history};

@@ -1,0 +1,19 @@
+#!/bin/sh
+# Can the harness of tests/outside/second see? It must find nothing in the second implementation behind the library's interface, and each fault put in.
+set -eu
+cd "$(dirname "$0")/../.."
+tests/outside/second/build stand_in
+tried=target/second/stand_in.log
+target/second/stand_in 1 5000 >"$tried" || { cat "$tried"; exit 1; }
+faults=0
+for kind in bytes:1 bytes:6 sections:2 sections:3 sections:4 sections:5 sections:23 sections:24 sections:25 sections:26 \
+    packets:7 packets:8 packets:9 packets:10 packets:27 descriptors:11 descriptors:12 descriptors:13 times:14 times:15 \
+    rolls:16 rolls:17 rolls:18 sheets:19 sheets:20 sheets:21 sheets:22; do
+    status=0
+    FAULT=${kind#*:} target/second/stand_in 1 20000 "${kind%:*}" >"$tried" || status=$?
+    [ $status -eq 1 ] || { echo "faults: the harness does not see fault ${kind#*:} of stand_in.c (status $status)"; exit 1; }
+    faults=$((faults + 1))
+done
+written=$(grep -o 'fault([0-9]*)' tests/outside/second/stand_in.c | sort -u | wc -l)
+[ $faults -eq "$written" ] || { echo "faults: stand_in.c has $written faults, and $faults are tried here"; exit 1; }
+echo "faults: each of the $faults faults of stand_in.c is seen"
