@@ -127,6 +127,10 @@ module _ (a b c₀ d₀ e₀ m n o p q : ℕ) where
       ∙ ap (feedWords (o ∷ p ∷ q ∷ [])) (leaves-five b c (d₀ ⊕ third a) (e₀ ⊕ fourth a) (m ⊕ fifth a) n hb)
       ∙ ap (feedWords (n ∷ o ∷ p ∷ q ∷ [])) (leaves-five a b c₀ d₀ e₀ m ha)
 
+-- where n bytes are left from i on, they end within
+pub ends-within : {l i n : ℕ} → i ≤ l → n ≤ l - i → i + n ≤ l
+ends-within h g = omega arith
+
 module _ {s : List ℕ} where
   -- other words that give the same
   pub instead : {v w : List ℕ} {i : ℕ} → Ahead s v i → feedWords w 0 ≡ feedWords v 0 → Ahead s w i

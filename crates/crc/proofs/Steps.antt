@@ -4,7 +4,7 @@ use mathlib.Core.Path.{_≡_, refl, sym, ap, ap₂, _∙_}
 use Prim.Native.Nat.{ℕ, _*_, _/_, _%_, _^_, _<_}
 use native.Mathlib.Omega.{arith}
 use lib.Dec.{lit<}
-use lib.Bits.{bitXor, xor-lt, xor-zero-l, xor-zero-r}
+use lib.Bits.{bitXor, xor-zero-l, xor-zero-r}
 use Rattle.crc.specs.Crc.{feed, feedBits}
 use Rattle.moves.specs.Inner.Moves.{rights, lefts, timesPoly, quotientOf}
 use Rattle.moves.proofs.Xor.{_⊕_, xor-assoc, xor-twice}
@@ -31,9 +31,6 @@ absorb w r h =
 pub divided : (z : ℕ) → z < 2 ^ 32 → timesPoly (quotientOf z) ≡ feedBits 32 z 0
 unfolding timesPoly lefts quotientOf rights feedBits feed
 divided = agree 32 (times-of (quotient-of itself)) (fed-of itself 32) tt
-
-pub word-step : (r w : ℕ) → r < 2 ^ 32 → w < 2 ^ 32 → timesPoly (quotientOf (w ⊕ r)) ≡ feedBits 32 w r
-word-step r w hr hw = divided (w ⊕ r) (xor-lt 32 w r hw hr) ∙ sym (absorb w r hr)
 
 -- what eight bits at the register's top leave over
 over-byte : ℕ → ℕ

@@ -121,44 +121,30 @@ fn turn(s: &[u8], v: Five) -> Five
     }
 }
 
-// The window moves on by fives, as far as there are five words more.
-fn by_turns(s: &[u8], v: Five) -> Five
+// The window moves on to the end of s, by fives as far as there are five words more, and then word by word.
+fn to_end(s: &[u8], v: Five) -> Five
     requires { ⌜ Window (now s) (v .a) (v .b) (v .c) (v .d) (v .e) (v .at) ⌝ }
-    ensures { λ w. ⌜ Window (now (s .entry)) (w .a) (w .b) (w .c) (w .d) (w .e) (w .at) ⌝ }
+    ensures { λ w. ⌜ feedWords ((w .a) ∷ (w .b) ∷ (w .c) ∷ (w .d) ∷ (w .e) ∷ []) 0 ≡ crc (now (s .entry)) ⌝ }
 {
     let mut w = v;
     while 40 <= s.len() - w.at {
         w = turn(s, w);
     }
-    w
-}
-
-// The window moves on word by word, to the end of s.
-fn by_steps(s: &[u8], v: Five) -> Five
-    requires { ⌜ Window (now s) (v .a) (v .b) (v .c) (v .d) (v .e) (v .at) ⌝ }
-    ensures { λ w. ⌜ feedWords ((w .a) ∷ (w .b) ∷ (w .c) ∷ (w .d) ∷ (w .e) ∷ []) 0 ≡ crc (now (s .entry)) ⌝ }
-{
-    let mut w = v;
     while 8 <= s.len() - w.at {
         w = step(s, w);
     }
     w
 }
 
-// The last five words go into zero: three of them leave in the manner of the window of two.
-fn last_five(v: Five) -> u32
-    ensures { λ y. ⌜ y ≡ feedWords ((v .a) ∷ (v .b) ∷ (v .c) ∷ (v .d) ∷ (v .e) ∷ []) 0 ⌝ }
-{
-    let p = leave(v.a, v.b, v.c);
-    let q = leave(p.a, p.b, v.d);
-    let r = leave(q.a, q.b, v.e);
-    last_two(r.a, r.b)
-}
-
-// The CRC_32 of 33 bytes and more, by the window of five.
+// The CRC_32 of 33 bytes and more, by the window of five. The last five words go into zero: three of them leave in the
+// manner of the window of two.
 pub fn crc_by_five(s: &[u8]) -> u32
     requires { ⌜ 33 ≤ length (now s) ⌝ }
     ensures { λ r. ⌜ r ≡ crc (now (s .entry)) ⌝ }
 {
-    last_five(by_steps(s, by_turns(s, first_five(s))))
+    let v = to_end(s, first_five(s));
+    let p = leave(v.a, v.b, v.c);
+    let q = leave(p.a, p.b, v.d);
+    let r = leave(q.a, q.b, v.e);
+    last_two(r.a, r.b)
 }

@@ -37,7 +37,7 @@
 //     x^128 = 0xE8A45605 = (1 + x^14) t + (x^10 + x^21) u + x^9 + x^30 + x^31 where t = 1 + x^2, u = (1 + x^6) t
 // The sum of 64 bits is z x^32 + w with 32 bits each; w stays, and z x^32 is divided by P.
 //
-// ONE WORD (register.rt). P goes into z x^32 as often as the moves of z down by k say, for each y^k here (y is 1 / x):
+// ONE DIVISION (register.rt). P goes into z x^32 as often as the moves of z down by k say, for each y^k here (y is 1 / x):
 //     x^64 over P = x^32 (1 + y^6 + y^9 + y^10 + y^12 + y^16 + y^24 + y^25 + y^26 + y^28 + y^29 + y^30 + y^31) + 1
 //     x^64 over P = x^32 (1 + y^9 + y^26 + (y^6 + y^24 + y^25) u) to y^31 where t = 1 + y^4, u = (1 + y^6) t
 // and what is left over is the low half of the quotient q times P, since z x^32 itself has no low half:
@@ -60,7 +60,7 @@ pub fn crc32(s: &[u8]) -> u32
     ensures { λ r. ⌜ r ≡ crc (now (s .entry)) ⌝ }
 {
     if s.len() < 9 {
-        register::feed_by_words(0xffff_ffff, s)
+        register::feed_bytes(0xffff_ffff, s)
     } else if s.len() < 33 {
         two::crc_by_two(s)
     } else {

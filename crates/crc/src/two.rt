@@ -8,26 +8,8 @@ ghost use mathlib.Core.List.{[], _∷_};
 ghost use Prim.Native.Nat.{_^_, _≤_, _<_};
 ghost use lib.ListN.{length};
 ghost use Rattle.crc.specs.Crc.{crc};
-ghost use Rattle.moves.specs.Inner.Moves.{over, under, times64, times96, times128};
+ghost use Rattle.moves.specs.Inner.Moves.{times64, times96, times128};
 ghost use Rattle.crc.specs.Inner.Windows.{feedWords};
-
-// What the word a adds to the word after it.
-fn over(a: u64) -> u64
-    ensures { λ y. ⌜ y ≡ over a ⌝ }
-{
-    let t = a ^ (a >> 1);
-    let u = t ^ (t >> 8);
-    a ^ (a >> 16) ^ (a >> 23) ^ (a >> 41) ^ (u >> 47)
-}
-
-// What it adds to the next.
-fn under(a: u64) -> u64
-    ensures { λ y. ⌜ y ≡ under a ⌝ }
-{
-    let t = a ^ (a << 1);
-    let u = t ^ (t << 8);
-    (u << 8) ^ (a << 23) ^ (a << 41) ^ (a << 48)
-}
 
 // Two words.
 pub struct Pair {
@@ -35,13 +17,19 @@ pub struct Pair {
     pub b: u64,
 }
 
-// The word a leaves: what it adds to the two words behind it stands for it.
+// The word a leaves: what it adds to the two words behind it, `over` to the first and `under` to the second, stands for it.
 pub fn leave(a: u64, b: u64, c: u64) -> Pair
     ensures { λ p. ⌜ feedWords ((p .a) ∷ (p .b) ∷ []) 0 ≡ feedWords (a ∷ b ∷ c ∷ []) 0 ⌝ }
 {
+    let t = a ^ (a >> 1);
+    let u = t ^ (t >> 8);
+    let over = a ^ (a >> 16) ^ (a >> 23) ^ (a >> 41) ^ (u >> 47);
+    let t = a ^ (a << 1);
+    let u = t ^ (t << 8);
+    let under = (u << 8) ^ (a << 23) ^ (a << 41) ^ (a << 48);
     Pair {
-        a: b ^ over(a),
-        b: c ^ under(a),
+        a: b ^ over,
+        b: c ^ under,
     }
 }
 

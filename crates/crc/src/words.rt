@@ -16,7 +16,7 @@ fn number(a: u8, b: u8, c: u8, d: u8) -> u32
 }
 
 // The four bytes from i on as a number.
-pub fn word(s: &[u8], i: usize) -> u32
+fn word(s: &[u8], i: usize) -> u32
     requires { ⌜ i + 4 ≤ length (now s) ⌝ }
     ensures { λ y. ⌜ y ≡ wordAt (now (s .entry)) i ⌝ }
 {

@@ -4,8 +4,8 @@ use Rattle.crc.specs.Crc.{crc}
 use Rattle.crc.proofs.crc32.Statement.{statement}
 use Rattle.crc.proofs.crc32.Tie as tie
 
-feed-by-words-requires : tie.Need-feed-by-words-requires
-feed-by-words-requires c κs = tt
+feed-bytes-requires : tie.Need-feed-bytes-requires
+feed-bytes-requires c κs = tt
 
 crc-by-two-requires : tie.Need-crc-by-two-requires
 crc-by-two-requires c κs = omega arith
@@ -15,7 +15,7 @@ crc-by-five-requires c κs = omega arith
 
 returns : tie.Need-returns
 unfolding crc
-returns c = c .feed-by-words .ensures
+returns c = c .feed-bytes .ensures
 
 returns-2 : tie.Need-returns-2
 returns-2 c = c .crc-by-two .ensures
@@ -26,4 +26,4 @@ returns-3 c = c .crc-by-five .ensures
 pub crc32-spec : {M : Type 1} → statement M
 crc32-spec =
     tie.close
-    (tie.spec feed-by-words-requires crc-by-two-requires crc-by-five-requires returns returns-2 returns-3)
+    (tie.spec feed-bytes-requires crc-by-two-requires crc-by-five-requires returns returns-2 returns-3)

@@ -5,7 +5,7 @@ use Prim.Native.Nat.{_+_, _-_}
 use native.Mathlib.Omega.{arith}
 use lib.ListN.{length}
 use Rattle.crc.specs.Inner.Windows.{Ahead}
-use Rattle.crc.proofs.Ahead.{instead, comes, ends}
+use Rattle.crc.proofs.Ahead.{ends-within, instead, comes, ends}
 use Rattle.crc.proofs.two.crc_by_two.Statement.{statement}
 use Rattle.crc.proofs.two.crc_by_two.Tie as tie
 
@@ -25,7 +25,7 @@ sub-loop : tie.Need-sub-loop Inv-loop μ-loop
 sub-loop c = c .loop .inv .within
 
 long-requires : tie.Need-long-requires Inv-loop μ-loop
-long-requires c κs = omega arith
+long-requires c κs = let l = c .before .loop in ends-within (l .inv .within) (c .loop-test .taken)
 
 leave-requires : tie.Need-leave-requires Inv-loop μ-loop
 leave-requires c κs = tt
@@ -39,11 +39,13 @@ loop-less c = omega arith
 loop-again : tie.Need-loop-again Inv-loop μ-loop
 loop-again c =
     let m = c .before .long in
-    let at-loop = c .before .before .before in
+    let turn = c .before .before in
+    let at-loop = turn .before in
     let known = at-loop .before .before .shared-slice-known in
     instead
     (comes (λ j. known .given j .fits) (at-loop .loop .a ∷ at-loop .loop .b ∷ []) (at-loop .loop .at)
-    (at-loop .loop .at + 8) (m .result) (at-loop .loop .inv) refl (omega arith) (m .ensures))
+    (at-loop .loop .at + 8) (m .result) (at-loop .loop .inv) refl
+    (ends-within (at-loop .loop .inv .within) (turn .loop-test .taken)) (m .ensures))
     (c .leave .ensures)
 
 last-two-requires : tie.Need-last-two-requires Inv-loop μ-loop
@@ -52,7 +54,7 @@ last-two-requires c κs = tt
 returns : tie.Need-returns Inv-loop μ-loop
 returns c =
     let l = c .before .before .loop in
-    c .last-two .ensures ∙ ends (l .a ∷ l .b ∷ []) (l .at) (l .inv) (omega arith)
+    c .last-two .ensures ∙ ends (l .a ∷ l .b ∷ []) (l .at) (l .inv) (c .before .loop-test .left)
 
 pub crc-by-two-spec : {M : Type 1} → statement M
 crc-by-two-spec =
