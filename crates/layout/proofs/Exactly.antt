@@ -4,7 +4,7 @@ use mathlib.Core.List.{List, [], _∷_, _++_, append-assoc}
 use Prim.Native.Nat.{ℕ, _+_, _*_, _/_, _%_, _<_, _≤_}
 use native.Mathlib.Numerals.{add-one}
 use native.Mathlib.Omega.{arith}
-use borrow.Author.Tests.{eqb-true, eq-eqb, ne-eqb, ltb-true, lt-ltb, le-ltb}
+use borrow.Author.Tests.{eqb-true, eq-eqb, ltb-true, lt-ltb, le-ltb}
 use lib.Dec.{eqb, ltb}
 use lib.ListN.{length, getD, take, drop, length-append, length-drop, take-append-drop}
 use lib.Seq.{drop-cons, drop-drop, take-all, take-length, getD-at}
@@ -82,17 +82,6 @@ module _ (h : ℕ) (s : List ℕ) where
       if-case (λ x. x ≡ value t → Filled h s t) (eqb (length b) (h + 2 + a + n))
       (λ l e. subst (Filled h s) (value-is e) (filled a n refl refl (eqb-true (length b) (h + 2 + a + n) l)))
       (λ l e. absurd (never (sym e)))
-
--- the same by the test that the code makes: k bytes, a bytes of text and n bytes of text, each after its length
-module _ (b : List ℕ) (h k a n : ℕ) (head : k ≡ h) (one : a ≡ getD b k 0) (two : n ≡ getD b (k + 1 + a) 0) where
-  pub texts-fill : length b ≡ k + 2 + a + n
-      → twoTexts b h ≡ value (record { first = partAt (k + 1) a; second = partAt (k + 2 + a) n })
-  unfolding twoTexts
-  texts-fill fills = rw (← head, ← one, ← two, eq-eqb (length b) (k + 2 + a + n) fills)
-
-  pub texts-not : (length b ≡ k + 2 + a + n → ⊥) → twoTexts b h ≡ refused (plain 62)
-  unfolding twoTexts
-  texts-not no-fill = rw (← head, ← one, ← two, ne-eqb (length b) (k + 2 + a + n) no-fill)
 
 -- such a body is read, and the texts are those
 pub texts-if : (head x y : List ℕ)

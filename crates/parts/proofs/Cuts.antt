@@ -16,12 +16,12 @@ module _ {s : List ℕ} where
   first-section : {r : Part} (x y : List ℕ) → Whole x → Is s r (x ++ y) → nextSection s r ≡ oneSection (length x) r
   first-section {r} x y w h =
       let n : len12At x 1 ≡ len12At s (r .start + 1) = sym (length-of x (is-front x y h) 1 (omega (arith, w .header))) in
-      section-in s r (is-in s r (is-inside (x ++ y) h))
+      section-in s r (sym (is-in s r (is-inside (x ++ y) h))) refl
       ∙ section-whole s r (len12At x 1) n (omega (arith, h .sized, w .size, length-append x y))
       ∙ ap (λ k. oneSection k r) (sym (w .size))
 
   no-more : {r : Part} → Is s r [] → nextSection s r ≡ noSection r
-  no-more {r} h = section-in s r (is-in s r (is-inside [] h)) ∙ section-short s r (omega (arith, h .sized))
+  no-more {r} h = section-in s r (sym (is-in s r (is-inside [] h))) refl ∙ section-short s r (omega (arith, h .sized))
 
   -- whole sections, put end to end, are cut as they were
   pub sections-handed : (r : Part) (ls : List (List ℕ)) → AllWhole ls → Is s r (flatten ls) → HandsSections s r ls

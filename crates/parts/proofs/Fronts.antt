@@ -1,7 +1,7 @@
 -- What is handed out at the front of a part, by the tests that the code makes.
 use Prim.Native.Nat.{ℕ, zero, suc, _+_, _<_, _≤_}
-use mathlib.Core.Path.{_≡_}
-use mathlib.Core.Bool.{true, false}
+use mathlib.Core.Path.{_≡_, _∙_, sym}
+use mathlib.Core.Bool.{Bool, true, false}
 use mathlib.Core.List.{List}
 use native.Mathlib.Omega.{arith}
 use borrow.Author.Tests.{le-leb, lt-leb, leb-true, eq-eqb, ne-eqb}
@@ -36,9 +36,9 @@ module _ (s : List ℕ) (r : Part) where
   is-out h = lt-leb _ _ h
 
   -- what `is_within` tells
-  pub lies : within s r ≡ true → r .start + r .size ≤ length s
+  pub lies : {b : Bool} → b ≡ within s r → b ≡ true → r .start + r .size ≤ length s
   unfolding within
-  lies t = leb-true _ _ t
+  lies e t = leb-true _ _ (sym e ∙ t)
 
   -- entries
   module _ (fixed : ℕ) where
@@ -56,13 +56,13 @@ module _ (s : List ℕ) (r : Part) where
         let g : fixed + loopSize s fixed r ≤ r .size = omega arith in
         rw (ne-eqb fixed 0 e, le-leb (fixed + loopSize s fixed r) (r .size) g, same)
 
-  pub entry-in : within s r ≡ true → nextEntry s r ≡ entryAt s (rowFor s .fixed) r
+  pub entry-in : {b : Bool} → b ≡ within s r → b ≡ true → nextEntry s r ≡ entryAt s (rowFor s .fixed) r
   unfolding nextEntry
-  entry-in t = rw t
+  entry-in e t = rw (← e, t)
 
-  pub entry-out : within s r ≡ false → nextEntry s r ≡ noEntry r
+  pub entry-out : {b : Bool} → b ≡ within s r → b ≡ false → nextEntry s r ≡ noEntry r
   unfolding nextEntry
-  entry-out t = rw t
+  entry-out e t = rw (← e, t)
 
   -- descriptors
   pub descriptor-short : r .size < 2 + getD s (r .start + 1) 0 → descriptorAt s r ≡ noDescriptor r
@@ -76,13 +76,13 @@ module _ (s : List ℕ) (r : Part) where
       let g : 2 + getD s (r .start + 1) 0 ≤ r .size = omega arith in
       rw (le-leb (2 + getD s (r .start + 1) 0) (r .size) g, same)
 
-  pub descriptor-in : within s r ≡ true → nextDescriptor s r ≡ descriptorAt s r
+  pub descriptor-in : {b : Bool} → b ≡ within s r → b ≡ true → nextDescriptor s r ≡ descriptorAt s r
   unfolding nextDescriptor
-  descriptor-in t = rw t
+  descriptor-in e t = rw (← e, t)
 
-  pub descriptor-out : within s r ≡ false → nextDescriptor s r ≡ noDescriptor r
+  pub descriptor-out : {b : Bool} → b ≡ within s r → b ≡ false → nextDescriptor s r ≡ noDescriptor r
   unfolding nextDescriptor
-  descriptor-out t = rw t
+  descriptor-out e t = rw (← e, t)
 
   -- sections
   pub section-short : r .size < 3 + len12At s (r .start + 1) → sectionAt s r ≡ noSection r
@@ -95,10 +95,10 @@ module _ (s : List ℕ) (r : Part) where
       let g : 3 + len12At s (r .start + 1) ≤ r .size = omega arith in
       rw (le-leb (3 + len12At s (r .start + 1)) (r .size) g, same)
 
-  pub section-in : within s r ≡ true → nextSection s r ≡ sectionAt s r
+  pub section-in : {b : Bool} → b ≡ within s r → b ≡ true → nextSection s r ≡ sectionAt s r
   unfolding nextSection
-  section-in t = rw t
+  section-in e t = rw (← e, t)
 
-  pub section-out : within s r ≡ false → nextSection s r ≡ noSection r
+  pub section-out : {b : Bool} → b ≡ within s r → b ≡ false → nextSection s r ≡ noSection r
   unfolding nextSection
-  section-out t = rw t
+  section-out e t = rw (← e, t)

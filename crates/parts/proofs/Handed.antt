@@ -75,12 +75,12 @@ module _ {s : List ℕ} where
       let all : List ℕ = tag ∷ length body ∷ (body ++ l) in
       let t : getD s (r .start) 0 ≡ tag = ap (λ k. getD s k 0) (omega arith) ∙ byte-of all h 0 (omega arith) in
       let n : getD s (r .start + 1) 0 ≡ length body = byte-of all h 1 (omega arith) in
-      descriptor-in s r (is-in s r (is-inside all h))
+      descriptor-in s r (sym (is-in s r (is-inside all h))) refl
       ∙ descriptor-whole s r (length body) (sym n) (omega (arith, h .sized, length-append body l))
       ∙ ap (λ k. oneDescriptor k (length body) r) t
 
   no-more : {r : Part} → Is s r [] → nextDescriptor s r ≡ noDescriptor r
-  no-more {r} h = descriptor-in s r (is-in s r (is-inside [] h)) ∙ descriptor-short s r (omega (arith, h .sized))
+  no-more {r} h = descriptor-in s r (sym (is-in s r (is-inside [] h))) refl ∙ descriptor-short s r (omega (arith, h .sized))
 
   -- a loop of the grammar
   pub loop-handed : {p : ℕ} {l : List ℕ} {ds : List Placed} (r : Part) → Descriptors p l ds → r .start ≡ p → Is s r l
@@ -107,14 +107,14 @@ module _ {s : List ℕ} where
         let front = is-front head (body ++ l) h in
         let n : len12At s (r .start + (fixed - 2)) ≡ length body =
         length-of head front (fixed - 2) (omega (arith, g .size)) ∙ g .says in
-        entry-in s r (is-in s r (is-inside all h))
+        entry-in s r (sym (is-in s r (is-inside all h))) refl
         ∙ rw (← row)
         (entry-whole s r fixed (length body) (sym n) (λ z. omega arith)
         (omega (arith, h .sized, g .size, length-append head (body ++ l), length-append body l)))
 
     no-more-entries : {r : Part} → Is s r [] → nextEntry s r ≡ noEntry r
     no-more-entries {r} h =
-        entry-in s r (is-in s r (is-inside [] h))
+        entry-in s r (sym (is-in s r (is-inside [] h))) refl
         ∙ rw (← row) (entry-short s r fixed (λ z. omega arith) (omega (arith, h .sized)))
 
     -- entries of the grammar
@@ -151,7 +151,7 @@ module _ {s : List ℕ} where
   no-entries : rowFor s .fixed ≡ 0 → HandsEntries s noPart [] []
   no-entries f =
       handed.HandsEntries.none
-      (entry-in s noPart (is-in s noPart (is-inside [] nowhere)) ∙ entry-none s noPart (rowFor s .fixed) f) refl
+      (entry-in s noPart (sym (is-in s noPart (is-inside [] nowhere))) refl ∙ entry-none s noPart (rowFor s .fixed) f) refl
 
   -- what is left of a part is as long as its bytes
   fitted : {a n : ℕ} {l : List ℕ} → Is s (part a n) l → Is s (part a (length l)) l
@@ -209,7 +209,7 @@ module _ {s : List ℕ} where
             (loop-handed (part (p + 2) (length top)) d refl (is-front top (high' ∷ low' ∷ l) inner));
         entry-bytes = l;
         entries =
-            entries-from-same (entries-second row s (length l) f (length top) n left t)
+            entries-from-same (entries-second row s (body row s) refl (length l) f (length top) n left t)
             (entries-handed (row .fixed) (two f) (ap (λ (w : Row). w .fixed) (sym same))
             (part (p + 2 + length top + 2) (length l)) r (omega arith) own);
       }
@@ -220,7 +220,7 @@ module _ {s : List ℕ} where
         top = from-same (top-none row s t) no-descriptors;
         entry-bytes = m;
         entries =
-            entries-from-same (entries-first row s (length m) f left t)
+            entries-from-same (entries-first row s (body row s) refl (length m) f left t)
             (entries-handed (row .fixed) (two f) (ap (λ (w : Row). w .fixed) (sym same)) (part (row .before) (length m)) r refl all);
       }
 

@@ -1,7 +1,7 @@
 -- Which parts an opened section has, by the tests that the code makes.
 use Prim.Native.Nat.{ℕ, _+_, _-_, _<_, _≤_}
 use mathlib.Core.Path.{_≡_, _∙_, sym}
-use mathlib.Core.Bool.{true, false}
+use mathlib.Core.Bool.{Bool, true, false}
 use mathlib.Core.List.{List}
 use native.Mathlib.Omega.{arith}
 use native.Mathlib.Decide.{decLe}
@@ -10,7 +10,7 @@ use lib.ListN.{length, getD}
 use lib.Dec.{leb}
 use Rattle.wire.specs.Bytes.{len12At}
 use Rattle.wire.specs.Number.{numberAt}
-use Rattle.verdict.specs.Verdict.{isAccepted}
+use Rattle.verdict.specs.Verdict.{Said, isAccepted}
 use Rattle.tables.specs.Tables.{NIT, BAT, EIT, isNumbered, rowOf}
 use Rattle.section.specs.Reading.{body, judged}
 use Rattle.parts.specs.Parts.{part, noPart, within, bytesOf}
@@ -28,14 +28,14 @@ is-left s r h = go (decLe (r .start + r .size) (length s))
     go (yes g) = le-leb (r .size) (length s - r .start) (omega arith) ∙ sym (is-in s r g)
     go (no g) = lt-leb (r .size) (length s - r .start) (omega arith) ∙ sym (is-out s r (omega arith))
 
-module _ (row : ℕ) where
-  pub utc-none : isNumbered row ≡ true → utcOf row ≡ noPart
+module _ (row : ℕ) {b : Bool} (e : b ≡ isNumbered row) where
+  pub utc-none : b ≡ true → utcOf row ≡ noPart
   unfolding utcOf
-  utc-none t = rw t
+  utc-none t = rw (← e, t)
 
-  pub utc-there : isNumbered row ≡ false → utcOf row ≡ part 3 5
+  pub utc-there : b ≡ false → utcOf row ≡ part 3 5
   unfolding utcOf
-  utc-there t = rw t
+  utc-there t = rw (← e, t)
 
 module _ (row : Row) (s : List ℕ) where
   pub top-there : (n : ℕ) → n ≡ len12At s (row .before) → row .top ≡ 1 → topOf row s ≡ part (row .before + 2) n
@@ -50,23 +50,24 @@ module _ (row : Row) (s : List ℕ) where
   unfolding entriesOf
   entries-none f = rw (eq-eqb (row .fixed) 0 f)
 
-  -- m is what is left of what stands before the CRC_32
-  module _ (m : ℕ) (f : row .fixed ≡ 0 → ⊥) where
-    pub entries-second : (n : ℕ) → n ≡ len12At s (row .before) → m ≡ length (body row s) - (row .before + 2 + n + 2) → row .top ≡ 1
+  -- l is what stands before the CRC_32, and m what is left of it
+  module _ (l : List ℕ) (whole : l ≡ body row s) (m : ℕ) (f : row .fixed ≡ 0 → ⊥) where
+    pub entries-second : (n : ℕ) → n ≡ len12At s (row .before) → m ≡ length l - (row .before + 2 + n + 2) → row .top ≡ 1
         → entriesOf row s ≡ part (row .before + 2 + n + 2) m
     unfolding entriesOf
-    entries-second n same left t = rw (ne-eqb (row .fixed) 0 f, eq-eqb (row .top) 1 t, left, same)
+    entries-second n same left t = rw (ne-eqb (row .fixed) 0 f, eq-eqb (row .top) 1 t, left, same, whole)
 
-    pub entries-first : m ≡ length (body row s) - row .before → (row .top ≡ 1 → ⊥) → entriesOf row s ≡ part (row .before) m
+    pub entries-first : m ≡ length l - row .before → (row .top ≡ 1 → ⊥) → entriesOf row s ≡ part (row .before) m
     unfolding entriesOf
-    entries-first left t = rw (ne-eqb (row .fixed) 0 f, ne-eqb (row .top) 1 t, left)
+    entries-first left t = rw (ne-eqb (row .fixed) 0 f, ne-eqb (row .top) 1 t, left, whole)
 
-module _ (s : List ℕ) (p : Part) where
-  pub part-there : isAccepted (judged s) ≡ true → ifAccepted s p ≡ p
-  part-there t = rw t
+-- the verdict v is that of the judge, and the test b says whether it is an acceptance
+module _ (s : List ℕ) (p : Part) (v : Said) {b : Bool} (same : v ≡ judged s) (test : b ≡ isAccepted v) where
+  pub part-there : b ≡ true → ifAccepted s p ≡ p
+  part-there t = rw (← same, ← test, t)
 
-  pub part-none : isAccepted (judged s) ≡ false → ifAccepted s p ≡ noPart
-  part-none t = rw t
+  pub part-none : b ≡ false → ifAccepted s p ≡ noPart
+  part-none t = rw (← same, ← test, t)
 
 module _ (s : List ℕ) (f : Part) where
   pub network-nit : rowOf (getD s 0 0) ≡ NIT → networkIn s f ≡ numberAt 2 (bytesOf s f) 2
@@ -94,10 +95,10 @@ module _ (s : List ℕ) (f : Part) where
     unfolding eventAt
     event-other h e = rw (le-ltb (f .size) 12 h, ne-eqb (rowOf (getD s 0 0)) EIT e)
 
-    pub event-in : within s f ≡ true → eventPart s f k n ≡ eventAt s f k n
+    pub event-in : {b : Bool} → b ≡ within s f → b ≡ true → eventPart s f k n ≡ eventAt s f k n
     unfolding eventPart
-    event-in t = rw t
+    event-in e t = rw (← e, t)
 
-    pub event-out : within s f ≡ false → eventPart s f k n ≡ noPart
+    pub event-out : {b : Bool} → b ≡ within s f → b ≡ false → eventPart s f k n ≡ noPart
     unfolding eventPart
-    event-out t = rw t
+    event-out e t = rw (← e, t)

@@ -2,7 +2,7 @@
 use Prim.Native.Nat.{ℕ, _+_, _-_, _<_, _≤_}
 use mathlib.Core.Path.{_≡_, refl, ap, _∙_, sym}
 use mathlib.Core.List.{List, []}
-use mathlib.Core.Bool.{true, false}
+use mathlib.Core.Bool.{Bool, true, false}
 use native.Mathlib.Omega.{arith}
 use borrow.Author.Tests.{lt-ltb, le-ltb, ltb-false, le-leb, lt-leb, eq-eqb, ne-eqb}
 use lib.ListN.{length, getD, take, drop, length-drop}
@@ -27,13 +27,16 @@ pub then-stop : (v : Said) (x : LoopsRead) → isAccepted v ≡ false → (v and
 unfolding _andThen_
 then-stop v x q = rw q
 
--- what is told first is told of all, or what is told behind it is
-module _ (x : Said) (y : LoopsRead) (v : Said) where
-  pub stopped : isAccepted x ≡ false → v ≡ x → v ≡ (x andThen y) .ends
-  stopped q e = e ∙ sym (ap answer (then-stop x y q))
+-- the code's answer v, where it stands for what is read first and a test b says whether it is an acceptance
+module _ (v x : Said) (b : Bool) (y : LoopsRead) (same : v ≡ x) (test : b ≡ isAccepted v) where
+  pub stopped : b ≡ false → v ≡ (x andThen y) .ends
+  stopped q = same ∙ sym (ap answer (then-stop x y (ap isAccepted (sym same) ∙ sym test ∙ q)))
 
-  pub went-on : isAccepted x ≡ true → v ≡ y .ends → v ≡ (x andThen y) .ends
-  went-on q e = e ∙ sym (ap answer (then-on x y q))
+  pub held : b ≡ true → isAccepted x ≡ true
+  held q = ap isAccepted (sym same) ∙ sym test ∙ q
+
+  pub went-on : (w : Said) → b ≡ true → w ≡ y .ends → w ≡ (x andThen y) .ends
+  went-on w q e = e ∙ sym (ap answer (then-on x y (held q)))
 
 -- a loop with nothing behind it says what its descriptors say
 pub loop-alone : (d : Trail Placed Said) → loopThen d (ended accepted) .ends ≡ d .ends

@@ -1,7 +1,6 @@
 -- Two texts fit exactly if their lengths fill the body.
-use mathlib.Core.Path.{sym}
-use native.Mathlib.Omega.{arith}
-use Rattle.layout.proofs.Exactly.{texts-fill, texts-not}
+use borrow.Author.Tests.{eq-eqb, ne-eqb}
+use Rattle.layout.specs.Texts.{twoTexts}
 use borrow.Author.Needs.{needs}
 use Rattle.layout.proofs.texts.two_texts.Statement.{statement}
 use Rattle.layout.proofs.texts.two_texts.Tie as tie
@@ -52,15 +51,36 @@ add-t17 : tie.Need-add-t17
 add-t17 c = search needs
 
 returns : tie.Need-returns
-returns c = sym (texts-fill _ _ _ _ _ (omega arith) (cc) (cc) (omega arith))
+unfolding twoTexts
+returns c =
+    let second = c .before .before in
+    let wide2 = second .before .wide2 in
+    let first = second .before .before in
+    let wide = first .before .wide in
+    rw (
+      ← wide .ensures .same,
+      ← first .byte-at .ensures,
+      ← wide2 .ensures .same,
+      ← second .byte-at2 .ensures,
+      ← c .before .wide3 .ensures .same,
+      eq-eqb _ _ (c .if1 .taken),
+    )
 
 returns-2 : tie.Need-returns-2
+unfolding twoTexts
 returns-2 c =
     let second = c .before .before in
-    let a = second .before .wide2 .result in
-    let n = c .before .wide3 .result in
-    let h = second .before .before .before .wide .result in
-    sym (texts-not _ _ h a n (omega arith) (cc) (cc) (omega arith))
+    let wide2 = second .before .wide2 in
+    let first = second .before .before in
+    let wide = first .before .wide in
+    rw (
+      ← wide .ensures .same,
+      ← first .byte-at .ensures,
+      ← wide2 .ensures .same,
+      ← second .byte-at2 .ensures,
+      ← c .before .wide3 .ensures .same,
+      ne-eqb _ _ (c .if1 .left),
+    )
 
 pub two-texts-spec : {M : Type 1} → statement M
 two-texts-spec =

@@ -10,7 +10,7 @@ no-descriptor-requires : tie.Need-no-descriptor-requires
 no-descriptor-requires c κs = search needs
 
 returns : tie.Need-returns
-returns c = c .no-descriptor .ensures ∙ sym (descriptor-short _ _ (omega arith))
+returns c = c .no-descriptor .ensures ∙ sym (descriptor-short _ (c .before .before .before .args .rest) (omega arith))
 
 add-wide : tie.Need-add-wide
 add-wide c = search needs
@@ -25,7 +25,11 @@ no-descriptor-requires-2 : tie.Need-no-descriptor-requires-2
 no-descriptor-requires-2 c κs = search needs
 
 returns-2 : tie.Need-returns-2
-returns-2 c = c .no-descriptor2 .ensures ∙ sym (descriptor-short _ _ (omega arith))
+returns-2 c =
+    let size = c .before .before in
+    let long = size .before .before in
+    let args = long .before .before .args in
+    c .no-descriptor2 .ensures ∙ sym (descriptor-short _ (args .rest) (omega (arith, size .wide .ensures .same)))
 
 shared-slice-read-t9 : tie.Need-shared-slice-read-t9
 shared-slice-read-t9 c = search needs
@@ -49,7 +53,11 @@ sub-t17 : tie.Need-sub-t17
 sub-t17 c = search needs
 
 returns-3 : tie.Need-returns-3
-returns-3 c = sym (descriptor-whole _ _ _ (omega arith) (omega arith))
+returns-3 c =
+    let size = c .before .before in
+    let long = size .before .before in
+    let args = long .before .before .args in
+    sym (descriptor-whole _ (args .rest) (size .wide .result) (size .wide .ensures .same) (omega arith))
 
 pub descriptor-at-spec : {M : Type 1} → statement M
 descriptor-at-spec =

@@ -9,16 +9,16 @@ is-within-requires : tie.Need-is-within-requires
 is-within-requires c κs = search needs
 
 descriptor-at-requires : tie.Need-descriptor-at-requires
-descriptor-at-requires c κs = lies _ _ (sym (c .before .is-within .ensures) ∙ c .if1 .taken)
+descriptor-at-requires c κs = lies _ _ (c .before .is-within .ensures) (c .if1 .taken)
 
 returns : tie.Need-returns
-returns c = c .descriptor-at .ensures ∙ sym (descriptor-in _ _ (cc))
+returns c = c .descriptor-at .ensures ∙ sym (descriptor-in _ _ (c .before .before .is-within .ensures) (c .before .if1 .taken))
 
 no-descriptor-requires : tie.Need-no-descriptor-requires
 no-descriptor-requires c κs = search needs
 
 returns-2 : tie.Need-returns-2
-returns-2 c = c .no-descriptor .ensures ∙ sym (descriptor-out _ _ (cc))
+returns-2 c = c .no-descriptor .ensures ∙ sym (descriptor-out _ _ (c .before .before .is-within .ensures) (c .before .if1 .left))
 
 pub next-descriptor-spec : {M : Type 1} → statement M
 next-descriptor-spec =

@@ -17,7 +17,9 @@ read-requires : tie.Need-read-requires
 read-requires c κs = search needs
 
 returns : tie.Need-returns
-returns c = c .read .ensures ∙ (cc)
+returns c =
+    let first = c .before .before .before in
+    c .read .ensures ∙ rw (first .byte-at .ensures, c .before .before .byte-at2 .ensures, c .before .byte-at3 .ensures)
 
 pub duration-from-spec : {M : Type 1} → statement M
 duration-from-spec =

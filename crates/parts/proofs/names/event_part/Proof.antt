@@ -1,6 +1,5 @@
 -- `parts::names::event_part` meets its contract.
 use mathlib.Core.Path.{sym, _∙_}
-use native.Mathlib.Omega.{arith}
 use Rattle.parts.proofs.Fronts.{lies}
 use Rattle.parts.proofs.Openings.{event-in, event-out}
 use borrow.Author.Needs.{needs}
@@ -11,16 +10,16 @@ is-within-requires : tie.Need-is-within-requires
 is-within-requires c κs = search needs
 
 event-at-requires : tie.Need-event-at-requires
-event-at-requires c κs = (omega arith, lies _ _ (sym (c .before .is-within .ensures) ∙ c .if1 .taken))
+event-at-requires c κs = (c .before .before .before .pre, lies _ _ (c .before .is-within .ensures) (c .if1 .taken))
 
 returns : tie.Need-returns
-returns c = c .event-at .ensures ∙ sym (event-in _ _ _ _ (cc))
+returns c = c .event-at .ensures ∙ sym (event-in _ _ _ _ (c .before .before .is-within .ensures) (c .before .if1 .taken))
 
 no-part-requires : tie.Need-no-part-requires
 no-part-requires c κs = search needs
 
 returns-2 : tie.Need-returns-2
-returns-2 c = c .no-part .ensures ∙ sym (event-out _ _ _ _ (cc))
+returns-2 c = c .no-part .ensures ∙ sym (event-out _ _ _ _ (c .before .before .is-within .ensures) (c .before .if1 .left))
 
 pub event-part-spec : {M : Type 1} → statement M
 event-part-spec =

@@ -20,7 +20,10 @@ read-requires : tie.Need-read-requires
 read-requires c κs = search needs
 
 returns : tie.Need-returns
-returns c = c .read .ensures ∙ (cc)
+returns c =
+    let first = c .before .before .before in
+    let day = first .before .number16-at .ensures in
+    c .read .ensures ∙ rw (day, first .byte-at .ensures, c .before .before .byte-at2 .ensures, c .before .byte-at3 .ensures)
 
 pub time-from-spec : {M : Type 1} → statement M
 time-from-spec =

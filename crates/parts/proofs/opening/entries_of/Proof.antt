@@ -1,6 +1,5 @@
 -- `parts::opening::entries_of` meets its contract.
 use mathlib.Core.Path.{sym, _∙_}
-use native.Mathlib.Omega.{arith}
 use Rattle.parts.proofs.Openings.{entries-none, entries-second, entries-first}
 use borrow.Author.Needs.{needs}
 use Rattle.parts.proofs.opening.entries_of.Statement.{statement}
@@ -13,7 +12,10 @@ no-part-requires : tie.Need-no-part-requires
 no-part-requires c κs = search needs
 
 returns : tie.Need-returns
-returns c = c .no-part .ensures ∙ sym (entries-none _ _ (omega arith))
+returns c =
+    let none = c .before in
+    let known = none .before .before in
+    c .no-part .ensures ∙ sym (entries-none (known .before .before .args .row) _ (none .if1 .taken))
 
 add-start : tie.Need-add-start
 add-start c = search needs
@@ -31,13 +33,27 @@ less-requires : tie.Need-less-requires
 less-requires c κs = search needs
 
 returns-2 : tie.Need-returns-2
-returns-2 c = sym (entries-second _ _ _ (omega arith) _ (omega arith) (cc) (omega arith))
+returns-2 c =
+    let start = c .before in
+    let second = start .before in
+    let fixed = second .before .before in
+    let known = fixed .before .before in
+    let n = start .length12-at in
+    sym
+    (entries-second (known .before .before .args .row) _ _ (known .before-crc .ensures) (c .less .result) (fixed .if1 .left) (n .result)
+    (n .ensures .same) (c .less .ensures) (second .if2 .taken))
 
 less-requires-2 : tie.Need-less-requires-2
 less-requires-2 c κs = search needs
 
 returns-3 : tie.Need-returns-3
-returns-3 c = sym (entries-first _ _ _ (omega arith) (cc) (omega arith))
+returns-3 c =
+    let plain = c .before in
+    let fixed = plain .before .before in
+    let known = fixed .before .before in
+    sym
+    (entries-first (known .before .before .args .row) _ _ (known .before-crc .ensures) (c .less2 .result) (fixed .if1 .left)
+    (c .less2 .ensures) (plain .if2 .left))
 
 pub entries-of-spec : {M : Type 1} → statement M
 entries-of-spec =

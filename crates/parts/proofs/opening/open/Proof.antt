@@ -1,38 +1,14 @@
 -- `parts::opening::open` meets its contract: the parts of a section that is accepted, and none of one that is refused.
 use mathlib.Core.Path.{_≡_, ap, sym, _∙_}
-use mathlib.Core.List.{List}
-use Prim.Native.Nat.{ℕ}
-use lib.ListN.{getD}
 use Rattle.tables.specs.Tables.{rowAt, rowOf}
 use Rattle.tables.specs.declared.Row.{Row}
 use Rattle.section.specs.Reading.{rowFor}
-use Rattle.parts.specs.Opening.{utcOf, topOf, entriesOf, ifAccepted}
-use Rattle.parts.specs.declared.Part.{Part}
+use Rattle.parts.specs.Opening.{utcOf, topOf, entriesOf}
 use Rattle.parts.proofs.Fronts.{before-small}
 use Rattle.parts.proofs.Openings.{part-there, part-none}
 use borrow.Author.Needs.{needs}
 use Rattle.parts.proofs.opening.open.Statement.{statement}
 use Rattle.parts.proofs.opening.open.Tie as tie
-
--- The row of an accepted section has been read.
-module _ (c : tie.After-row-at) where
-  abbrev accepted : tie.Then1
-  accepted = c .before .before .before
-
-  abbrev judged : tie.After-judge
-  judged = accepted .before .before
-
-  abbrev section : List ℕ
-  section = judged .before .before .args .section .now
-
-  number-is : c .before .row-of .result ≡ rowOf (getD section 0 0)
-  number-is = c .before .row-of .ensures ∙ ap rowOf (c .before .before .byte-at .ensures)
-
-  row-is : c .row-at .result ≡ rowFor section
-  row-is = c .row-at .ensures ∙ ap rowAt number-is
-
-  there : (p : Part) → p ≡ ifAccepted section p
-  there p = sym (part-there section p (cc))
 
 judge-requires : tie.Need-judge-requires
 judge-requires c κs = search needs
@@ -60,13 +36,20 @@ entries-of-requires c κs = rw (c .before .before .row-at .ensures) (before-smal
 
 returns : tie.Need-returns
 returns c =
-    let row = c .before .before .before in
-    let s = section row in
+    let rowed = c .before .before .before in
+    let read = rowed .before .before in
+    let yes = read .before in
+    let judged = yes .before .before in
+    let s = judged .before .before .args .section .now in
+    let told = judged .judge .ensures in
+    let test = yes .before .is-accepted .ensures in
+    let number = rowed .before .row-of .ensures ∙ ap rowOf (read .byte-at .ensures) in
+    let row : rowed .row-at .result ≡ rowFor s = rowed .row-at .ensures ∙ ap rowAt number in
     record {
-      verdict = cc;
-      utc-time = c .before .before .utc-of .ensures ∙ ap utcOf (number-is row) ∙ there row _;
-      top = c .before .top-of .ensures ∙ ap (λ (w : Row). topOf w s) (row-is row) ∙ there row _;
-      entries = c .entries-of .ensures ∙ ap (λ (w : Row). entriesOf w s) (row-is row) ∙ there row _;
+      verdict = told;
+      utc-time = c .before .before .utc-of .ensures ∙ ap utcOf number ∙ sym (part-there _ _ _ told test (yes .if1 .taken));
+      top = c .before .top-of .ensures ∙ ap (λ (w : Row). topOf w s) row ∙ sym (part-there _ _ _ told test (yes .if1 .taken));
+      entries = c .entries-of .ensures ∙ ap (λ (w : Row). entriesOf w s) row ∙ sym (part-there _ _ _ told test (yes .if1 .taken));
     }
 
 no-part-requires : tie.Need-no-part-requires
@@ -80,11 +63,14 @@ no-part-requires-3 c κs = search needs
 
 returns-2 : tie.Need-returns-2
 returns-2 c =
+    let left = c .before .before .before in
+    let told = left .before .before .judge .ensures in
+    let test = left .before .is-accepted .ensures in
     record {
-      verdict = cc;
-      utc-time = c .before .before .no-part .ensures ∙ sym (part-none _ _ (cc));
-      top = c .before .no-part2 .ensures ∙ sym (part-none _ _ (cc));
-      entries = c .no-part3 .ensures ∙ sym (part-none _ _ (cc));
+      verdict = told;
+      utc-time = c .before .before .no-part .ensures ∙ sym (part-none _ _ _ told test (left .if1 .left));
+      top = c .before .no-part2 .ensures ∙ sym (part-none _ _ _ told test (left .if1 .left));
+      entries = c .no-part3 .ensures ∙ sym (part-none _ _ _ told test (left .if1 .left));
     }
 
 pub open-spec : {M : Type 1} → statement M

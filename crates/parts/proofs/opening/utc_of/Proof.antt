@@ -12,10 +12,10 @@ no-part-requires : tie.Need-no-part-requires
 no-part-requires c κs = search needs
 
 returns : tie.Need-returns
-returns c = c .no-part .ensures ∙ sym (utc-none _ (cc))
+returns c = c .no-part .ensures ∙ sym (utc-none _ (c .before .before .is-numbered .ensures) (c .before .if1 .taken))
 
 returns-2 : tie.Need-returns-2
-returns-2 c = sym (utc-there _ (cc))
+returns-2 c = sym (utc-there _ (c .before .is-numbered .ensures) (c .if1 .left))
 
 pub utc-of-spec : {M : Type 1} → statement M
 utc-of-spec = tie.close (tie.spec is-numbered-requires no-part-requires returns returns-2)

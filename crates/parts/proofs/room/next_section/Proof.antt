@@ -9,16 +9,16 @@ is-within-requires : tie.Need-is-within-requires
 is-within-requires c κs = search needs
 
 section-at-requires : tie.Need-section-at-requires
-section-at-requires c κs = lies _ _ (sym (c .before .is-within .ensures) ∙ c .if1 .taken)
+section-at-requires c κs = lies _ _ (c .before .is-within .ensures) (c .if1 .taken)
 
 returns : tie.Need-returns
-returns c = c .section-at .ensures ∙ sym (section-in _ _ (cc))
+returns c = c .section-at .ensures ∙ sym (section-in _ _ (c .before .before .is-within .ensures) (c .before .if1 .taken))
 
 no-section-requires : tie.Need-no-section-requires
 no-section-requires c κs = search needs
 
 returns-2 : tie.Need-returns-2
-returns-2 c = c .no-section .ensures ∙ sym (section-out _ _ (cc))
+returns-2 c = c .no-section .ensures ∙ sym (section-out _ _ (c .before .before .is-within .ensures) (c .before .if1 .left))
 
 pub next-section-spec : {M : Type 1} → statement M
 next-section-spec =

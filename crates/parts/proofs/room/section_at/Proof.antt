@@ -10,7 +10,7 @@ no-section-requires : tie.Need-no-section-requires
 no-section-requires c κs = search needs
 
 returns : tie.Need-returns
-returns c = c .no-section .ensures ∙ sym (section-short _ _ (omega arith))
+returns c = c .no-section .ensures ∙ sym (section-short _ (c .before .before .before .args .rest) (omega arith))
 
 add-length12-at : tie.Need-add-length12-at
 add-length12-at c = search needs
@@ -22,7 +22,10 @@ no-section-requires-2 : tie.Need-no-section-requires-2
 no-section-requires-2 c κs = search needs
 
 returns-2 : tie.Need-returns-2
-returns-2 c = c .no-section2 .ensures ∙ sym (section-short _ _ (omega arith))
+returns-2 c =
+    let size = c .before .before in
+    let args = size .before .before .before .args in
+    c .no-section2 .ensures ∙ sym (section-short _ (args .rest) (omega (arith, size .length12-at .ensures .same)))
 
 add-t7 : tie.Need-add-t7
 add-t7 c = search needs
@@ -40,7 +43,10 @@ sub-t12 : tie.Need-sub-t12
 sub-t12 c = search needs
 
 returns-3 : tie.Need-returns-3
-returns-3 c = sym (section-whole _ _ _ (omega arith) (omega arith))
+returns-3 c =
+    let size = c .before in
+    let args = size .before .before .before .args in
+    sym (section-whole _ (args .rest) (size .length12-at .result) (size .length12-at .ensures .same) (omega arith))
 
 pub section-at-spec : {M : Type 1} → statement M
 section-at-spec =

@@ -1,13 +1,13 @@
 -- `section::entries::judge_entries` meets its contract: reading on from p says what reading from the start says.
 use Prim.Native.Nat.{ℕ, _+_, _-_, _≤_}
 use mathlib.Core.Path.{_≡_, refl, sym, ap, _∙_}
-use mathlib.Core.List.{List}
 use native.Mathlib.Omega.{arith}
 use lib.ListN.{length, drop}
 use lib.Seq.{length-take-le}
 use borrow.Author.Needs.{needs}
 use Rattle.wire.specs.Bytes.{len12At}
 use Rattle.wire.specs.Trail.{answer}
+use Rattle.verdict.specs.Verdict.{isAccepted}
 use Rattle.section.specs.Entries.{entries}
 use Rattle.section.proofs.EntryLoops.{At, at-end, at-short, at-past, at-fault, at-on}
 use Rattle.section.proofs.entries.judge_entries.Statement.{statement}
@@ -24,23 +24,12 @@ module _ (c : tie.In-loop Inv-loop μ-loop) where
   abbrev start : tie.Start Inv-loop μ-loop
   start = c .before .before .before
 
-  abbrev bytes : List ℕ
-  bytes = start .args .bytes .now
-
-  abbrev fixed : ℕ
-  fixed = start .args .fixed
-
-  abbrev at : ℕ
-  at = start .args .at
-
   abbrev p : ℕ
   p = c .before .loop .p
 
-  so-far : entries fixed at (drop at bytes) .ends ≡ entries fixed p (drop p bytes) .ends
-  so-far = c .before .loop .inv
-
-  begins : (n : ℕ) → n ≡ len12At bytes (p + (fixed - 2)) → At bytes fixed p n
-  begins n e = record { two = omega arith; here = c .loop-test .taken; same = e }
+  begins : (n : ℕ) → n ≡ len12At (start .args .bytes .now) (p + (start .args .fixed - 2))
+      → At (start .args .bytes .now) (start .args .fixed) p n
+  begins n e = record { two = start .pre; here = c .loop-test .taken; same = e }
 
 -- Its fixed part and its loop fit.
 module _ (c : tie.Else2 Inv-loop μ-loop) where
@@ -48,15 +37,15 @@ module _ (c : tie.Else2 Inv-loop μ-loop) where
   here = c .before .before .before
 
   abbrev end : ℕ
-  end = p here + fixed here + c .before .length12-at .result
+  end = p here + start here .args .fixed + c .before .length12-at .result
 
-  head-fits : p here + fixed here ≤ length (bytes here)
+  head-fits : p here + start here .args .fixed ≤ length (start here .args .bytes .now)
   head-fits = omega arith
 
-  loop-fits : end ≤ length (bytes here)
+  loop-fits : end ≤ length (start here .args .bytes .now)
   loop-fits = omega arith
 
-  entry : At (bytes here) (fixed here) (p here) (c .before .length12-at .result)
+  entry : At (start here .args .bytes .now) (start here .args .fixed) (p here) (c .before .length12-at .result)
   entry = begins here _ (c .before .length12-at .ensures .same)
 
 loop-holds : tie.Need-loop-holds Inv-loop μ-loop
@@ -66,7 +55,7 @@ sub-if1 : tie.Need-sub-if1 Inv-loop μ-loop
 sub-if1 c = omega arith
 
 returns : tie.Need-returns Inv-loop μ-loop
-returns c = sym (so-far (c .before) ∙ ap answer (at-short (begins (c .before) _ refl) (omega arith)))
+returns c = sym (c .before .before .loop .inv ∙ ap answer (at-short (begins (c .before) _ refl) (omega arith)))
 
 add-start : tie.Need-add-start Inv-loop μ-loop
 add-start c = omega arith
@@ -86,7 +75,9 @@ sub-if2 c = omega arith
 returns-2 : tie.Need-returns-2 Inv-loop μ-loop
 returns-2 c =
     let turn = c .before .before .before in
-    sym (so-far turn ∙ ap answer (at-past (begins turn _ (c .before .length12-at .ensures .same)) (omega arith) (omega arith)))
+    sym
+    (turn .before .loop .inv
+    ∙ ap answer (at-past (begins turn _ (c .before .length12-at .ensures .same)) (omega arith) (omega arith)))
 
 add-next : tie.Need-add-next Inv-loop μ-loop
 add-next c = omega arith
@@ -107,19 +98,27 @@ loop-again : tie.Need-loop-again Inv-loop μ-loop
 loop-again c =
     let judged = c .before .before in
     let fits = judged .before .before in
-    so-far (here fits) ∙ ap answer (at-on (entry fits) (head-fits fits) (loop-fits fits) (cc))
+    here fits .before .loop .inv
+    ∙ ap answer
+    (at-on (entry fits) (head-fits fits) (loop-fits fits)
+    (ap isAccepted (sym (judged .judge-descriptors .ensures)) ∙ sym (c .before .is-accepted .ensures) ∙ c .if3 .taken))
 
 returns-3 : tie.Need-returns-3 Inv-loop μ-loop
 returns-3 c =
     let judged = c .before .before in
     let fits = judged .before .before in
     judged .judge-descriptors .ensures
-    ∙ sym (so-far (here fits) ∙ ap answer (at-fault (entry fits) (head-fits fits) (loop-fits fits) (cc)))
+    ∙ sym
+    (here fits .before .loop .inv
+    ∙ ap answer
+    (at-fault (entry fits) (head-fits fits) (loop-fits fits)
+    (ap isAccepted (sym (judged .judge-descriptors .ensures)) ∙ sym (c .before .is-accepted .ensures) ∙ c .if3 .left)))
 
 returns-4 : tie.Need-returns-4 Inv-loop μ-loop
 returns-4 c =
     let loop = c .before .loop in
-    sym (loop .inv ∙ ap answer (at-end _ _ (loop .p) (omega arith) (omega arith)))
+    let start = c .before .before .before in
+    sym (loop .inv ∙ ap answer (at-end (start .args .bytes .now) (start .args .fixed) (loop .p) (start .pre) (c .loop-test .left)))
 
 pub judge-entries-spec : {M : Type 1} → statement M
 judge-entries-spec =

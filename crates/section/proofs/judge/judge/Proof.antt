@@ -2,15 +2,38 @@
 use Rattle.section.proofs.Readings.{opening-short, opening-unknown, opening-known, judged-opening, judged-on, stopped, went-on}
 use Rattle.tables.proofs.RowLaws.{fixed-two}
 use Rattle.tables.specs.declared.Row.{Row}
-use Rattle.tables.specs.Tables.{FixedTwo}
+use Rattle.tables.specs.Tables.{rowAt, FixedTwo}
 use native.Mathlib.Omega.{arith}
-use mathlib.Core.Path.{subst, refl, sym, _∙_}
+use mathlib.Core.Path.{_≡_, subst, refl, sym, ap, _∙_}
+use mathlib.Core.List.{List}
+use Prim.Native.Nat.{ℕ}
+use Rattle.verdict.specs.Verdict.{accepted}
+use Rattle.section.specs.Reading.{rowFor, opening}
 use borrow.Author.Needs.{needs}
 use Rattle.section.proofs.judge.judge.Statement.{statement}
 use Rattle.section.proofs.judge.judge.Tie as tie
 
+-- The table is known, and its row has been read.
+module _ (c : tie.After-row-at) where
+  abbrev found : tie.After-row-of
+  found = c .before .before
+
+  abbrev long : tie.Else1
+  long = found .before .before
+
+  abbrev s : List ℕ
+  s = long .before .before .args .section .now
+
+  row-is : c .row-at .result ≡ rowFor s
+  row-is = c .row-at .ensures ∙ ap rowAt (found .row-of .ensures)
+
+  known : opening s ≡ accepted
+  known = opening-known s (long .if1 .left) (omega arith)
+
 returns : tie.Need-returns
-returns c = sym (judged-opening _ _ _ (opening-short _ (omega arith)))
+returns c =
+    let args = c .before .before .args in
+    sym (judged-opening (args .section .now) 1 0 (opening-short (args .section .now) (c .if1 .taken)))
 
 shared-slice-read-row-of : tie.Need-shared-slice-read-row-of
 shared-slice-read-row-of c = search needs
@@ -19,7 +42,11 @@ row-of-requires : tie.Need-row-of-requires
 row-of-requires c κs = search needs
 
 returns-2 : tie.Need-returns-2
-returns-2 c = sym (judged-opening _ _ _ (opening-unknown _ (omega arith) (omega arith)))
+returns-2 c =
+    let else1 = c .before .before .before in
+    let args = else1 .before .before .args in
+    let s = args .section .now in
+    sym (judged-opening s 2 0 (opening-unknown s (else1 .if1 .left) (omega arith)))
 
 row-at-requires : tie.Need-row-at-requires
 row-at-requires c κs = search needs
@@ -35,19 +62,24 @@ before-crc-requires c κs = search needs
 
 judge-inside-requires : tie.Need-judge-inside-requires
 judge-inside-requires c κs =
-    let headed = c .before .before .before in
-    let row-at = headed .before .row-at in
+    let after-judge-header = c .before .before .before in
+    let row-at = after-judge-header .before .row-at in
     subst (λ (r : Row). FixedTwo (r .fixed)) (sym (row-at .ensures)) (fixed-two _)
 
 returns-3 : tie.Need-returns-3
 returns-3 c =
-    went-on _ _ _ (cc) (c .judge-inside .ensures)
-    ∙ sym (judged-on _ _ _ (cc) (c .before .before-crc .ensures) (opening-known _ (omega arith) (omega arith)))
+    let headed = c .before .before .before in
+    let table = headed .before .before in
+    went-on _ _ _ _ (headed .before .judge-header .ensures) (headed .is-accepted .ensures) _ (c .before .before .if3 .taken)
+    (c .judge-inside .ensures)
+    ∙ sym (judged-on (s table) _ _ (row-is table) (c .before .before-crc .ensures) (known table))
 
 returns-4 : tie.Need-returns-4
 returns-4 c =
-    let row = c .before .before .before .row-at .result in
-    stopped _ _ _ (cc) (cc) ∙ sym (judged-on _ row _ (cc) refl (opening-known _ (omega arith) (omega arith)))
+    let headed = c .before .before in
+    let table = headed .before in
+    stopped _ _ _ _ (headed .judge-header .ensures) (c .before .is-accepted .ensures) (c .if3 .left)
+    ∙ sym (judged-on (s table) _ _ (row-is table) refl (known table))
 
 pub judge-spec : {M : Type 1} → statement M
 judge-spec =

@@ -1,7 +1,7 @@
 -- `section::judge::judge_fills` meets its contract: the loop reaches past its container, or ends short of it, or fills it.
 use Rattle.section.proofs.Readings.{fills-past, fills-short, fills-just}
 use native.Mathlib.Omega.{arith}
-use mathlib.Core.Path.{refl, sym}
+use mathlib.Core.Path.{sym}
 use borrow.Author.Needs.{needs}
 use Rattle.section.proofs.judge.judge_fills.Statement.{statement}
 use Rattle.section.proofs.judge.judge_fills.Tie as tie
@@ -16,16 +16,25 @@ add-size : tie.Need-add-size
 add-size c = search needs
 
 returns : tie.Need-returns
-returns c = sym (fills-past _ _ _ refl (omega arith))
+returns c =
+    let after-length12-at = c .before in
+    let args = after-length12-at .before .before .before .args in
+    sym (fills-past (args .bytes .now) (args .at) _ (after-length12-at .length12-at .ensures .same) (omega arith))
 
 add-t7 : tie.Need-add-t7
 add-t7 c = search needs
 
 returns-2 : tie.Need-returns-2
-returns-2 c = sym (fills-short _ _ _ (omega arith) (omega arith))
+returns-2 c =
+    let after-length12-at = c .before .before in
+    let args = after-length12-at .before .before .before .args in
+    sym (fills-short (args .bytes .now) (args .at) _ (after-length12-at .length12-at .ensures .same) (omega arith))
 
 returns-3 : tie.Need-returns-3
-returns-3 c = sym (fills-just _ _ _ refl (omega arith))
+returns-3 c =
+    let after-length12-at = c .before .before in
+    let args = after-length12-at .before .before .before .args in
+    sym (fills-just (args .bytes .now) (args .at) _ (after-length12-at .length12-at .ensures .same) (omega arith))
 
 pub judge-fills-spec : {M : Type 1} → statement M
 judge-fills-spec =

@@ -1,7 +1,7 @@
 -- `section::judge::judge_room` meets its contract.
 use Rattle.section.proofs.Readings.{room-past, room-just}
 use native.Mathlib.Omega.{arith}
-use mathlib.Core.Path.{refl, sym}
+use mathlib.Core.Path.{sym}
 use borrow.Author.Needs.{needs}
 use Rattle.section.proofs.judge.judge_room.Statement.{statement}
 use Rattle.section.proofs.judge.judge_room.Tie as tie
@@ -19,10 +19,16 @@ add-if1-2 : tie.Need-add-if1-2
 add-if1-2 c = search needs
 
 returns : tie.Need-returns
-returns c = sym (room-past _ _ _ refl (omega arith))
+returns c =
+    let after-length12-at = c .before in
+    let args = after-length12-at .before .before .before .args in
+    sym (room-past (args .bytes .now) (args .at) _ (after-length12-at .length12-at .ensures .same) (omega arith))
 
 returns-2 : tie.Need-returns-2
-returns-2 c = sym (room-just _ _ _ refl (omega arith))
+returns-2 c =
+    let after-length12-at = c .before in
+    let args = after-length12-at .before .before .before .args in
+    sym (room-just (args .bytes .now) (args .at) _ (after-length12-at .length12-at .ensures .same) (omega arith))
 
 pub judge-room-spec : {M : Type 1} → statement M
 judge-room-spec =

@@ -1,8 +1,10 @@
 -- `section::judge::judge_second` meets its contract: where the loop fills its container, its entries decide.
-use Rattle.section.proofs.Readings.{stopped, went-on, fills-tells, second-loop}
-use Rattle.wire.specs.Trail.{answer}
+use Rattle.section.proofs.Readings.{stopped, held, went-on, fills-tells, second-loop}
+use Rattle.wire.specs.Trail.{answer, ended}
+use Rattle.verdict.specs.Verdict.{accepted}
 use native.Mathlib.Omega.{arith}
-use mathlib.Core.Path.{refl, sym, ap, _∙_}
+use mathlib.Core.Path.{refl}
+use mathlib.Core.Path.{sym, ap, _∙_}
 use borrow.Author.Needs.{needs}
 use Rattle.section.proofs.judge.judge_second.Statement.{statement}
 use Rattle.section.proofs.judge.judge_second.Tie as tie
@@ -15,18 +17,32 @@ is-accepted-requires c κs = search needs
 
 add-judge-entries : tie.Need-add-judge-entries
 add-judge-entries c =
-    let filled = c .before .before in
-    let args = filled .before .before .args in
-    omega (arith, fills-tells (args .bytes .now) (args .at) _ refl (cc))
+    let after-judge-fills = c .before .before in
+    let args = after-judge-fills .before .before .args in
+    omega (
+      arith,
+      fills-tells (args .bytes .now) (args .at) _ refl
+          (held _ _ _ (ended accepted) (after-judge-fills .judge-fills .ensures) (c .before .is-accepted .ensures)
+          (c .if1 .taken)),
+    )
 
 judge-entries-requires : tie.Need-judge-entries-requires
 judge-entries-requires c κs = search needs
 
 returns : tie.Need-returns
-returns c = went-on _ _ _ (cc) (c .judge-entries .ensures) ∙ sym (ap answer (second-loop _ _ _))
+returns c =
+    let is-accepted = c .before .before .is-accepted in
+    let after-judge-fills = c .before .before .before in
+    let args = after-judge-fills .before .before .args in
+    went-on _ _ _ _ (after-judge-fills .judge-fills .ensures) (is-accepted .ensures) _ (c .before .if1 .taken) (c .judge-entries .ensures)
+    ∙ sym (ap answer (second-loop (args .bytes .now) (args .at) (args .fixed)))
 
 returns-2 : tie.Need-returns-2
-returns-2 c = stopped _ _ _ (cc) (cc) ∙ sym (ap answer (second-loop _ _ _))
+returns-2 c =
+    let after-judge-fills = c .before .before in
+    let args = after-judge-fills .before .before .args in
+    stopped _ _ _ _ (after-judge-fills .judge-fills .ensures) (c .before .is-accepted .ensures) (c .if1 .left)
+    ∙ sym (ap answer (second-loop (args .bytes .now) (args .at) (args .fixed)))
 
 pub judge-second-spec : {M : Type 1} → statement M
 judge-second-spec =

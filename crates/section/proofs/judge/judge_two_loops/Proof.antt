@@ -5,11 +5,11 @@ use mathlib.Core.List.{List}
 use native.Mathlib.Omega.{arith}
 use lib.ListN.{length, take, drop}
 use lib.Seq.{length-take-le}
-use Rattle.wire.specs.Trail.{answer}
-use Rattle.verdict.specs.Verdict.{Said}
+use Rattle.wire.specs.Trail.{answer, ended}
+use Rattle.verdict.specs.Verdict.{Said, accepted}
 use Rattle.loops.specs.Descriptors.{descriptors}
 use Rattle.section.specs.Reading.{loopThen, secondLoop, twoLoops}
-use Rattle.section.proofs.Readings.{stopped, went-on, room-tells, two-loops}
+use Rattle.section.proofs.Readings.{stopped, held, went-on, room-tells, two-loops}
 use borrow.Author.Needs.{needs}
 use Rattle.section.proofs.judge.judge_two_loops.Statement.{statement}
 use Rattle.section.proofs.judge.judge_two_loops.Tie as tie
@@ -32,14 +32,16 @@ module _ (c : tie.After-length12-at) where
   end = at + (2 + c .length12-at .result)
 
   fits : end + 2 ≤ length bytes
-  fits = room-tells bytes at _ (c .length12-at .ensures .same) (cc)
+  fits =
+      room-tells bytes at _ (c .length12-at .ensures .same)
+      (held _ _ _ (ended accepted) (roomy .before .judge-room .ensures) (roomy .is-accepted .ensures) (c .before .if1 .taken))
 
   -- what the top loop says, and what stands behind it, is what the two loops say
   both : (v : Said)
       → v ≡ loopThen (descriptors (at + 2) (drop (at + 2) (take end bytes))) (secondLoop (start .args .fixed) end (drop end bytes)) .ends
       → v ≡ twoLoops (start .args .fixed) at (drop at bytes) .ends
   both v e =
-      went-on _ _ _ (cc) e
+      went-on _ _ _ _ (roomy .before .judge-room .ensures) (roomy .is-accepted .ensures) v (c .before .if1 .taken) e
       ∙ sym (ap answer (two-loops bytes at (start .args .fixed) _ (c .length12-at .ensures .same) (omega (arith, fits))))
 
 judge-room-requires : tie.Need-judge-room-requires
@@ -74,17 +76,20 @@ judge-second-requires c κs = search needs
 
 returns : tie.Need-returns
 returns c =
-    let top = c .before .before .before in
-    both (top .before .before) _ (went-on _ _ _ (cc) (c .judge-second .ensures))
+    let top = c .before .before in
+    both (top .before .before .before) _
+    (went-on _ _ _ _ (top .before .judge-descriptors .ensures) (top .is-accepted2 .ensures) _ (c .before .if2 .taken)
+    (c .judge-second .ensures))
 
 returns-2 : tie.Need-returns-2
 returns-2 c =
-    let top = c .before .before in
-    both (top .before .before) _ (stopped _ _ _ (cc) (cc))
+    let top = c .before in
+    both (top .before .before .before) _
+    (stopped _ _ _ _ (top .before .judge-descriptors .ensures) (top .is-accepted2 .ensures) (c .if2 .left))
 
 returns-3 : tie.Need-returns-3
 unfolding twoLoops
-returns-3 c = stopped _ _ _ (cc) (cc)
+returns-3 c = stopped _ _ _ _ (c .before .before .judge-room .ensures) (c .before .is-accepted .ensures) (c .if1 .left)
 
 pub judge-two-loops-spec : {M : Type 1} → statement M
 judge-two-loops-spec =
