@@ -29,7 +29,7 @@ with-entries =
     each-row SomeEntries (λ f. omega arith) (λ f. omega arith) (λ f. omega arith) (λ f. omega arith)
     (λ f. absurd (f refl)) (λ f. absurd (f refl))
 
--- what is written last ends where all of it does
+-- of two pieces the last ends in the section where both do
 module _ {A B : Type 0} {c d : Form A} {c' d' : Form B} {s : List ℕ} {p q r : Place} {end : ℕ} {o o' o'' : List ℕ} where
   then-to : (b : Bool) → Turned c d s p o q o' → TurnedTo b c' d' s q end o' r o'' → TurnedTo b (c then c') (d then d') s p end o r o''
   then-to b g h = record {
