@@ -3,7 +3,7 @@
 use mathlib.Core.Path.{_≡_, refl, sym, ap, _∙_}
 use mathlib.Core.List.{List, [], _∷_}
 use Prim.Native.Nat.{ℕ}
-use Rattle.packet.proofs.Once.{refusalAt, refusal-at}
+use Rattle.packet.proofs.Unique.{refusalAt, refusal-at}
 use Rattle.collector.specs.Answer.{Reply, refusedWith, repeated, taken, told, Outcome, came}
 use Rattle.collector.specs.Collected.{collected}
 use Rattle.collector.specs.declared.Record.{Record}

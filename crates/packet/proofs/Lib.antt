@@ -1,3 +1,3 @@
 -- Laws that several proofs cite, and those of the table that the crates above rest on.
 pub mod Table
-pub mod Once
+pub mod Unique
