@@ -23,7 +23,7 @@ module _ (c : tie.Then1) where
   start = judging .before .before
 
   ok : judged (start .args .section .now) ≡ accepted
-  ok = is-accepted _ (cc)
+  ok = sym (judging .judge .ensures) ∙ is-accepted _ (sym (c .before .is-accepted .ensures) ∙ c .if1 .taken)
 
 -- Its loops are those of its row.
 module _ (c : tie.After-before-crc) where

@@ -19,7 +19,17 @@ bits-at-requires-4 : tie.Need-bits-at-requires-4
 bits-at-requires-4 c κs = search needs
 
 returns : tie.Need-returns
-returns c = cc
+returns c =
+    let bits-at2 = c .before .before .bits-at2 in
+    let after-bits-at = c .before .before .before in
+    let system-of = after-bits-at .before .system-of in
+    rw (
+      system-of .ensures,
+      after-bits-at .bits-at .ensures,
+      bits-at2 .ensures,
+      c .before .bits-at3 .ensures,
+      c .bits-at4 .ensures,
+    )
 
 pub satellite-of-spec : {M : Type 1} → statement M
 satellite-of-spec =

@@ -13,7 +13,7 @@ byte-at-requires : tie.Need-byte-at-requires
 byte-at-requires c κs = search needs
 
 returns : tie.Need-returns
-returns c = cc
+returns c = rw (c .before .before .bits-at .ensures, c .before .bits-at2 .ensures, c .byte-at .ensures)
 
 pub fields-of-spec : {M : Type 1} → statement M
 fields-of-spec = tie.close (tie.spec bits-at-requires bits-at-requires-2 byte-at-requires returns)

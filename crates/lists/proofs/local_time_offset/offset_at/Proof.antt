@@ -1,6 +1,5 @@
 -- The bytes of an offset at their places.
 use Rattle.lists.specs.LocalTimeOffset.{offsetAt}
-use mathlib.Core.Path.{_∙_}
 use borrow.Author.Needs.{needs}
 use Rattle.lists.proofs.local_time_offset.offset_at.Statement.{statement}
 use Rattle.lists.proofs.local_time_offset.offset_at.Tie as tie
@@ -22,7 +21,13 @@ read-requires c κs = search needs
 
 returns : tie.Need-returns
 unfolding offsetAt
-returns c = c .read .ensures ∙ (cc)
+returns c =
+    rw (
+      ← c .before .before .before .bits-at .ensures,
+      ← c .before .before .byte-at .ensures,
+      ← c .before .byte-at2 .ensures,
+    )
+    (c .read .ensures)
 
 pub offset-at-spec : {M : Type 1} → statement M
 offset-at-spec =

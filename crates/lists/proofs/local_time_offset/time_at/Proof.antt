@@ -1,6 +1,5 @@
 -- The bytes of a time at their places.
 use Rattle.lists.specs.LocalTimeOffset.{timeAt}
-use mathlib.Core.Path.{_∙_}
 use borrow.Author.Needs.{needs}
 use Rattle.lists.proofs.local_time_offset.time_at.Statement.{statement}
 use Rattle.lists.proofs.local_time_offset.time_at.Tie as tie
@@ -31,7 +30,11 @@ read-requires c κs = search needs
 
 returns : tie.Need-returns
 unfolding timeAt
-returns c = c .read .ensures ∙ (cc)
+returns c =
+    let byte-at2 = c .before .before .byte-at2 in
+    let after-byte-at = c .before .before .before in
+    let number16-at = after-byte-at .before .number16-at in
+    rw (← number16-at .ensures, ← after-byte-at .byte-at .ensures, ← byte-at2 .ensures, ← c .before .byte-at3 .ensures) (c .read .ensures)
 
 pub time-at-spec : {M : Type 1} → statement M
 time-at-spec =

@@ -10,7 +10,7 @@ byte-at-requires : tie.Need-byte-at-requires
 byte-at-requires c κs = search needs
 
 returns : tie.Need-returns
-returns c = cc
+returns c = rw (c .before .number16-at .ensures, c .byte-at .ensures)
 
 pub fields-of-spec : {M : Type 1} → statement M
 fields-of-spec = tie.close (tie.spec number16-at-requires byte-at-requires returns)
