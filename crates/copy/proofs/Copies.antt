@@ -10,7 +10,7 @@ use lib.Seq.{paste}
 use lib.Dec.{ltb, leb}
 use Rattle.wire.specs.If.{if_then_else_}
 use Rattle.wire.proofs.IfLaws.{true-not-false}
-use Rattle.copy.specs.Copy.{block, copies, copied}
+use Rattle.copy.specs.Copy.{copies, copied}
 
 -- n bytes from a place on end past the end: compared without a sum that could be too large
 pub same-test : (all at n : ℕ) → n ≤ all → ltb (all - n) at ≡ ltb all (at + n)
@@ -39,9 +39,6 @@ module _ (s : List ℕ) (from n : ℕ) (d : List ℕ) (at : ℕ) where
     unfolding copied
     copied-yes = rw copies-yes
 
-    pub made : {o : List ℕ} → o ≡ paste d at (drop from s) n → (true ≡ copies s from n d at) × (o ≡ copied s from n d at)
-    made k = (sym copies-yes, k ∙ sym copied-yes)
-
   -- a copy that is not made: s has not the bytes, or d not the room
   pub copies-not : {r : Bool} → r ≡ copies s from n d at → r ≡ false → from + n ≤ length s → at + n ≤ length d → ⊥
   copies-not e f h g = true-not-false (sym (copies-yes h g) ∙ sym e ∙ f)
@@ -66,6 +63,12 @@ module _ (s : List ℕ) (from n : ℕ) (d : List ℕ) (at : ℕ) where
     pub fits : x ≡ false → y ≡ false → (from + n ≤ length s) × (at + n ≤ length d)
     fits h g = (had (length s) from n e h, had (length d) at n f g)
 
+    pub made : x ≡ false → y ≡ false → {o : List ℕ} → o ≡ paste d at (drop from s) n
+        → (true ≡ copies s from n d at) × (o ≡ copied s from n d at)
+    made h g k =
+        let i = fits h g in
+        (sym (copies-yes (i .0) (i .1)), k ∙ sym (copied-yes (i .0) (i .1)))
+
     pub full : x ≡ false → y ≡ true → (false ≡ copies s from n d at) × (d ≡ copied s from n d at)
     unfolding copies
     full h g = (sym k, sym (copied-not k))
@@ -84,7 +87,3 @@ module _ (s : List ℕ) (from n : ℕ) (d : List ℕ) (at : ℕ) where
       where
         k : copies s from n d at ≡ false
         k = rw (lt-leb (from + n) (length s) (lacking (length s) from n e h))
-
-pub block-some : (long : Bool) (z : ℕ) → z ≡ block long → 0 < z
-block-some true z e = omega arith
-block-some false z e = omega arith

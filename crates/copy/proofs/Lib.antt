@@ -1,5 +1,5 @@
 -- Laws of copies, and of moves within one list.
-pub mod Placed
+pub mod Blocks
 pub mod Copies
 pub mod Moved
 pub mod Moves

@@ -1,123 +1,180 @@
--- Bytes moved within one list, a block of 32 at a time: down from the first block on, up from the last.
-use mathlib.Core.Path.{_≡_}
-use mathlib.Core.List.{List}
-use mathlib.Core.Bool.{Bool, true, false}
-use Prim.Native.Nat.{ℕ, _+_, _-_, _≤_, _<_}
+-- Bytes moved within one list, block by block: down from the first block on, up from the last.
+use mathlib.Core.Path.{_≡_, sym, ap, _∙_}
+use mathlib.Core.List.{List, _++_, append-assoc, append-nil}
+use Prim.Native.Nat.{ℕ, _+_, _-_, _≤_}
+use native.Mathlib.Nat.{add-assoc}
 use native.Mathlib.Omega.{arith}
-use lib.ListN.{length, drop, replicate}
-use lib.Seq.{paste}
-use Rattle.wire.specs.If.{if_then_else_}
-use Rattle.copy.proofs.Placed.{Placed, none, by-paste, alike, joined, is-paste, through-held}
+use lib.ListN.{length, take, drop, replicate, length-drop, take-append-drop}
+use lib.Seq.{paste, paste-zero, take-paste, take-take, take-add, drop-drop, drop-at, drop-append-add, drop-append-le, length-take-le}
+use Rattle.copy.proofs.Blocks.{front, behind, more}
 
--- k of the n bytes are moved: the first, or the last
-abbrev pub Gone : Bool → List ℕ → ℕ → ℕ → ℕ → List ℕ → ℕ → Type 0
-Gone down o from n to r k = Placed o o to from (if down then 0 else n - k) (if down then k else n) r
+-- ---- through a room of their own: n bytes, read to its start and written from there
 
--- where the next m begin
-abbrev pub next : Bool → ℕ → ℕ → ℕ → ℕ
-next down n k m = if down then k else n - m - k
+held : (src b : List ℕ) (from n m : ℕ) → from + n ≤ length src → b ≡ paste (replicate m 0) 0 (drop from src) n
+    → take n b ≡ take n (drop from src)
+held src b from n m fits e =
+    let s = drop from src in
+    let long : n ≤ length s = omega (arith, length-drop from src) in
+    let z : 0 + n ≡ n = omega arith in
+    ap (take n) e
+    ∙ ap (λ (k : ℕ). take k (paste (replicate m 0) 0 s n)) (sym z)
+    ∙ take-paste (replicate m 0) 0 s n (omega arith) long
 
-pub next-fits : (down : Bool) (n k m j : ℕ) → j ≡ next down n k m → k + m ≤ n → j + m ≤ n
-next-fits true n k m j e h = omega arith
-next-fits false n k m j e h = omega arith
+pub through-held : (src d b : List ℕ) (from at n m : ℕ) → from + n ≤ length src
+    → b ≡ paste (replicate m 0) 0 (drop from src) n → paste d at (drop 0 b) n ≡ paste d at (drop from src) n
+through-held src d b from at n m fits e =
+    ap (λ (l : List ℕ). take at d ++ l ++ drop (at + n) d) (held src b from n m fits e)
 
--- The bytes are within the list, and their place is on the right side.
-pub record Allowed (down : Bool) (o : List ℕ) (from n to : ℕ) : Type 0 where
-  pub way : (if down then to else from) ≤ (if down then from else to)
-  pub had : from + n ≤ length o
-  pub fits : to + n ≤ length o
+-- ---- down
 
--- The last m are 32, or all where there are fewer. They stand from j on, and are held, as they were before.
-pub record Held (down : Bool) (o : List ℕ) (from n : ℕ) (held : List ℕ) (m j : ℕ) : Type 0 where
-  pub size : m ≡ n - (n - 32)
-  pub begins : j ≡ next down n (n - m) m
-  pub bytes : held ≡ paste (replicate 32 0) 0 (drop (from + j) o) m
+module _ (o : List ℕ) (from to : ℕ) (low : to ≤ from) where
+  -- where the first i are moved, those behind them are as they were
+  still-behind : (i : ℕ) → from + i ≤ length o → drop (from + i) (paste o to (drop from o) i) ≡ drop (from + i) o
+  still-behind i fits =
+      let s = drop from o in
+      let e : to + (from + i - to) ≡ from + i = omega arith in
+      let long : i ≤ length s = omega (arith, length-drop from o) in
+      ap (λ (k : ℕ). drop k (paste o to s i)) (sym e)
+      ∙ behind o s to i (from + i - to) (omega arith) long (omega arith)
+      ∙ ap (λ (k : ℕ). drop k o) e
 
-pub last-few : (n m : ℕ) → m ≡ n - (n - 32) → m ≤ 32
-last-few n m e = omega arith
+  -- one block more
+  pub down-on : (room : List ℕ) (i : ℕ) → from + i + 32 ≤ length o → room ≡ paste o to (drop from o) i
+      → paste room (to + i) (drop (from + i) room) 32 ≡ paste o to (drop from o) (i + 32)
+  down-on room i fits is =
+      let long : i ≤ length (drop from o) = omega (arith, length-drop from o) in
+      ap (λ (l : List ℕ). paste room (to + i) l 32) (ap (drop (from + i)) is ∙ still-behind i (omega arith))
+      ∙ more o room o from to i i 32 (omega arith) long (omega arith) (omega arith) is
 
-pub last-fit : (down : Bool) (n m j : ℕ) → m ≡ n - (n - 32) → j ≡ next down n (n - m) m → j + m ≤ n
-last-fit down n m j e f = next-fits down n (n - m) m j f (omega arith)
+  -- and the last one, which was read before any was written
+  pub down-ends : (room last : List ℕ) (i n : ℕ) → 32 ≤ n → from + n ≤ length o → i ≤ n → n - i ≤ 32
+      → room ≡ paste o to (drop from o) i → last ≡ paste (replicate 32 0) 0 (drop (from + (n - 32)) o) 32
+      → paste room (to + (n - 32)) (drop 0 last) 32 ≡ paste o to (drop from o) n
+  down-ends room last i n large fits le near is e =
+      let long : i ≤ length (drop from o) = omega (arith, length-drop from o) in
+      let whole : n - 32 + 32 ≡ n = omega arith in
+      through-held o room last (from + (n - 32)) (to + (n - 32)) 32 32 (omega arith) e
+      ∙ more o room o from to i (n - 32) 32 (omega arith) long (omega arith) (omega arith) is
+      ∙ ap (paste o to (drop from o)) whole
 
-pub record Moving (down : Bool) (o : List ℕ) (from n to : ℕ) (held : List ℕ) (m j : ℕ) (r : List ℕ) (k : ℕ) : Type 0 where
-  pub allowed : Allowed down o from n to
-  pub last : Held down o from n held m j
-  pub le : k ≤ n
-  pub gone : Gone down o from n to r k
+-- ---- up
 
-none-gone : (down : Bool) (n : ℕ) {o : List ℕ} {from to : ℕ} → Gone down o from n to o 0
-none-gone true n = none 0 0 (omega arith)
-none-gone false n = none (n - 0) n (omega arith)
+-- of bytes that are pasted, what stands before their place
+pub before : (d s : List ℕ) (at n k : ℕ) → at ≤ length d → n ≤ length s → k ≤ at → take k (paste d at s n) ≡ take k d
+before d s at n k hd hs le =
+    let e : at + 0 ≡ at = omega arith in
+    sym (take-take k at (paste d at s n) le)
+    ∙ ap (take k)
+    (ap (λ (i : ℕ). take i (paste d at s n)) (sym e)
+    ∙ front d s at n 0 hd hs (omega arith)
+    ∙ append-nil (take at d))
+    ∙ take-take k at d le
 
--- a block more, whose bytes no block before it was written over
-one-more : (down : Bool) {o : List ℕ} {from n to : ℕ} → Allowed down o from n to → (k i : ℕ) {r r′ : List ℕ} → k + 32 ≤ n
-    → Gone down o from n to r k → i ≡ next down n k 32 → r′ ≡ paste r (to + i) (drop (from + i) r) 32
-    → Gone down o from n to r′ (k + 32)
-one-more true {from = from} ok k i le p at-i is =
-    joined 0 k i (k + 32) 0 (k + 32) p
-    (alike (by-paste i (k + 32) 32 (omega arith) (omega (arith, p .size, ok .fits)) (omega (arith, p .size, ok .had)) is)
-    (λ x low high. p .behind (from + x) (omega (arith, ok .way))))
-    (omega arith, omega arith, omega arith, omega arith) (λ x g h. (omega arith, omega arith)) (λ x g h. absurd (omega arith))
-one-more false {from = from} {n = n} ok k i le p at-i is =
-    joined (n - k) n i (n - k) (n - (k + 32)) n p
-    (alike (by-paste i (n - k) 32 (omega arith) (omega (arith, p .size, ok .fits)) (omega (arith, p .size, ok .had)) is)
-    (λ x low high. p .before (from + x) (omega (arith, ok .way))))
-    (omega arith, omega arith, omega arith, omega arith) (λ x g h. absurd (omega arith)) (λ x g h. (omega arith, omega arith))
+-- of bytes that are pasted, what stands behind the first e of them
+within : (d s : List ℕ) (at n e : ℕ) → at ≤ length d → n ≤ length s → e ≤ n
+    → drop (at + e) (paste d at s n) ≡ drop e (take n s) ++ drop (at + n) d
+within d s at n e hd hs le =
+    let p = take n s in
+    let q = drop (at + n) d in
+    let size : e ≤ length p = omega (arith, length-take-le n s hs) in
+    ap (λ (k : ℕ). drop (k + e) (take at d ++ p ++ q)) (sym (length-take-le at d hd))
+    ∙ ap (drop (length (take at d) + e)) (append-assoc (take at d) p q)
+    ∙ drop-append-add (take at d) (p ++ q) e
+    ∙ drop-append-le e p q size
 
--- and the last m
-all-gone : (down : Bool) {o : List ℕ} {from n to : ℕ} → Allowed down o from n to → (k m j : ℕ) {r r′ : List ℕ} → k ≤ n → m ≤ n
-    → n - k ≤ m → Gone down o from n to r k → j ≡ next down n (n - m) m → r′ ≡ paste r (to + j) (drop (from + j) o) m
-    → Placed o o to from 0 n r′
-all-gone true {n = n} ok k m j le in-all near p at-j is =
-    joined 0 k j n 0 n p (by-paste j n m (omega arith) (omega (arith, p .size, ok .fits)) (ok .had) is)
-    (omega arith, omega arith, omega arith, omega arith) (λ x g h. (omega arith, omega arith)) (λ x g h. absurd (omega arith))
-all-gone false {n = n} ok k m j le in-all near p at-j is =
-    joined (n - k) n j m 0 n p (by-paste j m m (omega arith) (omega (arith, p .size, ok .fits)) (omega (arith, ok .had)) is)
-    (omega arith, omega arith, omega arith, omega arith) (λ x g h. absurd (omega arith)) (λ x g h. (omega arith, omega arith))
+-- the first j of s, and those of its next k to k + m that are behind them
+rest : (s : List ℕ) (k m j : ℕ) → k ≤ j → j ≤ k + m → take j s ++ drop (j - k) (take m (drop k s)) ≡ take (k + m) s
+rest s k m j low high =
+    let e : k + (j - k) ≡ j = omega arith in
+    let b = take m (drop k s) in
+    ap (λ (i : ℕ). take i s ++ drop (j - k) b) (sym e)
+    ∙ ap (λ (l : List ℕ). l ++ drop (j - k) b)
+    (take-add k (j - k) s ∙ ap (λ (l : List ℕ). take k s ++ l) (sym (take-take (j - k) m (drop k s) (omega arith))))
+    ∙ append-assoc (take k s) (take (j - k) b) (drop (j - k) b)
+    ∙ ap (λ (l : List ℕ). take k s ++ l) (take-append-drop (j - k) b)
+    ∙ sym (take-add k m s)
 
-module _ {down : Bool} {o : List ℕ} {from n to : ℕ} {held : List ℕ} {m j : ℕ} where
-  pub begun : Allowed down o from n to → Held down o from n held m j → Moving down o from n to held m j o 0
-  begun ok l = record { allowed = ok; last = l; le = omega arith; gone = none-gone down n }
+-- bytes that end in a copy of what follows them, or at its start, make it longer to the front
+under : (d s : List ℕ) (at k m j : ℕ) → at + k + m ≤ length d → k + m ≤ length s → k ≤ j → j ≤ k + m
+    → paste (paste d (at + k) (drop k s) m) at s j ≡ paste d at s (k + m)
+under d s at k m j hd hs low high =
+    let p = paste d (at + k) (drop k s) m in
+    let b = take m (drop k s) in
+    let long : m ≤ length (drop k s) = omega (arith, length-drop k s) in
+    let e : at + k + (j - k) ≡ at + j = omega arith in
+    let behind-j : drop (at + j) p ≡ drop (j - k) b ++ drop (at + k + m) d =
+    ap (λ (i : ℕ). drop i p) (sym e) ∙ within d (drop k s) (at + k) m (j - k) (omega arith) long (omega arith) in
+    ap (λ (l : List ℕ). l ++ take j s ++ drop (at + j) p)
+    (before d (drop k s) (at + k) m at (omega arith) long (omega arith))
+    ∙ ap (λ (l : List ℕ). take at d ++ take j s ++ l) behind-j
+    ∙ sym (append-assoc (take at d ++ take j s) (drop (j - k) b) (drop (at + k + m) d))
+    ∙ ap (λ (l : List ℕ). l ++ drop (at + k + m) d)
+    (append-assoc (take at d) (take j s) (drop (j - k) b)
+    ∙ ap (λ (l : List ℕ). take at d ++ l) (rest s k m j low high))
+    ∙ ap (λ (i : ℕ). take at d ++ take (k + m) s ++ drop i d) (add-assoc at k m)
 
-  module _ {r : List ℕ} {k : ℕ} (w : Moving down o from n to held m j r k) where
-    -- a turn: its block is one of those left, and fewer are left behind it
-    pub has-next : 32 < n - k → k + 32 ≤ n
-    has-next left = omega (arith, w .le)
+pub part : (l : List ℕ) (a k : ℕ) → a ≤ length l → drop a (take (a + k) l) ≡ take k (drop a l)
+part l a k h = ap (drop a) (take-add a k l) ∙ drop-at (take a l) (take k (drop a l)) a (length-take-le a l h)
 
-    pub fewer-left : 32 < n - k → n - (k + 32) < n - k
-    fewer-left left = omega arith
+-- lists that begin alike have the same bytes in what is alike
+alike : (x y : List ℕ) (m a k : ℕ) → take m x ≡ take m y → a ≤ length x → a ≤ length y → a + k ≤ m
+    → take k (drop a x) ≡ take k (drop a y)
+alike x y m a k e hx hy le = sym (part x a k hx) ∙ ap (drop a) both ∙ part y a k hy
+  where
+    both : take (a + k) x ≡ take (a + k) y
+    both = sym (take-take (a + k) m x le) ∙ ap (take (a + k)) e ∙ take-take (a + k) m y le
 
-    pub next-within : (i : ℕ) → i ≡ next down n k 32 → 32 < n - k → i + 32 ≤ n
-    next-within i e left = next-fits down n k 32 i e (has-next left)
+-- those from n on are none
+pub none-moved : (o : List ℕ) (from to n : ℕ) → o ≡ paste o (to + n) (drop (from + n) o) (n - n)
+none-moved o from to n =
+    let z : 0 ≡ n - n = omega arith in
+    paste-zero o (to + n) (drop (from + n) o) ∙ ap (paste o (to + n) (drop (from + n) o)) z
 
-    pub next-there : (i : ℕ) → i ≡ next down n k 32 → 32 < n - k → (from + i + 32 ≤ length r) × (to + i + 32 ≤ length r)
-    next-there i e left =
-        let within = next-within i e left in
-        let size = w .gone .size in
-        (omega (arith, w .allowed .had), omega (arith, w .allowed .fits))
+module _ (o : List ℕ) (from to n : ℕ) (high : from ≤ to) (fits : to + n ≤ length o) where
+  -- those from i on are moved, and a block from j on that ends in them or at them
+  up-more : (room : List ℕ) (i j : ℕ) → j ≤ i → i ≤ j + 32 → j + 32 ≤ n → i ≤ n
+      → room ≡ paste o (to + i) (drop (from + i) o) (n - i)
+      → paste room (to + j) (drop (from + j) o) 32 ≡ paste o (to + j) (drop (from + j) o) (n - j)
+  up-more room i j le near within-n i-n is =
+      let s = drop (from + j) o in
+      let e : to + j + (i - j) ≡ to + i = omega arith in
+      let g : from + j + (i - j) ≡ from + i = omega arith in
+      let all : i - j + (n - i) ≡ n - j = omega arith in
+      let long : i - j + (n - i) ≤ length s = omega (arith, length-drop (from + j) o) in
+      let moved : room ≡ paste o (to + j + (i - j)) (drop (i - j) s) (n - i) =
+      is
+      ∙ ap (λ (k : ℕ). paste o k (drop (from + i) o) (n - i)) (sym e)
+      ∙ ap (λ (l : List ℕ). paste o (to + j + (i - j)) l (n - i))
+      (sym (drop-drop (i - j) (from + j) o ∙ ap (λ (k : ℕ). drop k o) g)) in
+      ap (λ (l : List ℕ). paste l (to + j) s 32) moved
+      ∙ under o s (to + j) (i - j) (n - i) 32 (omega arith) long (omega arith) (omega arith)
+      ∙ ap (paste o (to + j) s) all
 
-    pub next-moved : (i : ℕ) → i ≡ next down n k 32 → 32 < n - k → {r′ : List ℕ} → r′ ≡ paste r (to + i) (drop (from + i) r) 32
-        → Moving down o from n to held m j r′ (k + 32)
-    next-moved i e left is =
-        record {
-          allowed = w .allowed;
-          last = w .last;
-          le = has-next left;
-          gone = one-more down (w .allowed) k i (has-next left) (w .gone) e is;
-        }
+  -- one block more
+  pub up-on : (room : List ℕ) (i j : ℕ) → j + 32 ≡ i → i ≤ n → length room ≡ length o
+      → room ≡ paste o (to + i) (drop (from + i) o) (n - i)
+      → paste room (to + j) (drop (from + j) room) 32 ≡ paste o (to + j) (drop (from + j) o) (n - j)
+  up-on room i j e le same is =
+      let long : n - i ≤ length (drop (from + i) o) = omega (arith, length-drop (from + i) o) in
+      let front-stays : take (to + i) room ≡ take (to + i) o =
+      ap (take (to + i)) is
+      ∙ before o (drop (from + i) o) (to + i) (n - i) (to + i) (omega arith) long (omega arith) in
+      ap (λ (l : List ℕ). take (to + j) room ++ l ++ drop (to + j + 32) room)
+      (alike room o (to + i) (from + j) 32 front-stays (omega arith) (omega arith) (omega arith))
+      ∙ up-more room i j (omega arith) (omega arith) (omega arith) le is
 
-    -- the end
-    pub last-there : (l : List ℕ) → length l ≡ 32 → (0 + m ≤ length l) × (to + j + m ≤ length r)
-    last-there l e =
-        let fit = last-fit down n m j (w .last .size) (w .last .begins) in
-        let few = last-few n m (w .last .size) in
-        let size = w .gone .size in
-        (omega arith, omega (arith, w .allowed .fits))
-
-    pub last-moved : n - k ≤ 32 → {r′ : List ℕ} → r′ ≡ paste r (to + j) (drop 0 held) m → r′ ≡ paste o to (drop from o) n
-    last-moved left is =
-        let fit = last-fit down n m j (w .last .size) (w .last .begins) in
-        is-paste
-        (all-gone down (w .allowed) k m j (w .le) (omega arith) (omega (arith, w .last .size)) (w .gone) (w .last .begins)
-        (through-held o r held (from + j) (to + j) m 32 (omega (arith, w .allowed .had)) (w .last .bytes) is))
-        (w .allowed .fits) (w .allowed .had)
+  -- and the first one, which was read before any was written
+  pub up-ends : (room first : List ℕ) (i : ℕ) → 32 ≤ n → i ≤ 32 → room ≡ paste o (to + i) (drop (from + i) o) (n - i)
+      → first ≡ paste (replicate 32 0) 0 (drop from o) 32
+      → paste room to (drop 0 first) 32 ≡ paste o to (drop from o) n
+  up-ends room first i large near is e =
+      let z : to + 0 ≡ to = omega arith in
+      let w : from + 0 ≡ from = omega arith in
+      let all : n - 0 ≡ n = omega arith in
+      through-held o room first from to 32 32 (omega arith) e
+      ∙ ap (λ (k : ℕ). paste room k (drop from o) 32) (sym z)
+      ∙ ap (λ (k : ℕ). paste room (to + 0) (drop k o) 32) (sym w)
+      ∙ up-more room i 0 (omega arith) (omega arith) (omega arith) (omega arith) is
+      ∙ ap (λ (k : ℕ). paste o k (drop (from + 0) o) (n - 0)) z
+      ∙ ap (λ (k : ℕ). paste o to (drop k o) (n - 0)) w
+      ∙ ap (paste o to (drop from o)) all

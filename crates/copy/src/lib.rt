@@ -3,9 +3,7 @@ ghost use mathlib.Core.Path.{_≡_};
 ghost use Prim.Native.Nat.{_+_, _≤_};
 ghost use lib.ListN.{length, drop};
 ghost use lib.Seq.{paste};
-ghost use lib.Dec.{ltb, leb};
-ghost use mathlib.Core.Bool.{false};
-ghost use Rattle.wire.specs.If.{if_then_else_};
+ghost use lib.Dec.{ltb};
 ghost use Rattle.copy.specs.Copy.{block, copies, copied};
 ghost use Rattle.copy.specs.Move.{movesDown, movedDown, movesUp, movedUp};
 mod within;
@@ -32,15 +30,23 @@ fn singly(src: &[u8], from: usize, n: usize, dst: &mut [u8], at: usize)
     }
 }
 
-// At most 32 bytes. They are all read before any of them is written, so that the compiler may move a block of 8 or of 32
-// whole.
-fn through(src: &[u8], from: usize, n: usize, dst: &mut [u8], at: usize)
-    requires { ⌜ (n ≤ 32) × (from + n ≤ length (now src)) × (at + n ≤ length (now dst)) ⌝ }
-    ensures { λ _. ⌜ now (dst .exit) ≡ paste (now (dst .entry)) at (drop from (now (src .entry))) n ⌝ }
+// A block of 8, and one of 32. It is all read before any of it is written, so that the compiler may move it whole.
+fn eight(src: &[u8], from: usize, dst: &mut [u8], at: usize)
+    requires { ⌜ (from + 8 ≤ length (now src)) × (at + 8 ≤ length (now dst)) ⌝ }
+    ensures { λ _. ⌜ now (dst .exit) ≡ paste (now (dst .entry)) at (drop from (now (src .entry))) 8 ⌝ }
+{
+    let mut bytes = [0u8; 8];
+    singly(src, from, 8, &mut bytes, 0);
+    singly(&bytes, 0, 8, dst, at);
+}
+
+fn thirty_two(src: &[u8], from: usize, dst: &mut [u8], at: usize)
+    requires { ⌜ (from + 32 ≤ length (now src)) × (at + 32 ≤ length (now dst)) ⌝ }
+    ensures { λ _. ⌜ now (dst .exit) ≡ paste (now (dst .entry)) at (drop from (now (src .entry))) 32 ⌝ }
 {
     let mut bytes = [0u8; 32];
-    singly(src, from, n, &mut bytes, 0);
-    singly(&bytes, 0, n, dst, at);
+    singly(src, from, 32, &mut bytes, 0);
+    singly(&bytes, 0, 32, dst, at);
 }
 
 fn one_block(long: bool, src: &[u8], from: usize, dst: &mut [u8], at: usize)
@@ -48,9 +54,9 @@ fn one_block(long: bool, src: &[u8], from: usize, dst: &mut [u8], at: usize)
     ensures { λ _. ⌜ now (dst .exit) ≡ paste (now (dst .entry)) at (drop from (now (src .entry))) (block long) ⌝ }
 {
     if long {
-        through(src, from, 32, dst, at)
+        thirty_two(src, from, dst, at)
     } else {
-        through(src, from, 8, dst, at)
+        eight(src, from, dst, at)
     }
 }
 
@@ -60,16 +66,12 @@ fn size_of(long: bool) -> usize
     if long { 32 } else { 8 }
 }
 
-// Singly where there are too few for a block. The last block ends where the bytes end, and may begin in the one before it.
+// The last block ends where the bytes end, and may begin in the block before it.
 fn in_blocks(long: bool, src: &[u8], from: usize, n: usize, dst: &mut [u8], at: usize)
-    requires { ⌜ (from + n ≤ length (now src)) × (at + n ≤ length (now dst)) ⌝ }
+    requires { ⌜ (from + n ≤ length (now src)) × (at + n ≤ length (now dst)) × (block long ≤ n) ⌝ }
     ensures { λ _. ⌜ now (dst .exit) ≡ paste (now (dst .entry)) at (drop from (now (src .entry))) n ⌝ }
 {
     let size = size_of(long);
-    if n < size {
-        singly(src, from, n, dst, at);
-        return;
-    }
     let mut i = 0;
     while size < n - i {
         one_block(long, src, from + i, dst, at + i);
@@ -88,6 +90,10 @@ fn copy_by(long: bool, src: &[u8], from: usize, n: usize, dst: &mut [u8], at: us
     }
     if lacks(dst.len(), at, n) {
         return false;
+    }
+    if n < size_of(long) {
+        singly(src, from, n, dst, at);
+        return true;
     }
     in_blocks(long, src, from, n, dst, at);
     true
@@ -109,35 +115,39 @@ pub fn copy_few(src: &[u8], from: usize, n: usize, dst: &mut [u8], at: usize) ->
     copy_by(false, src, from, n, dst, at)
 }
 
-// A move of n bytes between two places can be made: the one is no higher than the other, and so many bytes have room for them.
-fn in_room(all: usize, low: usize, high: usize, n: usize) -> bool
-    ensures { λ r. ⌜ r ≡ (if leb low high then leb (high + n) all else false) ⌝ }
-{
-    if high < low {
-        return false;
-    }
-    !lacks(all, high, n)
-}
-
 // Copies room[from..from+n], as it was before, down to room[to..to+n], to being no higher than from, where room has the bytes;
 // otherwise room stays. It tells which.
 pub fn move_down(room: &mut [u8], from: usize, n: usize, to: usize) -> bool
     ensures { λ r. ⌜ (r ≡ movesDown (now (room .entry)) from n to) × (now (room .exit) ≡ movedDown (now (room .entry)) from n to) ⌝ }
 {
-    if in_room(room.len(), to, from, n) {
-        within::moved(true, room, from, n, to);
+    if from < to {
+        return false;
+    }
+    if lacks(room.len(), from, n) {
+        return false;
+    }
+    if n < 32 {
+        within::few(room, from, n, to);
         return true;
     }
-    false
+    within::down(room, from, n, to);
+    true
 }
 
 // The same upwards, to being no lower than from, where room has place for them.
 pub fn move_up(room: &mut [u8], from: usize, n: usize, to: usize) -> bool
     ensures { λ r. ⌜ (r ≡ movesUp (now (room .entry)) from n to) × (now (room .exit) ≡ movedUp (now (room .entry)) from n to) ⌝ }
 {
-    if in_room(room.len(), from, to, n) {
-        within::moved(false, room, from, n, to);
+    if to < from {
+        return false;
+    }
+    if lacks(room.len(), to, n) {
+        return false;
+    }
+    if n < 32 {
+        within::few(room, from, n, to);
         return true;
     }
-    false
+    within::up(room, from, n, to);
+    true
 }

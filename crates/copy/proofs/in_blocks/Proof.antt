@@ -1,95 +1,114 @@
 -- The invariant: the first i bytes are copied, in whole blocks.
-use Prim.Native.Nat.{_-_}
+use mathlib.Core.Path.{_≡_, refl, sym, ap, _∙_}
+use Prim.Native.Nat.{_+_, _-_, _≤_}
 use native.Mathlib.Omega.{arith}
 use borrow.Author.Needs.{needs}
+use lib.ListN.{length, drop, length-drop}
+use lib.Seq.{paste, paste-zero}
 use Rattle.copy.specs.Copy.{block}
-use Rattle.copy.proofs.Copies.{block-some}
-use Rattle.copy.proofs.Placed.{Copying, none, fewer-left, next-there, next-copied, last-there, last-copied}
+use Rattle.copy.proofs.Blocks.{more, block-large}
 use Rattle.copy.proofs.in_blocks.Statement.{statement}
 use Rattle.copy.proofs.in_blocks.Tie as tie
 
 abbrev Inv-loop : tie.InvT-loop
-Inv-loop long src from n dst₀ at size i₀ dst i = Copying src from n dst₀ at size (block long) dst i
+Inv-loop long src from n dst₀ at size i₀ dst i = (i ≤ n) × (dst ≡ paste dst₀ at (drop from src) i)
+    × (length dst ≡ length dst₀)
 
 abbrev μ-loop : tie.MeasureT-loop
 μ-loop long src from n dst₀ at size i₀ dst i = n - i
 
 size-of-requires : tie.Need-size-of-requires Inv-loop μ-loop
-size-of-requires c κs = tt
+size-of-requires c κs = search needs
 
-singly-requires : tie.Need-singly-requires Inv-loop μ-loop
-singly-requires c κs = let sized = c .before .before in sized .before .before .before .pre
+loop-holds : tie.Need-loop-holds Inv-loop μ-loop
+loop-holds c =
+    let a = c .before .before .before .args in
+    (omega arith, paste-zero (a .dst .now) (a .at) (drop (a .from) (a .src .now)), refl)
+
+sub-loop : tie.Need-sub-loop Inv-loop μ-loop
+sub-loop c = search needs
+
+add-one-block : tie.Need-add-one-block Inv-loop μ-loop
+add-one-block c = search needs
+
+add-one-block-2 : tie.Need-add-one-block-2 Inv-loop μ-loop
+add-one-block-2 c = search needs
+
+one-block-requires : tie.Need-one-block-requires Inv-loop μ-loop
+one-block-requires c κs = let e = c .before .before .before .size-of .ensures in (omega arith, omega arith)
+
+add-i : tie.Need-add-i Inv-loop μ-loop
+add-i c = search needs
+
+loop-less : tie.Need-loop-less Inv-loop μ-loop
+loop-less c =
+    let after-one-block-arg = c .before .before .before in
+    let after-size-of = after-one-block-arg .before .before .before in
+    let args = after-size-of .before .before .before .args in
+    let e = after-size-of .size-of .ensures in
+    let b = block-large (args .long) in
+    omega arith
+
+loop-again : tie.Need-loop-again Inv-loop μ-loop
+loop-again c =
+    let after-one-block = c .before .before in
+    let at-loop = after-one-block .before .before .before in
+    let l = at-loop .loop in
+    let after-size-of = at-loop .before in
+    let a = after-size-of .before .before .before .args in
+    let z = after-size-of .size-of .result in
+    let e : z ≡ block (a .long) = after-size-of .size-of .ensures in
+    let d = a .dst .now in
+    let s = drop (a .from) (a .src .now) in
+    let long : a .n ≤ length s = omega (arith, length-drop (a .from) (a .src .now)) in (
+      omega arith,
+      after-one-block .one-block .ensures
+          ∙ ap (paste (l .dst) (a .at + l .i) (drop (a .from + l .i) (a .src .now))) (sym e)
+          ∙ more d (l .dst) (a .src .now) (a .from) (a .at) (l .i) (l .i) z (omega arith) (omega (arith, long))
+          (omega arith) (omega arith) (l .inv .1),
+      search needs,
+    )
+
+sub-one-block : tie.Need-sub-one-block Inv-loop μ-loop
+sub-one-block c = let e = c .before .before .size-of .ensures in omega arith
+
+add-one-block-3 : tie.Need-add-one-block-3 Inv-loop μ-loop
+add-one-block-3 c = search needs
+
+sub-one-block-2 : tie.Need-sub-one-block-2 Inv-loop μ-loop
+sub-one-block-2 c = search needs
+
+add-one-block-4 : tie.Need-add-one-block-4 Inv-loop μ-loop
+add-one-block-4 c = search needs
+
+one-block-requires-2 : tie.Need-one-block-requires-2 Inv-loop μ-loop
+one-block-requires-2 c κs = let e = c .before .before .before .size-of .ensures in (omega arith, omega arith)
 
 same-length : tie.Need-same-length Inv-loop μ-loop
 same-length c = search needs
 
 returns : tie.Need-returns Inv-loop μ-loop
-returns c = c .before .before .singly .ensures
-
-loop-holds : tie.Need-loop-holds Inv-loop μ-loop
-loop-holds c =
-    let sized = c .before in
-    let start = sized .before .before .before in
-    record {
-      had = start .pre .0;
-      fits = start .pre .1;
-      large = c .if1 .left;
-      sized = sized .size-of .ensures;
-      some = block-some (start .args .long) (sized .size-of .result) (sized .size-of .ensures);
-      le = omega arith;
-      part = none 0 0 (omega arith);
-    }
-
-sub-loop : tie.Need-sub-loop Inv-loop μ-loop
-sub-loop c = c .loop .inv .le
-
-add-one-block : tie.Need-add-one-block Inv-loop μ-loop
-add-one-block c = omega arith
-
-add-one-block-2 : tie.Need-add-one-block-2 Inv-loop μ-loop
-add-one-block-2 c = omega arith
-
-one-block-requires : tie.Need-one-block-requires Inv-loop μ-loop
-one-block-requires c κs = let turn = c .before in next-there (turn .before .loop .inv) (turn .loop-test .taken)
-
--- behind a turn's block
-abbrev turned : tie.After-slice-known3 Inv-loop μ-loop → tie.In-loop Inv-loop μ-loop
-turned c = let written = c .before .before in written .before .before
-
-add-i : tie.Need-add-i Inv-loop μ-loop
-add-i c = omega arith
-
-loop-less : tie.Need-loop-less Inv-loop μ-loop
-loop-less c =
-    let turn = turned c in
-    fewer-left (turn .before .loop .inv) (turn .loop-test .taken)
-
-loop-again : tie.Need-loop-again Inv-loop μ-loop
-loop-again c =
-    let turn = turned c in
-    next-copied (turn .before .loop .inv) (turn .loop-test .taken) (c .before .before .one-block .ensures)
-
-add-one-block-3 : tie.Need-add-one-block-3 Inv-loop μ-loop
-add-one-block-3 c = omega arith
-
-add-one-block-4 : tie.Need-add-one-block-4 Inv-loop μ-loop
-add-one-block-4 c = omega arith
-
-one-block-requires-2 : tie.Need-one-block-requires-2 Inv-loop μ-loop
-one-block-requires-2 c κs = let left = c .before in last-there (left .before .loop .inv) (left .loop-test .left)
-
-same-length-2 : tie.Need-same-length-2 Inv-loop μ-loop
-same-length-2 c = search needs
-
-returns-2 : tie.Need-returns-2 Inv-loop μ-loop
-returns-2 c =
-    let written = c .before .before in
-    let left = written .before .before in
-    last-copied (left .before .loop .inv) (left .loop-test .left) (written .one-block2 .ensures)
+returns c =
+    let after-one-block2 = c .before .before in
+    let at-loop = after-one-block2 .before .before .before in
+    let l = at-loop .loop in
+    let after-size-of = at-loop .before in
+    let a = after-size-of .before .before .before .args in
+    let z = after-size-of .size-of .result in
+    let e : z ≡ block (a .long) = after-size-of .size-of .ensures in
+    let d = a .dst .now in
+    let n = a .n in
+    let long : n ≤ length (drop (a .from) (a .src .now)) = omega (arith, length-drop (a .from) (a .src .now)) in
+    let whole : n - z + z ≡ n = omega arith in
+    after-one-block2 .one-block2 .ensures
+    ∙ ap (paste (l .dst) (a .at + (n - z)) (drop (a .from + (n - z)) (a .src .now))) (sym e)
+    ∙ more d (l .dst) (a .src .now) (a .from) (a .at) (l .i) (n - z) z (omega arith) (omega (arith, long)) (omega arith)
+    (omega arith) (l .inv .1)
+    ∙ ap (paste d (a .at) (drop (a .from) (a .src .now))) whole
 
 pub in-blocks-spec : {M : Type 1} → statement M
 in-blocks-spec =
     tie.close
-    (tie.spec Inv-loop μ-loop size-of-requires singly-requires same-length returns loop-holds sub-loop add-one-block
-    add-one-block-2 one-block-requires add-i loop-less loop-again add-one-block-3 add-one-block-4 one-block-requires-2
-    same-length-2 returns-2)
+    (tie.spec Inv-loop μ-loop size-of-requires loop-holds sub-loop add-one-block add-one-block-2 one-block-requires
+    add-i loop-less loop-again sub-one-block add-one-block-3 sub-one-block-2 add-one-block-4 one-block-requires-2
+    same-length returns)

@@ -8,11 +8,10 @@ use Rattle.copy.proofs.lacks.Tie as tie
 
 returns : tie.Need-returns
 returns c =
-    let a = c .before .args in
-    sym (lt-ltb (a .all) (a .at + a .n) (omega (arith, c .if1 .taken)))
+    sym (lt-ltb (c .before .args .all) (c .before .args .at + c .before .args .n) (omega (arith, c .if1 .taken)))
 
 returns-2 : tie.Need-returns-2
-returns-2 c = let a = c .before .args in same-test (a .all) (a .at) (a .n) (c .if1 .left)
+returns-2 c = same-test (c .before .args .all) (c .before .args .at) (c .before .args .n) (c .if1 .left)
 
 pub lacks-spec : {M : Type 1} → statement M
 lacks-spec = tie.close (tie.spec returns returns-2)

@@ -1,55 +1,81 @@
--- One test, of the place that is not to be higher and the one that is not to be lower.
-use mathlib.Core.Path.{sym, _∙_}
+-- Three tests; both ways of moving leave the same.
 use mathlib.Core.List.{List}
-use Prim.Native.Nat.{ℕ}
+use Prim.Native.Nat.{ℕ, _+_, _≤_}
 use native.Mathlib.Omega.{arith}
+use lib.ListN.{length}
 use borrow.Author.Needs.{needs}
-use lib.ListN.{drop}
-use lib.Seq.{paste}
-use Rattle.copy.specs.Move.{movesDown, movedDown}
-use Rattle.copy.proofs.Moved.{moves-down-fits, made, not-made}
+use Rattle.copy.proofs.Copies.{lacking, had}
+use Rattle.copy.proofs.Moved.{down-higher, down-lacking, down-made}
 use Rattle.copy.proofs.move_down.Statement.{statement}
 use Rattle.copy.proofs.move_down.Tie as tie
 
--- where the room has been asked for
-module _ (asked : tie.After-in-room) where
+-- where the room has the bytes
+module _ (b : tie.Else2) where
+  abbrev tested : tie.After-lacks
+  tested = b .before
+
   abbrev start : tie.Start
-  start = asked .before .before
+  start = tested .before .before .before
 
   abbrev room : List ℕ
   room = start .args .room .now
 
-  abbrev after : List ℕ
-  after = paste room (start .args .to) (drop (start .args .from) room) (start .args .n)
+  abbrev from : ℕ
+  from = start .args .from
 
-in-room-requires : tie.Need-in-room-requires
-in-room-requires c κs = search needs
+  abbrev n : ℕ
+  n = start .args .n
 
-moved-requires : tie.Need-moved-requires
-unfolding movesDown
-moved-requires c κs =
-    let then1 = c .before in
-    let asked = then1 .before in
-    let a = start asked .args in
-    let h = moves-down-fits (room asked) (a .from) (a .n) (a .to) (asked .in-room .ensures) (then1 .if1 .taken) in
-    (h .0, h .1, omega (arith, h .0, h .1))
+  abbrev to : ℕ
+  to = start .args .to
+
+  low : to ≤ from
+  low = tested .before .if1 .left
+
+  fits : from + n ≤ length room
+  fits = had (length room) from n (tested .lacks .ensures) (b .if2 .left)
+
+returns : tie.Need-returns
+returns c =
+    let a = c .before .before .args in
+    down-higher (a .room .now) (a .from) (a .n) (a .to) (c .if1 .taken)
+
+lacks-requires : tie.Need-lacks-requires
+lacks-requires c κs = search needs
+
+returns-2 : tie.Need-returns-2
+returns-2 c =
+    let tested = c .before in
+    let a = tested .before .before .before .args in
+    down-lacking (a .room .now) (a .from) (a .n) (a .to) (tested .before .if1 .left)
+    (lacking (length (a .room .now)) (a .from) (a .n) (tested .lacks .ensures) (c .if2 .taken))
+
+few-requires : tie.Need-few-requires
+few-requires c κs =
+    let b = c .before .before in (omega arith, omega (arith, low b, fits b), omega (arith, low b, fits b))
 
 same-length : tie.Need-same-length
 same-length c = search needs
 
-returns : tie.Need-returns
-unfolding movesDown movedDown
-returns c =
+returns-3 : tie.Need-returns-3
+returns-3 c =
     let moved = c .before .before in
-    let then1 = moved .before .before in
-    let asked = then1 .before in
-    made (room asked) (after asked) (sym (asked .in-room .ensures) ∙ then1 .if1 .taken) (moved .moved .ensures)
+    let b = moved .before .before .before in
+    down-made (room b) (from b) (n b) (to b) (low b) (fits b) (moved .few .ensures)
 
-returns-2 : tie.Need-returns-2
-unfolding movesDown movedDown
-returns-2 c =
-    let asked = c .before in
-    not-made (room asked) (after asked) (sym (asked .in-room .ensures) ∙ c .if1 .left)
+down-requires : tie.Need-down-requires
+down-requires c κs = let b = c .before .before in (omega arith, low b, fits b)
+
+same-length-2 : tie.Need-same-length-2
+same-length-2 c = search needs
+
+returns-4 : tie.Need-returns-4
+returns-4 c =
+    let moved = c .before .before in
+    let b = moved .before .before .before in
+    down-made (room b) (from b) (n b) (to b) (low b) (fits b) (moved .down .ensures)
 
 pub move-down-spec : {M : Type 1} → statement M
-move-down-spec = tie.close (tie.spec in-room-requires moved-requires same-length returns returns-2)
+move-down-spec =
+    tie.close
+    (tie.spec returns lacks-requires returns-2 few-requires same-length returns-3 down-requires same-length-2 returns-4)

@@ -1,6 +1,7 @@
 -- Through a room of 32 bytes.
+use mathlib.Core.Path.{_∙_}
 use borrow.Author.Needs.{needs}
-use Rattle.copy.proofs.Placed.{through-held}
+use Rattle.copy.proofs.Moves.{through-held}
 use Rattle.copy.proofs.within.block.Statement.{statement}
 use Rattle.copy.proofs.within.block.Tie as tie
 
@@ -27,8 +28,8 @@ returns c =
     let begun = read .before .before in
     let start = begun .before .before in
     let a = start .args in
-    through-held (a .room .now) (a .room .now) _ (a .from) (a .to) 32 32 (start .pre .0) (read .singly .ensures)
-    (written .singly2 .ensures)
+    written .singly2 .ensures
+    ∙ through-held (a .room .now) (a .room .now) _ (a .from) (a .to) 32 32 (start .pre .0) (read .singly .ensures)
 
 pub block-spec : {M : Type 1} → statement M
 block-spec =

@@ -1,8 +1,9 @@
 -- Through a room of 32 bytes.
+use mathlib.Core.Path.{_∙_}
 use borrow.Author.Needs.{needs}
-use Rattle.copy.proofs.Placed.{through-held}
-use Rattle.copy.proofs.through.Statement.{statement}
-use Rattle.copy.proofs.through.Tie as tie
+use Rattle.copy.proofs.Moves.{through-held}
+use Rattle.copy.proofs.within.few.Statement.{statement}
+use Rattle.copy.proofs.within.few.Tie as tie
 
 slice-aggregate-singly : tie.Need-slice-aggregate-singly
 slice-aggregate-singly c = search needs
@@ -22,15 +23,15 @@ same-length c = search needs
 returns : tie.Need-returns
 returns c =
     let written = c .before .before in
-    let asked = written .before .before in
-    let read = asked .before .before in
-    let known = read .before .before in
-    let start = known .before .before in
+    let asked = written .before .before .before in
+    let read = asked .before in
+    let begun = read .before .before in
+    let start = begun .before .before in
     let a = start .args in
-    through-held (a .src .now) (a .dst .now) _ (a .from) (a .at) (a .n) 32 (start .pre .1) (read .singly .ensures)
-    (written .singly2 .ensures)
+    written .singly2 .ensures
+    ∙ through-held (a .room .now) (a .room .now) _ (a .from) (a .to) (a .n) 32 (start .pre .1) (read .singly .ensures)
 
-pub through-spec : {M : Type 1} → statement M
-through-spec =
+pub few-spec : {M : Type 1} → statement M
+few-spec =
     tie.close
     (tie.spec slice-aggregate-singly singly-requires slice-aggregate-singly-2 singly-requires-2 same-length returns)
