@@ -1,7 +1,7 @@
 // Where reading stands: the whole packets of what has come are entered, and what is left goes to the front for the next
 // read.
 use crate::reading;
-use crate::reading::Came;
+use crate::reading::OneRead;
 use crate::reading::Got;
 use crate::tally;
 use crate::tally::Account;
@@ -140,7 +140,7 @@ fn finish(p: Progress, buf: &[u8], hold: &mut [u8], out: &mut [u8]) -> Progress
 }
 
 // What a read, made to the index left of the buffer, makes of the progress, the buffer and the rooms.
-pub fn heard(p: Progress, came: Came, buf: &mut [u8], hold: &mut [u8], out: &mut [u8]) -> Progress
+pub fn heard(p: Progress, came: OneRead, buf: &mut [u8], hold: &mut [u8], out: &mut [u8]) -> Progress
     requires { ⌜ Fits (p .left) (came .got) (length (now buf)) ⌝ }
     ensures { λ r. ⌜ stateAs r (now (buf .exit)) (now (hold .exit)) (now (out .exit))
         ≡ heardAs (came .got) (stateAs p (now (buf .entry)) (now (hold .entry)) (now (out .entry))) ⌝ }

@@ -13,11 +13,11 @@ pub enum Got {
 }
 
 // What a read came to, and no other function's word for it: only `read_into` makes one.
-pub struct Came {
+pub struct OneRead {
     got: Got,
 }
 
-pub fn got_of(came: Came) -> Got
+pub fn got_of(came: OneRead) -> Got
     ensures { λ r. ⌜ r ≡ came .got ⌝ }
 {
     came.got
@@ -40,17 +40,17 @@ fn got_as(answer: isize, error: i32, room: &[u8]) -> Got
 }
 
 // The one call by which something comes in.
-fn read_into(room: &mut [u8]) -> Came
+fn read_into(room: &mut [u8]) -> OneRead
     ensures { λ r. ⌜ GotIn (length (now (room .entry))) (r .got) ⌝ }
 {
     let answer = libc::read(libc::STDIN_FILENO, room);
     let error = os::errno();
     let got = got_as(answer, error, room);
-    Came { got }
+    OneRead { got }
 }
 
 // One read, to index left of the buffer.
-pub fn read_behind(buf: &mut [u8], left: usize) -> Came
+pub fn read_behind(buf: &mut [u8], left: usize) -> OneRead
     requires { ⌜ left ≤ length (now buf) ⌝ }
     ensures { λ r. ⌜ Behind left (now (buf .entry)) (now (buf .exit)) (r .got) ⌝ }
 {
