@@ -13,38 +13,44 @@ use Rattle.calendar.specs.declared.Date.{Date}
 use Rattle.calendar.specs.Calendar.{leap, dated, daysIn, next, daysOn, gregorian}
 use Rattle.calendar.specs.Dates.{daysOfMonths, daysOfYears, mjdOf, Valid}
 
--- a list without a 0
-data Full : List ℕ → Type 0 where
-  none : Full []
-  more : {n : ℕ} {l : List ℕ} → 1 ≤ n → Full l → Full (n ∷ l)
+-- the length of a month
+pub record IsLength (n : ℕ) : Type 0 where
+  pub some : 1 ≤ n
+  pub few : n ≤ 31
 
-full-at : (l : List ℕ) (i : ℕ) → Full l → i < length l → 1 ≤ getD l i 0
-full-at [] i f h = absurd (not-suc-le-zero h)
-full-at (n ∷ l) zero (more p f) h = p
-full-at (n ∷ l) (suc i) (more p f) h = full-at l i f (le-of-suc-le-suc h)
+data Lengths : List ℕ → Type 0 where
+  none : Lengths []
+  more : {n : ℕ} {l : List ℕ} → IsLength n → Lengths l → Lengths (n ∷ l)
 
--- no month is empty
-abbrev lengths : ℕ → List ℕ
+length-at : (l : List ℕ) (i : ℕ) → Lengths l → i < length l → IsLength (getD l i 0)
+length-at [] i f h = absurd (not-suc-le-zero h)
+length-at (n ∷ l) zero (more p f) h = p
+length-at (n ∷ l) (suc i) (more p f) h = length-at l i f (le-of-suc-le-suc h)
+
+abbrev pub lengths : ℕ → List ℕ
 lengths y = 31 ∷ (if leap y then 29 else 28) ∷ 31 ∷ 30 ∷ 31 ∷ 30 ∷ 31 ∷ 31 ∷ 30 ∷ 31 ∷ 30 ∷ 31 ∷ []
 
-months-full : (y : ℕ) → Full (lengths y)
-months-full y =
+are-lengths : (y : ℕ) → Lengths (lengths y)
+are-lengths y =
     more long (more february (more long (more short (more long (more short
     (more long (more long (more short (more long (more short (more long none)))))))))))
   where
-    long : 1 ≤ 31
-    long = omega arith
+    long : IsLength 31
+    long = record { some = omega arith; few = omega arith }
 
-    short : 1 ≤ 30
-    short = omega arith
+    short : IsLength 30
+    short = record { some = omega arith; few = omega arith }
 
-    february : 1 ≤ (if leap y then 29 else 28)
-    february = if-case (λ n. 1 ≤ n) (leap y) (λ e. omega arith) (λ e. omega arith)
+    february : IsLength (if leap y then 29 else 28)
+    february =
+        if-case IsLength (leap y) (λ e. record { some = omega arith; few = omega arith })
+        (λ e. record { some = omega arith; few = omega arith })
+
+pub is-length : (y m : ℕ) → 1 ≤ m → m ≤ 12 → IsLength (daysIn y m)
+is-length y m p h = length-at (lengths y) (m - 1) (are-lengths y) (omega arith)
 
 some-days : (y m : ℕ) → m < 12 → 1 ≤ daysIn y (suc m)
-some-days y m h =
-    let at : m ≡ suc m - 1 = omega arith in
-    subst (λ i. 1 ≤ getD (lengths y) i 0) at (full-at (lengths y) m (months-full y) h)
+some-days y m h = is-length y (suc m) (omega arith) h .some
 
 -- the day n days after t
 unfoldable pub after : ℕ → Date → Date
@@ -154,13 +160,13 @@ counted t v =
 pub of-date : (t : Date) → Valid t → 15079 ≤ mjdOf t → gregorian (mjdOf t) ≡ t
 of-date t v low = from-january (mjdOf t) low ∙ counted t v
 
-month-adds : (y m : ℕ) → 1 ≤ m → daysOfMonths y m ≡ daysOfMonths y (m - 1) + daysIn y m
+pub month-adds : (y m : ℕ) → 1 ≤ m → daysOfMonths y m ≡ daysOfMonths y (m - 1) + daysIn y m
 unfolding daysOfMonths
 month-adds y m h =
     let e : suc (m - 1) ≡ m = omega arith in
     subst (λ k. daysOfMonths y k ≡ daysOfMonths y (m - 1) + daysIn y k) e refl
 
-year-adds : (y : ℕ) → 1900 ≤ y → daysOfYears (y + 1 - 1900) ≡ daysOfYears (y - 1900) + daysOfMonths y 12
+pub year-adds : (y : ℕ) → 1900 ≤ y → daysOfYears (y + 1 - 1900) ≡ daysOfYears (y - 1900) + daysOfMonths y 12
 unfolding daysOfYears
 year-adds y h =
     let n : suc (y - 1900) ≡ y + 1 - 1900 = omega arith in

@@ -1,7 +1,8 @@
-// "The date is the Gregorian one of the MJD."
+// "The date is the Gregorian one of the MJD": counted as docs/DATES.md does it with pencil and paper, whole years off first, then whole months.
 ghost use mathlib.Core.Path.{_≡_};
-ghost use Prim.Native.Nat.{_≤_};
-ghost use Rattle.calendar.specs.Calendar.{dateOf, gregorian, told};
+ghost use Prim.Native.Nat.{_+_, _-_, _<_, _≤_};
+ghost use Rattle.calendar.specs.Calendar.{leap, daysIn, dateOf, gregorian, told};
+ghost use Rattle.calendar.specs.Dates.{daysOfMonths, daysOfYears};
 use clock::Fault;
 
 pub struct Date {
@@ -16,29 +17,75 @@ pub enum Answer {
     Refused(Fault),
 }
 
-// The formulas of annex C of EN 300 468, its decimals as whole numbers. Months are counted from March of the year
-// before as 4, so that a leap day is a year's last.
-fn by_formula(mjd: u16) -> Date
+// The days of January to December; February has a day more in a leap year.
+const MONTHS: [u16; 12] = [31, 28, 31, 30, 31, 30, 31, 31, 30, 31, 30, 31];
+
+// Every fourth year, but of the hundreds every fourth only: 1900 is none, 2000 is one.
+fn is_leap(year: u16) -> bool
+    ensures { λ r. ⌜ r ≡ leap year ⌝ }
+{
+    if year % 100 == 0 {
+        year % 400 == 0
+    } else {
+        year % 4 == 0
+    }
+}
+
+fn year_length(year: u16) -> u16
+    ensures { λ r. ⌜ r ≡ daysOfMonths year 12 ⌝ }
+{
+    if is_leap(year) { 366 } else { 365 }
+}
+
+fn month_length(year: u16, month: u8) -> u16
+    requires { ⌜ (1 ≤ month) × (month ≤ 12) ⌝ }
+    ensures { λ r. ⌜ r ≡ daysIn year month ⌝ }
+{
+    let months = MONTHS;
+    let length = months[month as usize - 1];
+    if month != 2 {
+        return length;
+    }
+    if is_leap(year) { length + 1 } else { length }
+}
+
+// A year, and the days that are left from its first of January on.
+struct InYear {
+    year: u16,
+    left: u16,
+}
+
+// Whole years counted off, from 1900 on.
+fn years_off(days: u16) -> InYear
+    ensures { λ r. ⌜ (1900 ≤ r .year) × (daysOfYears (r .year - 1900) + r .left ≡ days)
+        × (r .left < daysOfMonths (r .year) 12) ⌝ }
+{
+    let mut year: u16 = 1900;
+    let mut left = days;
+    while year_length(year) <= left {
+        left -= year_length(year);
+        year += 1;
+    }
+    InYear { year, left }
+}
+
+// From day 15,020, the first of January 1900, on: whole years off, then whole months; the days of a month are counted from 1.
+fn counted(mjd: u16) -> Date
     requires { ⌜ 15079 ≤ mjd ⌝ }
     ensures { λ r. ⌜ r ≡ gregorian mjd ⌝ }
 {
-    let days = mjd as u32;
-    let y = (20 * days - 301_564) / 7_305;
-    let a = days - 14_956 - 1_461 * y / 4;
-    let m = (10_000 * a - 1_000) / 306_001;
-    let day = (a - 306_001 * m / 10_000) as u8;
-    if m < 14 {
-        Date {
-            year: (1900 + y) as u16,
-            month: (m - 1) as u8,
-            day,
-        }
-    } else {
-        Date {
-            year: (1901 + y) as u16,
-            month: (m - 13) as u8,
-            day,
-        }
+    let at = years_off(mjd - 15_020);
+    let year = at.year;
+    let mut left = at.left;
+    let mut month: u8 = 1;
+    while month_length(year, month) <= left {
+        left -= month_length(year, month);
+        month += 1;
+    }
+    Date {
+        year,
+        month,
+        day: (left + 1) as u8,
     }
 }
 
@@ -48,6 +95,6 @@ pub fn date_of(mjd: u16) -> Answer
     if mjd < 15079 {
         Answer::Refused(Fault::TooEarly)
     } else {
-        Answer::Is(by_formula(mjd))
+        Answer::Is(counted(mjd))
     }
 }

@@ -7,8 +7,8 @@ use borrow.Author.Needs.{needs}
 use Rattle.calendar.proofs.date_of.Statement.{statement}
 use Rattle.calendar.proofs.date_of.Tie as tie
 
-by-formula-requires : tie.Need-by-formula-requires
-by-formula-requires c κs = search needs
+counted-requires : tie.Need-counted-requires
+counted-requires c κs = search needs
 
 returns : tie.Need-returns
 unfolding dateOf
@@ -16,7 +16,7 @@ returns c = rw (lt-ltb _ _ (c .if1 .taken))
 
 returns-2 : tie.Need-returns-2
 unfolding dateOf
-returns-2 c = rw (le-ltb _ _ (c .before .if1 .left)) (ap value (c .by-formula .ensures))
+returns-2 c = rw (le-ltb _ _ (c .before .if1 .left)) (ap value (c .counted .ensures))
 
 pub date-of-spec : {M : Type 1} → statement M
-date-of-spec = tie.close (tie.spec by-formula-requires returns returns-2)
+date-of-spec = tie.close (tie.spec counted-requires returns returns-2)
