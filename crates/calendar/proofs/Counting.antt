@@ -3,14 +3,27 @@ use mathlib.Core.Path.{_≡_, refl, sym, ap, _∙_}
 use mathlib.Core.Logic.{⊎-elim}
 use mathlib.Core.Bool.{Bool, true, false}
 use mathlib.Core.List.{List, [], _∷_}
-use Prim.Native.Nat.{ℕ, zero, suc, _+_, _-_, _*_, _<_, _≤_}
+use Prim.Native.Nat.{ℕ, zero, suc, _+_, _-_, _*_, _%_, _<_, _≤_}
 use native.Mathlib.Nat.{eq-or-lt-of-le}
 use native.Mathlib.Omega.{arith}
+use borrow.Author.Tests.{eq-eqb, ne-eqb}
+use lib.Dec.{eqb}
 use lib.ListN.{getD}
 use Rattle.calendar.specs.declared.Date.{Date}
 use Rattle.calendar.specs.Calendar.{leap, daysIn, dated, gregorian}
 use Rattle.calendar.specs.Dates.{daysOfMonths, daysOfYears, mjdOf, Valid}
 use Rattle.calendar.proofs.Dates.{lengths, month-adds, of-date}
+
+module _ (y : ℕ) where
+  -- a year that 4 does not divide is none of the hundreds
+  pub no-fourth : (y % 4 ≡ 0 → ⊥) → leap y ≡ false
+  no-fourth h = rw (ne-eqb (y % 100) 0 (λ e. h (omega arith)), ne-eqb (y % 4) 0 h) refl
+
+  pub a-fourth : y % 4 ≡ 0 → (y % 100 ≡ 0 → ⊥) → leap y ≡ true
+  a-fourth e h = rw (ne-eqb (y % 100) 0 h, eq-eqb (y % 4) 0 e) refl
+
+  pub a-hundred : y % 100 ≡ 0 → leap y ≡ eqb (y % 400) 0
+  a-hundred e = rw (eq-eqb (y % 100) 0 e) refl
 
 pub leap-year : (y : ℕ) → leap y ≡ true → daysOfMonths y 12 ≡ 366
 unfolding daysOfMonths

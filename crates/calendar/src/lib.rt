@@ -20,15 +20,17 @@ pub enum Answer {
 // The days of January to December; February has a day more in a leap year.
 const MONTHS: [u16; 12] = [31, 28, 31, 30, 31, 30, 31, 31, 30, 31, 30, 31];
 
-// Every fourth year, but of the hundreds every fourth only: 1900 is none, 2000 is one.
+// A year that 4 divides; of the hundreds only one that 400 divides, so that 1900 is none and 2000 is one.
 fn is_leap(year: u16) -> bool
     ensures { λ r. ⌜ r ≡ leap year ⌝ }
 {
-    if year % 100 == 0 {
-        year % 400 == 0
-    } else {
-        year % 4 == 0
+    if year % 4 != 0 {
+        return false;
     }
+    if year % 100 != 0 {
+        return true;
+    }
+    year % 400 == 0
 }
 
 fn year_length(year: u16) -> u16
