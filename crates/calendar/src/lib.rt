@@ -1,4 +1,4 @@
-// "The date is the Gregorian one of the MJD": counted as docs/DATES.md does it with pencil and paper, whole years off first, then whole months.
+// "The date is the Gregorian one of the MJD": counted as docs/DATES.md does it with pencil and paper.
 ghost use mathlib.Core.Path.{_≡_};
 ghost use Prim.Native.Nat.{_+_, _-_, _<_, _≤_};
 ghost use Rattle.calendar.specs.Calendar.{leap, daysIn, dateOf, gregorian, told};
@@ -71,7 +71,7 @@ fn years_off(days: u16) -> InYear
     InYear { year, left }
 }
 
-// From day 15,020, the first of January 1900, on: whole years off, then whole months; the days of a month are counted from 1.
+// From day 15,020, the first of January 1900, on: whole years off, then whole months; a month's days count from 1.
 fn counted(mjd: u16) -> Date
     requires { ⌜ 15079 ≤ mjd ⌝ }
     ensures { λ r. ⌜ r ≡ gregorian mjd ⌝ }
