@@ -50,9 +50,13 @@ hold(len(names) == 12, 'there are not twelve months')
 begin = number(re.search(r'day ([\d,]+) is 1 January 1900', page).group(1))
 hold('mjd - %d_%03d' % divmod(begin, 1000) in source, 'the routine does not begin on day %d' % begin)
 
+# the two bytes
+first, second, high, low, mjd = re.search(r'(\w\w) (\w\w) is (\d+) × 256 \+ (\d+) = ([\d,]+), and', page).groups()
+hold([int(first, 16), int(second, 16)] == [int(high), int(low)] and int(high) * 256 + int(low) == number(mjd), 'the two bytes')
+
 # every date that is named
 named = re.findall(r'([\d,]+)(?:, which)? is (\d+) ([A-Z][a-z]+) (\d{4})', page)
-hold(len(named) >= 5, 'the page names only %d dates' % len(named))
+hold(len(named) >= 6, 'the page names only %d dates' % len(named))
 for day, d, m, y in named:
     if number(day) != begin:
         hold(told.get(number(day)) == (int(y), names.index(m) + 1, int(d)), '%s is not %s %s %s' % (day, d, m, y))
