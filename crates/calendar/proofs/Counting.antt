@@ -43,12 +43,12 @@ same-but-february y zero h = refl
 same-but-february y (suc zero) h = rw (h refl) refl
 same-but-february y (suc (suc i)) h = refl
 
+pub february-of-28 : (m : ℕ) → m ≡ 2 → getD months (m - 1) 0 ≡ 28
+february-of-28 m e = rw e refl
+
 module _ (y m : ℕ) where
   pub by-the-list : 1 ≤ m → (m ≡ 2 → leap y ≡ false) → getD months (m - 1) 0 ≡ daysIn y m
   by-the-list p h = same-but-february y (m - 1) (λ (e : m - 1 ≡ 1). h (omega arith))
-
-  pub february-of-28 : m ≡ 2 → getD months (m - 1) 0 ≡ 28
-  february-of-28 e = rw e refl
 
   pub a-day-more : m ≡ 2 → leap y ≡ true → getD months (m - 1) 0 + 1 ≡ daysIn y m
   a-day-more e f = rw (e, f) refl

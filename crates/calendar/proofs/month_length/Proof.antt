@@ -25,8 +25,8 @@ is-leap-requires c κs = search needs
 
 add-result : tie.Need-add-result
 add-result c =
-    let a = c .before .before .before .args in
-    omega (arith, february-of-28 (a .year) (a .month) (c .before .before .if1 .left))
+    let start = c .before .before .before in
+    omega (arith, february-of-28 (start .args .month) (c .before .before .if1 .left))
 
 returns-2 : tie.Need-returns-2
 returns-2 c =
