@@ -2,7 +2,7 @@
 use mathlib.Core.Path.{_≡_, refl, sym, ap, _∙_}
 use mathlib.Core.Logic.{⊎-elim}
 use mathlib.Core.Bool.{Bool, true, false}
-use mathlib.Core.List.{List, [], _∷_}
+use mathlib.Core.List.{List}
 use Prim.Native.Nat.{ℕ, zero, suc, _+_, _-_, _*_, _%_, _<_, _≤_}
 use native.Mathlib.Nat.{eq-or-lt-of-le}
 use native.Mathlib.Omega.{arith}
@@ -33,9 +33,9 @@ pub common-year : (y : ℕ) → leap y ≡ false → daysOfMonths y 12 ≡ 365
 unfolding daysOfMonths
 common-year y e = rw e refl
 
--- the months of a common year
+-- the months of a common year, of 1901 say: by computation the list of the code
 abbrev pub months : List ℕ
-months = 31 ∷ 28 ∷ 31 ∷ 30 ∷ 31 ∷ 30 ∷ 31 ∷ 31 ∷ 30 ∷ 31 ∷ 30 ∷ 31 ∷ []
+months = lengths 1901
 
 -- they are those of every year, but for a leap year's February
 same-but-february : (y i : ℕ) → (i ≡ 1 → leap y ≡ false) → getD months i 0 ≡ getD (lengths y) i 0

@@ -72,20 +72,28 @@ for year, days in tens.items():
     hold(told[begin + days] == (year, 1, 1), '%d days are not the years before %d' % (days, year))
 
 
-# the steps, by the page's numbers
+# the steps, by the page's numbers; months are counted from 0
 def leap(year):
     return year % 4 == 0 and (year % 100 != 0 or year % 400 == 0)
 
 
+def year_days(year):
+    return 366 if leap(year) else 365
+
+
+def month_days(year, month):
+    return 29 if month == 1 and leap(year) else lengths[month]
+
+
 def steps(mjd):
-    left, year, month = mjd - begin, 1900, 1
-    while left >= (366 if leap(year) else 365):
-        left -= 366 if leap(year) else 365
+    left, year, month = mjd - begin, 1900, 0
+    while left >= year_days(year):
+        left -= year_days(year)
         year += 1
-    while left >= lengths[month - 1] + (month == 2 and leap(year)):
-        left -= lengths[month - 1] + (month == 2 and leap(year))
+    while left >= month_days(year, month):
+        left -= month_days(year, month)
         month += 1
-    return year, month, left + 1
+    return year, month + 1, left + 1
 
 
 firsts = [mjd for mjd in told if told[mjd][2:] == (1,)]
@@ -105,7 +113,7 @@ for what, off, rest in rows(heading.group(0))[1:]:
         left -= number(off)
         if what in names:
             hold(names.index(what) == month, '%s is not the next month' % what)
-            hold(number(off) == lengths[month] + (month == 1 and leap(year)), 'the days of %s' % what)
+            hold(number(off) == month_days(year, month), 'the days of %s' % what)
             month += 1
         elif what.startswith('up to'):
             hold(number(off) == begin, 'the beginning')
@@ -113,15 +121,14 @@ for what, off, rest in rows(heading.group(0))[1:]:
             year = number(what.split()[1])
             hold(number(off) == tens[year], 'the days before %d' % year)
         else:
-            hold(number(what[:4]) == year and number(off) == (366 if leap(year) else 365), 'the days of %s' % what)
+            hold(number(what[:4]) == year and number(off) == year_days(year), 'the days of %s' % what)
             hold(what[4:] == (', a leap year' if leap(year) else ''), what)
             year += 1
     elif found := re.match(r'(\d+) has (\d+): \*\*the year is (\d+)', what):
-        hold([number(n) for n in found.groups()] == [year, 366 if leap(year) else 365, year], what)
-        hold(left < (366 if leap(year) else 365), what)
+        hold([number(n) for n in found.groups()] == [year, year_days(year), year] and left < year_days(year), what)
         month = 0
     elif found := re.match(r'(\w+) has (\d+): \*\*the month is (\w+)', what):
-        length = lengths[month] + (month == 1 and leap(year))
+        length = month_days(year, month)
         hold(found.groups() == (names[month], str(length), names[month]) and left < length, what)
     elif found := re.match(r'(\d+) and one more: \*\*the day is (\d+)', what):
         hold([number(n) for n in found.groups()] == [left, left + 1], what)
