@@ -10,5 +10,6 @@ pub mod NextDigit
 pub mod SomeBits
 pub mod LowBits
 pub mod NumberBits
+pub mod HalfBytes
 pub mod Shown
 pub mod Unique

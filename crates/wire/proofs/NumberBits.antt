@@ -59,12 +59,12 @@ bytes-taken (suc n) s i h =
     ap (λ l. getD s i 0 ∷ l) (bytes-taken n s (i + 1) (omega arith) ∙ ap (λ k. take n (drop k s)) (add-one i))
     ∙ ap (take (suc n)) (sym (drop-cons s i 0 (omega arith)))
 
-bytes-bytes : (n : ℕ) (s : List ℕ) (i : ℕ) → Bytes s → Bytes (bytesAt n s i)
+pub bytes-bytes : (n : ℕ) (s : List ℕ) (i : ℕ) → Bytes s → Bytes (bytesAt n s i)
 bytes-bytes zero s i h j = omega arith
 bytes-bytes (suc n) s i h zero = h i
 bytes-bytes (suc n) s i h (suc j) = bytes-bytes n s (i + 1) h j
 
-bytes-length : (n : ℕ) (s : List ℕ) (i : ℕ) → length (bytesAt n s i) ≡ n
+pub bytes-length : (n : ℕ) (s : List ℕ) (i : ℕ) → length (bytesAt n s i) ≡ n
 bytes-length zero s i = refl
 bytes-length (suc n) s i = ap suc (bytes-length n s (i + 1))
 

@@ -31,14 +31,14 @@ show-next j a d h =
     let r : (a * 10 + d) % 10 ≡ d = omega arith in
     ap₂ (λ x y. bcdShow j x * 16 + y) q r
 
-after-shown : (k j a v x : ℕ) → bcdAfter a k v ≡ value x
+after-shown : (k i j a v x : ℕ) → bcdAfter i a k v ≡ value x
     → bcdShow (j + k) x ≡ bcdShow j a * 2 ^ (4 * k) + v % 2 ^ (4 * k)
 unfolding bcdAfter
-after-shown zero j a v x = λ e.
+after-shown zero i j a v x = λ e.
     let n : j + 0 ≡ j = omega arith in
     let z : v % 1 ≡ 0 = mod-one v in
     ap₂ bcdShow n (sym (value-is e)) ∙ omega arith
-after-shown (suc k) j a v x =
+after-shown (suc k) i j a v x =
     if-case (λ r. r ≡ value x → bcdShow (j + suc k) x ≡ bcdShow j a * 2 ^ (4 * suc k) + v % 2 ^ (4 * suc k))
     (ltb 9 (digit k v))
     (λ _ e. absurd (never (sym e)))
@@ -47,7 +47,7 @@ after-shown (suc k) j a v x =
     let p : ℕ = 2 ^ (4 * k) in
     let n : j + suc k ≡ suc j + k = omega arith in
     ap (λ i. bcdShow i x) n
-    ∙ after-shown k (suc j) (a * 10 + d) v x e
+    ∙ after-shown k (i + 1) (suc j) (a * 10 + d) v x e
     ∙ ap (λ y. y * p + v % p) (show-next j a d (ltb-false 9 d h))
     ∙ digit-up (bcdShow j a) d p (v % p)
     ∙ ap₂ (λ y z. bcdShow j a * y + z) (sym (digit-more k)) (sym (digits-split k v)))
@@ -56,7 +56,7 @@ after-shown (suc k) j a v x =
 pub bcd-shown : (n v x : ℕ) → v < 2 ^ (4 * n) → bcdOf v n ≡ value x → bcdShow n x ≡ v
 unfolding bcdOf bcdShow
 bcd-shown n v x h e =
-    ap (λ i. bcdShow i x) (sym (zero-add n)) ∙ after-shown n 0 0 v x e ∙ rw (zero-mul, zero-add) (mod-eq-of-lt h)
+    ap (λ i. bcdShow i x) (sym (zero-add n)) ∙ after-shown n 0 0 0 v x e ∙ rw (zero-mul, zero-add) (mod-eq-of-lt h)
 
 -- ---- what is shown is read
 
@@ -86,10 +86,10 @@ show-high (suc k) d r l h =
     ∙ (let e : d * 2 ^ (4 * suc k) ≡ d * 2 ^ (4 * k) * 16 = ap (λ y. d * y) (digit-more k ∙ mul-comm 16 (2 ^ (4 * k)))
     ∙ sym (mul-assoc d (2 ^ (4 * k)) 16) in omega arith)
 
-after-of-shown : (k c u a : ℕ) → a < 10 ^ k → bcdAfter c k (u * 2 ^ (4 * k) + bcdShow k a) ≡ value (c * 10 ^ k + a)
+after-of-shown : (k i c u a : ℕ) → a < 10 ^ k → bcdAfter i c k (u * 2 ^ (4 * k) + bcdShow k a) ≡ value (c * 10 ^ k + a)
 unfolding bcdAfter
-after-of-shown zero c u a h = ap value (omega arith)
-after-of-shown (suc k) c u a h =
+after-of-shown zero i c u a h = ap value (omega arith)
+after-of-shown (suc k) i c u a h =
     let t : 10 ^ suc k ≡ 10 * 10 ^ k = pow-succ' 10 k in
     let p : ℕ = 2 ^ (4 * k) in
     let d : ℕ = a / 10 ^ k in
@@ -102,12 +102,12 @@ after-of-shown (suc k) c u a h =
     ∙ sym (digit-up u d p (bcdShow k r)) in
     let g : digit k ((u * 16 + d) * p + bcdShow k r) ≡ d =
     ap (λ y. y % 16) (high (u * 16 + d) (4 * k) (show-below k r)) ∙ omega arith in
-    ap (bcdAfter c (suc k)) v
+    ap (bcdAfter i c (suc k)) v
     ∙ rw (g, le-ltb 9 d (omega arith))
-    (after-of-shown k (c * 10 + d) (u * 16 + d) r low-r
+    (after-of-shown k (i + 1) (c * 10 + d) (u * 16 + d) r low-r
     ∙ ap value (rw (add-mul, mul-assoc, add-assoc) (ap₂ (λ y z. c * y + z) (sym t) cut)))
 
 -- a number of n digits is read from what it shows
 pub bcd-of-shown : (n a : ℕ) → a < 10 ^ n → bcdOf (bcdShow n a) n ≡ value a
 unfolding bcdOf
-bcd-of-shown n a h = ap (bcdAfter 0 n) (omega arith) ∙ after-of-shown n 0 0 a h ∙ ap value (omega arith)
+bcd-of-shown n a h = ap (bcdAfter 0 0 n) (omega arith) ∙ after-of-shown n 0 0 0 a h ∙ ap value (omega arith)

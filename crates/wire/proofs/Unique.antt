@@ -1,5 +1,5 @@
 -- Two answers that tell the same are the same.
-use mathlib.Core.Path.{_≡_, refl, sym, ap, _∙_}
+use mathlib.Core.Path.{_≡_, sym, ap, _∙_}
 use Rattle.wire.specs.Reading.{Result, value, refused}
 use Rattle.wire.proofs.ReadingLaws.{value-is, refused-is, never}
 use Rattle.wire.specs.Digits.{told}
@@ -23,6 +23,6 @@ module _ {A F W R : Type 0} (told : R → Result W A) (is : A → R) (no : F →
 
 pub digits-once : (p q : Digits) → told p ≡ told q → p ≡ q
 digits-once (Value a) (Value b) e = ap Value (value-is e)
-digits-once (Value a) Bad e = absurd (never e)
-digits-once Bad (Value b) e = absurd (never (sym e))
-digits-once Bad Bad e = refl
+digits-once (Value a) (Bad j) e = absurd (never e)
+digits-once (Bad i) (Value b) e = absurd (never (sym e))
+digits-once (Bad i) (Bad j) e = ap Bad (refused-is e)

@@ -4,8 +4,8 @@ ghost use Rattle.wire.specs.Digits.{bcdOf, told};
 
 pub enum Digits {
     Value(u32),
-    // A digit above 9.
-    Bad,
+    // The place of the first digit above 9, the highest of the n as 0.
+    Bad(u32),
 }
 
 // The number that the n low digits of v are. What stands above the eighth digit is 0, as v has no more.
@@ -18,7 +18,7 @@ pub fn bcd(v: u32, n: u32) -> Digits
         k -= 1;
         let d = (v >> (4 * k)) % 16;
         if 9 < d {
-            return Digits::Bad;
+            return Digits::Bad(n - 1 - k);
         }
         a = a * 10 + d;
     }
