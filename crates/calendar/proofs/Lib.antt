@@ -2,3 +2,4 @@
 pub mod Dates
 pub mod Counting
 pub mod Unique
+pub mod Reported

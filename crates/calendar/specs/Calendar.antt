@@ -42,7 +42,7 @@ gregorian mjd = daysOn (mjd - 15079)
 
 -- "the date is the Gregorian one of the MJD"; "65 MJD below 15,079"
 unfoldable pub dateOf : ℕ → Answered Date
-dateOf mjd = day mjd >>= λ d. value (gregorian d)
+dateOf mjd = day 0 mjd >>= λ d. value (gregorian d)
 
 -- document 01's number for every answer
 abbrev pub told : Answer → Answered Date

@@ -95,7 +95,7 @@ pub fn date_of(mjd: u16) -> Answer
     ensures { λ r. ⌜ told r ≡ dateOf mjd ⌝ }
 {
     if mjd < 15079 {
-        Answer::Refused(Fault::TooEarly)
+        Answer::Refused(Fault::TooEarly { place: 0 })
     } else {
         Answer::Is(counted(mjd))
     }

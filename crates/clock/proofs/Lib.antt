@@ -2,4 +2,6 @@
 pub mod SignedMinutes
 pub mod Ranges
 pub mod Exactly
+pub mod FirstWrong
+pub mod Reported
 pub mod Unique

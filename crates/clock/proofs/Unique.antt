@@ -1,8 +1,8 @@
 -- Two answers that tell the same are the same.
-use mathlib.Core.Path.{_≡_, refl}
+use mathlib.Core.Path.{_≡_, refl, ap, ap₂}
 use native.Mathlib.Omega.{arith}
 use Rattle.wire.proofs.Unique.{answer-once}
-use Rattle.clock.specs.Fault.{numbered}
+use Rattle.clock.specs.Fault.{Why, numberOf, numbered}
 use Rattle.clock.specs.Time as time
 use Rattle.clock.specs.Duration as duration
 use Rattle.clock.specs.Offset as offset
@@ -15,16 +15,20 @@ use Rattle.clock.specs.declared.duration.Answer.the-variants.{Is as dura
 use Rattle.clock.specs.declared.offset.Answer.{Answer as Offset}
 use Rattle.clock.specs.declared.offset.Answer.the-variants.{Minutes, Refused as offset-refused}
 
+-- two refusals with different numbers are two
+apart : {v w : Why} → v ≡ w → (numberOf v ≡ numberOf w → ⊥) → ⊥
+apart e h = h (ap numberOf e)
+
 pub fault-once : (p q : Fault) → numbered p ≡ numbered q → p ≡ q
-fault-once BadDigit BadDigit e = refl
-fault-once BadDigit OutOfRange e = absurd (omega arith)
-fault-once BadDigit TooEarly e = absurd (omega arith)
-fault-once OutOfRange BadDigit e = absurd (omega arith)
-fault-once OutOfRange OutOfRange e = refl
-fault-once OutOfRange TooEarly e = absurd (omega arith)
-fault-once TooEarly BadDigit e = absurd (omega arith)
-fault-once TooEarly OutOfRange e = absurd (omega arith)
-fault-once TooEarly TooEarly e = refl
+fault-once (BadDigit a i) (BadDigit b j) e = ap₂ BadDigit (ap (λ w. w .place) e) (ap (λ w. w .digit) e)
+fault-once (BadDigit a i) (OutOfRange b) e = absurd (apart e (omega arith))
+fault-once (BadDigit a i) (TooEarly b) e = absurd (apart e (omega arith))
+fault-once (OutOfRange a) (BadDigit b j) e = absurd (apart e (omega arith))
+fault-once (OutOfRange a) (OutOfRange b) e = ap OutOfRange (ap (λ w. w .place) e)
+fault-once (OutOfRange a) (TooEarly b) e = absurd (apart e (omega arith))
+fault-once (TooEarly a) (BadDigit b j) e = absurd (apart e (omega arith))
+fault-once (TooEarly a) (OutOfRange b) e = absurd (apart e (omega arith))
+fault-once (TooEarly a) (TooEarly b) e = ap TooEarly (ap (λ w. w .place) e)
 
 pub time-once : (p q : Time) → time.told p ≡ time.told q → p ≡ q
 time-once =

@@ -9,7 +9,7 @@ use Rattle.clock.specs.declared.duration.Answer.the-variants.{Is, Refuse
 
 -- "A duration's hours go to 99; hour, minute and second of an offset or duration are fields of their own too."
 unfoldable pub durationOf : ℕ → ℕ → ℕ → Answered Hms
-durationOf h m s = hms 100 h m s
+durationOf h m s = hms 0 100 h m s
 
 -- document 01's number for every answer
 abbrev pub told : Answer → Answered Hms

@@ -1,11 +1,11 @@
--- The fields of a clock: two BCD digits in a byte, below a limit.
+-- The fields of a clock: two BCD digits in a byte, below a limit. The first argument is the place of the first byte.
 use mathlib.Core.Path.{_≡_}
-use Prim.Native.Nat.{ℕ, _<_}
+use Prim.Native.Nat.{ℕ, _+_, _<_}
 use lib.Dec.{ltb}
 use Rattle.wire.specs.If.{if_then_else_}
 use Rattle.wire.specs.Reading.{value, refused, _>>=_}
 use Rattle.wire.specs.Digits.{bcdOf, bcdShow}
-use Rattle.clock.specs.Fault.{Answered, plain, numbered}
+use Rattle.clock.specs.Fault.{Answered, outOfRange, inField, numbered}
 use Rattle.clock.specs.declared.Hms.{Hms}
 use Rattle.clock.specs.declared.field.Field.{Field}
 use Rattle.clock.specs.declared.field.Field.the-variants.{Is, Refused}
@@ -13,19 +13,19 @@ use Rattle.clock.specs.declared.field.Clock.{Clock}
 use Rattle.clock.specs.declared.field.Clock.the-variants as clock
 
 -- "64 hour above 23, minute or second above 59"
-abbrev pub below : ℕ → ℕ → Answered ℕ
-below limit n = if ltb n limit then value n else refused (plain 64)
+abbrev pub below : ℕ → ℕ → ℕ → Answered ℕ
+below at limit n = if ltb n limit then value n else refused (outOfRange at)
 
 -- two digits, and then the limit: "each 63, 64"
-unfoldable pub field : ℕ → ℕ → Answered ℕ
-field b limit = bcdOf b 2 >>= below limit
+unfoldable pub field : ℕ → ℕ → ℕ → Answered ℕ
+field at b limit = inField at (bcdOf b 2) >>= below at limit
 
 -- hour, minute and second, "fields left to right"; the hour is below the limit
-unfoldable pub hms : ℕ → ℕ → ℕ → ℕ → Answered Hms
-hms limit h m s = do
-  hour ← field h limit
-  minute ← field m 60
-  second ← field s 60
+unfoldable pub hms : ℕ → ℕ → ℕ → ℕ → ℕ → Answered Hms
+hms at limit h m s = do
+  hour ← field at h limit
+  minute ← field (at + 1) m 60
+  second ← field (at + 2) s 60
   value (record { hour = hour; minute = minute; second = second })
 
 -- "64 hour above 23, minute or second above 59": a clock whose fields are below their limits

@@ -4,3 +4,4 @@ pub mod Field
 pub mod Time
 pub mod Duration
 pub mod Offset
+pub mod Reported

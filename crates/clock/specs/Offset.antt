@@ -14,12 +14,16 @@ abbrev pub signed : Bool → ℕ → ℤ
 signed true n = negℤ (pos n)
 signed false n = pos n
 
--- hour and minute, "fields of their own too", as signed minutes
-unfoldable pub offsetOf : Bool → ℕ → ℕ → Answered ℤ
-offsetOf behind h m = do
-  hour ← field h 24
-  minute ← field m 60
+-- hour and minute, "fields of their own too", as signed minutes; the hour stands at the place `at`
+unfoldable pub offsetAt : ℕ → Bool → ℕ → ℕ → Answered ℤ
+offsetAt at behind h m = do
+  hour ← field at h 24
+  minute ← field (at + 1) m 60
   value (signed behind (hour * 60 + minute))
+
+-- an offset by itself
+abbrev pub offsetOf : Bool → ℕ → ℕ → Answered ℤ
+offsetOf behind h m = offsetAt 0 behind h m
 
 -- the number that its sixteen bits are, two BCD digits of hours and two of minutes, whatever its sign
 abbrev pub offsetShown : ℤ → ℕ

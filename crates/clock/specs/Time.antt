@@ -1,29 +1,34 @@
 -- A time.
 use Prim.{Unit}
 use mathlib.Core.List.{[], _∷_}
-use Prim.Native.Nat.{ℕ, _≤_}
+use Prim.Native.Nat.{ℕ, _+_, _≤_}
 use lib.Dec.{ltb, eqb}
 use Rattle.wire.specs.If.{if_then_else_}
 use Rattle.wire.specs.Reading.{value, refused, _>>=_}
 use Rattle.wire.specs.Number.{number}
 use Rattle.wire.specs.Digits.{bcdShow}
-use Rattle.clock.specs.Fault.{Answered, plain, numbered}
+use Rattle.clock.specs.Fault.{Answered, tooEarly, numbered}
 use Rattle.clock.specs.Field.{hms, InRange}
 use Rattle.clock.specs.declared.time.Moment.{Moment}
 use Rattle.clock.specs.declared.time.Moment.the-variants.{Undefined, At}
 use Rattle.clock.specs.declared.time.Answer.{Answer}
 use Rattle.clock.specs.declared.time.Answer.the-variants.{Is, Refused}
 
--- "65 MJD below 15,079"
-abbrev pub day : ℕ → Answered ℕ
-day mjd = if ltb mjd 15079 then refused (plain 65) else value mjd
+-- "65 MJD below 15,079": a day that stands at the place `at`
+abbrev pub day : ℕ → ℕ → Answered ℕ
+day at mjd = if ltb mjd 15079 then refused (tooEarly at) else value mjd
 
 -- "Forty ones mean "undefined", before any check; else MJD, hour, minute and second are four fields."
-unfoldable pub timeOf : ℕ → ℕ → ℕ → ℕ → Answered Moment
-timeOf mjd h m s = if eqb (number (mjd ∷ h ∷ m ∷ s ∷ [])) 0xFF_FFFF_FFFF then value Undefined else do
-  d ← day mjd
-  t ← hms 24 h m s
+-- The MJD stands at the place `at`, the hour two bytes behind it.
+unfoldable pub timeAt : ℕ → ℕ → ℕ → ℕ → ℕ → Answered Moment
+timeAt at mjd h m s = if eqb (number (mjd ∷ h ∷ m ∷ s ∷ [])) 0xFF_FFFF_FFFF then value Undefined else do
+  d ← day at mjd
+  t ← hms (at + 2) 24 h m s
   value (At (record { mjd = d; clock = t }))
+
+-- a time by itself
+abbrev pub timeOf : ℕ → ℕ → ℕ → ℕ → Answered Moment
+timeOf mjd h m s = timeAt 0 mjd h m s
 
 -- a time that can be read: its day is not before 15,079, and its clock is in range
 abbrev pub Defined : Moment → Type 0

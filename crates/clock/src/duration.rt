@@ -14,7 +14,7 @@ pub enum Answer {
 pub fn read(hour: u8, minute: u8, second: u8) -> Answer
     ensures { λ r. ⌜ told r ≡ durationOf hour minute second ⌝ }
 {
-    match six_digits(100, hour, minute, second) {
+    match six_digits(0, 100, hour, minute, second) {
         Clock::Refused(f) => Answer::Refused(f),
         Clock::Is(clock) => Answer::Is(clock),
     }

@@ -4,14 +4,14 @@ mod field;
 pub mod offset;
 pub mod time;
 
-// What is wrong with a field.
+// What is wrong with a field, and the place of its first byte. A field read by itself has the place 0.
 pub enum Fault {
-    // 63: a BCD digit above 9.
-    BadDigit,
+    // 63: a BCD digit above 9. The first of them, in half bytes from the field's start: 0 is the high half of its first byte.
+    BadDigit { place: usize, digit: u32 },
     // 64: an hour above 23, a minute or a second above 59.
-    OutOfRange,
+    OutOfRange { place: usize },
     // 65: an MJD below 15,079.
-    TooEarly,
+    TooEarly { place: usize },
 }
 
 // Hours, minutes and seconds: a time of day or a duration.

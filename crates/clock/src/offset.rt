@@ -2,7 +2,7 @@
 // UTC); 1 with 0000 is zero."
 ghost use mathlib.Core.Path.{_≡_};
 ghost use Prim.Native.Nat.{_<_};
-ghost use Rattle.clock.specs.Offset.{offsetOf, signed, told};
+ghost use Rattle.clock.specs.Offset.{offsetAt, offsetOf, signed, told};
 use super::Fault;
 use super::field::Field;
 use super::field::two_digits;
@@ -20,11 +20,13 @@ fn signed_minutes(behind: bool, minutes: u16) -> i16
     if behind { -n } else { n }
 }
 
-pub fn read(behind: bool, hour: u8, minute: u8) -> Answer
-    ensures { λ r. ⌜ told r ≡ offsetOf behind hour minute ⌝ }
+// An offset whose first byte stands at a place.
+pub fn read_at(at: u16, behind: bool, hour: u8, minute: u8) -> Answer
+    ensures { λ r. ⌜ told r ≡ offsetAt at behind hour minute ⌝ }
 {
-    let h = two_digits(hour, 24);
-    let m = two_digits(minute, 60);
+    let at = at as usize;
+    let h = two_digits(at, hour, 24);
+    let m = two_digits(at + 1, minute, 60);
     match h {
         Field::Refused(f) => Answer::Refused(f),
         Field::Is(hour) => match m {
@@ -35,4 +37,11 @@ pub fn read(behind: bool, hour: u8, minute: u8) -> Answer
             )),
         },
     }
+}
+
+// An offset by itself.
+pub fn read(behind: bool, hour: u8, minute: u8) -> Answer
+    ensures { λ r. ⌜ told r ≡ offsetOf behind hour minute ⌝ }
+{
+    read_at(0, behind, hour, minute)
 }

@@ -7,8 +7,14 @@ use Rattle.clock.proofs.field.six_digits.Tie as tie
 two-digits-requires : tie.Need-two-digits-requires
 two-digits-requires c κs = search needs
 
+add-two-digits : tie.Need-add-two-digits
+add-two-digits c = search needs
+
 two-digits-requires-2 : tie.Need-two-digits-requires-2
 two-digits-requires-2 c κs = search needs
+
+add-two-digits-2 : tie.Need-add-two-digits-2
+add-two-digits-2 c = search needs
 
 two-digits-requires-3 : tie.Need-two-digits-requires-3
 two-digits-requires-3 c κs = search needs
@@ -86,5 +92,6 @@ returns-4 c =
 pub six-digits-spec : {M : Type 1} → statement M
 six-digits-spec =
     tie.close
-    (tie.spec two-digits-requires two-digits-requires-2 two-digits-requires-3 enum-known-h enum-known-h-2 enum-known-m
-    enum-known-m-2 enum-known-s enum-known-s-2 returns returns-2 returns-3 returns-4)
+    (tie.spec two-digits-requires add-two-digits two-digits-requires-2 add-two-digits-2 two-digits-requires-3
+    enum-known-h enum-known-h-2 enum-known-m enum-known-m-2 enum-known-s enum-known-s-2 returns returns-2 returns-3
+    returns-4)

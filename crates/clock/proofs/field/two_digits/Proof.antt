@@ -8,18 +8,18 @@ use Rattle.clock.proofs.field.two_digits.Tie as tie
 bcd-requires : tie.Need-bcd-requires
 bcd-requires c κs = search needs
 
-enum-told : tie.Need-enum-told
-enum-told c = search needs
+enum-known-digit : tie.Need-enum-known-digit
+enum-known-digit c = search needs
 
 enum-known-n : tie.Need-enum-known-n
 enum-known-n c = search needs
 
-cast-t11 : tie.Need-cast-t11
-cast-t11 c = search needs
+cast-t13 : tie.Need-cast-t13
+cast-t13 c = search needs
 
 returns : tie.Need-returns
 unfolding field
-returns c = rw (← c .before .before .bcd .ensures, c .enum-told .given .1)
+returns c = rw (← c .before .before .before .bcd .ensures, c .before .digit .given .1)
 
 returns-2 : tie.Need-returns-2
 unfolding field
@@ -37,4 +37,5 @@ returns-3 c =
 
 pub two-digits-spec : {M : Type 1} → statement M
 two-digits-spec =
-    tie.close (tie.spec bcd-requires enum-told enum-known-n cast-t11 returns returns-2 returns-3)
+    tie.close
+    (tie.spec bcd-requires enum-known-digit enum-known-n cast-t13 returns returns-2 returns-3)
