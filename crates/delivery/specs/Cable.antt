@@ -5,6 +5,7 @@ use Rattle.wire.specs.Reading.{value, refused, _>>=_}
 use Rattle.wire.specs.Digits.{bcdShow}
 use Rattle.forms.specs.Fields.{Field, kept, reserved}
 use Rattle.clock.specs.Fault.{Answered}
+use Rattle.clock.specs.Reported.{Checked, digits}
 use Rattle.layout.specs.Refusal.{numbered}
 use Rattle.layout.specs.Body.{fixed}
 use Rattle.layout.specs.Widths.{size, bitsOf, byteOf, digitsOf}
@@ -44,6 +45,10 @@ fields b = do
 -- the tag 0x44, and a body of the layout's 11 bytes
 unfoldable pub cable : List ℕ → Answered Cable
 cable s = fixed s 0x44 (size layout) >>= fields
+
+-- the fields that can be refused, by their places in the body: frequency, symbol_rate
+abbrev pub checked : List Checked
+checked = digits 0 8 ∷ digits 7 7 ∷ []
 
 -- the values that its kept fields have, in the layout's order
 abbrev pub shown : Cable → List ℕ

@@ -7,6 +7,7 @@ use Rattle.wire.specs.Reading.{value, refused, _>>=_}
 use Rattle.wire.specs.Digits.{bcdShow}
 use Rattle.forms.specs.Fields.{Field, kept, reserved}
 use Rattle.clock.specs.Fault.{Answered}
+use Rattle.clock.specs.Reported.{Checked, digits}
 use Rattle.layout.specs.Refusal.{numbered}
 use Rattle.layout.specs.Body.{fixed}
 use Rattle.layout.specs.Widths.{size, bitsOf, digitsOf, bit}
@@ -72,6 +73,10 @@ fields b = do
 -- the tag 0x43, and a body of the layout's 11 bytes
 unfoldable pub satellite : List ℕ → Answered Satellite
 satellite s = fixed s 0x43 (size layout) >>= fields
+
+-- the fields that can be refused, by their places in the body: frequency, orbital_position, symbol_rate
+abbrev pub checked : List Checked
+checked = digits 0 8 ∷ digits 4 4 ∷ digits 7 7 ∷ []
 
 -- the values that the bits of a modulation system have, in front of others
 abbrev pub systemShown : System → List ℕ → List ℕ

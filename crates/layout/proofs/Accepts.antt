@@ -93,7 +93,7 @@ each-length k (x ∷ xs) h =
     ∙ (let e = mul-suc k (length xs) in omega arith)
 
 -- the item of an index, by its bytes
-item-at : (k : ℕ) (xs : List (List ℕ)) (i : ℕ) → Each k xs → i < length xs
+pub item-at : (k : ℕ) (xs : List (List ℕ)) (i : ℕ) → Each k xs → i < length xs
     → take k (drop (k * i) (joined xs)) ≡ getD xs i []
 item-at k [] i h l = absurd (omega arith)
 item-at k (x ∷ xs) zero h l = ap (λ j. take k (drop j (x ++ joined xs))) (mul-zero k) ∙ take-at x (joined xs) k (h .0)

@@ -138,3 +138,20 @@ module _ (k tag : ℕ) (s : List ℕ) (i : ℕ) where
       if-case (λ x. x ≡ value at → at + k ≤ length s) (ltb i (length b / k))
       (λ h q. omega (arith, inside k (length b) i (ltb-true i (length b / k) h), l, value-is q))
       (λ _ q. absurd (never (sym q))) (t .2)
+
+  -- its place in the body is its offset in the list
+  pub item-place : (at : ℕ) → place s tag k i ≡ value at → at ≡ 2 + k * i
+  unfolding place
+  item-place at e =
+      let t = through (items s tag k) _ at e in
+      if-case (λ x. x ≡ value at → at ≡ 2 + k * i) (ltb i (length (t .0) / k)) (λ _ q. sym (value-is q))
+      (λ _ q. absurd (never (sym q))) (t .2)
+
+  -- and no more than the length byte can count
+  pub item-low : getD s 1 0 < 256 → (at : ℕ) → place s tag k i ≡ value at → at + k < 258
+  unfolding place
+  item-low low at e =
+      let b = through (items s tag k) _ at e in
+      let f = framed-is tag s (b .0) (body-of (b .0) (b .1)) in
+      let l : length (b .0) < 256 = subst (λ r. getD r 1 0 < 256) f low in
+      omega (arith, l, ap length f, item-inside at e)

@@ -3,5 +3,6 @@ pub mod Frames
 pub mod Inside
 pub mod Exactly
 pub mod Accepts
+pub mod Reported
 pub mod Unique
 pub mod WidthLaws

@@ -29,9 +29,9 @@ use Rattle.layout.specs.declared.texts.Texts.the-variants.{Are, DoNotFit
 
 -- a field's fault has a number between those of the other refusals
 between : (f : Fault) → (62 < fault.numberOf (fault.numbered f)) × (fault.numberOf (fault.numbered f) < 66)
-between BadDigit = (omega arith, omega arith)
-between OutOfRange = (omega arith, omega arith)
-between TooEarly = (omega arith, omega arith)
+between (BadDigit at j) = (omega arith, omega arith)
+between (OutOfRange at) = (omega arith, omega arith)
+between (TooEarly at) = (omega arith, omega arith)
 
 by-number : (p q : Refusal) → numbered p ≡ numbered q → fault.numberOf (numbered p) ≡ fault.numberOf (numbered q)
     → p ≡ q

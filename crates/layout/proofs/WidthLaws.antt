@@ -19,6 +19,8 @@ use Rattle.forms.proofs.Lawful.{bytes-front, bytes-behind}
 use Rattle.forms.proofs.BitLaws.{slices, unpack-slices}
 use Rattle.forms.specs.Fields.{Field, width, unpack}
 use Rattle.wire.specs.Reading.{value}
+use Rattle.clock.specs.Fault.{inField}
+use Rattle.clock.proofs.Exactly.{read-digits}
 use Rattle.layout.specs.Widths.{bits, keptOf, keptIn, bit, size, Holds, HoldsItem}
 use Rattle.layout.specs.Body.{fixed}
 use Rattle.layout.specs.Field.{digitsAt}
@@ -79,17 +81,22 @@ module _ (b : List ℕ) (bytes : Bytes b) where
       ∙ mod-eq-of-lt (digits-below n i h)
 
   module _ (n i x : ℕ) (most : n ≤ 8) (inside : i + 4 ≤ length b) where
+    all : 8 - (8 - n) ≡ n
+    all = omega arith
+
     -- digits that are read are what their number shows, and what a number shows is read
     pub digits-shown : digitsAt b i n ≡ value x → (span (8 * i) (4 * n) b ≡ bcdShow n x) × (x < 10 ^ n)
     unfolding digitsAt
-    digits-shown e = (
-      digits-span n i most inside ∙ sym (bcd-shown n (numberAt 4 b i / 2 ^ (4 * (8 - n))) x (digits-below n i most) e),
-      bcd-below n (numberAt 4 b i / 2 ^ (4 * (8 - n))) x e,
-    )
+    digits-shown e =
+        let v : ℕ = numberAt 4 b i / 2 ^ (4 * (8 - n)) in
+        let r : bcdOf v n ≡ value x = ap (bcdOf v) (sym all) ∙ read-digits i x (bcdOf v (8 - (8 - n))) e in
+        (digits-span n i most inside ∙ sym (bcd-shown n v x (digits-below n i most) r), bcd-below n v x r)
 
     pub digits-read : span (8 * i) (4 * n) b ≡ bcdShow n x → x < 10 ^ n → digitsAt b i n ≡ value x
     unfolding digitsAt
-    digits-read e h = ap (λ v. bcdOf v n) (sym (digits-span n i most inside) ∙ e) ∙ bcd-of-shown n x h
+    digits-read e h =
+        ap (inField i)
+        (ap₂ bcdOf (sym (digits-span n i most inside) ∙ e) all ∙ bcd-of-shown n x h)
 
 -- a flag that is read is its bit
 pub flag : (x : ℕ) → x % 2 ≡ bit (eqb (x % 2) 1)

@@ -19,13 +19,15 @@ fn left_over(n: u32) -> u32
     if n < 8 { 8 - n } else { 0 }
 }
 
-// The number whose first of n digits is the high half of the byte at a place. At most eight digits are there.
+// The number whose first of n digits is the high half of the byte at a place. At most eight digits are there,
+// so that the digit told is in half bytes from the place for every n.
 pub fn digits_at(b: &[u8], at: usize, n: u32) -> Number
     ensures { λ r. ⌜ told r ≡ digitsAt (now (b .entry)) at n ⌝ }
 {
-    let v = number32_at(b, at) as u64 >> (4 * left_over(n));
-    match bcd(v as u32, n) {
-        Digits::Bad => Number::Refused(Fault::BadDigit),
+    let left = left_over(n);
+    let v = number32_at(b, at) as u64 >> (4 * left);
+    match bcd(v as u32, 8 - left) {
+        Digits::Bad(digit) => Number::Refused(Fault::BadDigit { place: at, digit }),
         Digits::Value(a) => Number::Is(a),
     }
 }

@@ -1,6 +1,6 @@
 -- An item is read exactly if the bytes are the tag, the length and items, and the fields of that item, in the order of
 -- the table, have its values.
-use Prim.Native.Nat.{ℕ, _*_, _<_}
+use Prim.Native.Nat.{ℕ, _+_, _*_, _<_}
 use mathlib.Core.Path.{_≡_, refl, sym, ap, _∙_, subst}
 use mathlib.Core.Logic.{_↔_}
 use mathlib.Core.Bool.{Bool}
@@ -14,7 +14,7 @@ use Rattle.wire.specs.Number.{numberAt, bitsAt}
 use Rattle.wire.proofs.NumberBits.{number-at-below}
 use Rattle.wire.proofs.ReadingLaws.{value-is, through}
 use Rattle.forms.specs.Fields.{Field}
-use Rattle.clock.proofs.Exactly.{offset-exactly, time-exactly}
+use Rattle.clock.proofs.Exactly.{offset-at-exactly, time-at-exactly}
 use Rattle.layout.specs.Items.{item}
 use Rattle.layout.specs.Widths.{bits, keptOf, bit, HoldsItem}
 use Rattle.layout.proofs.WidthLaws.{spans, whole-span, flag, bit-read, given-bytes, holds-item, held-item, _also_}
@@ -115,23 +115,23 @@ module _ (s : List ℕ) (bytes : Bytes s) (i : ℕ) where
 
 -- ---- local time offsets
 
-module _ (b : List ℕ) (bytes : Bytes b) (x : Offset) where
+module _ (from : ℕ) (b : List ℕ) (bytes : Bytes b) (x : Offset) where
   abbrev Polarity : Bool
   Polarity = eqb (bitsAt b 3 0 0) 1
 
   abbrev Placed : Bool → Offset → Type 0
   Placed behind y = offsets.Right behind y × (keptOf offsets.layout (spans 0 offsets.layout b) ≡ offsets.shown behind y)
 
-  offsets-places : offsets.fields b ≡ value x → Placed Polarity x
-  unfolding offsets.fields offsets.offsetAt offsets.timeAt numberAt bitsAt
+  offsets-places : offsets.fields from b ≡ value x → Placed Polarity x
+  unfolding offsets.fields offsets.offsetIn offsets.timeIn numberAt bitsAt
   offsets-places e =
-      let t = through (offsets.offsetAt b 4) _ x e in
-      let u = through (offsets.timeAt b 6) _ x (t .2) in
-      let v = through (offsets.offsetAt b 11) _ x (u .2) in
-      let local = offset-exactly Polarity (getD b 4 0) (getD b 5 0) (bytes 4) (bytes 5) (t .0) .0 (t .1) in
-      let change = time-exactly (numberAt 2 b 6) (getD b 8 0) (getD b 9 0) (getD b 10 0) (number-at-below 2 b 6 bytes)
-      (bytes 8) (bytes 9) (bytes 10) (u .0) .0 (u .1) in
-      let next = offset-exactly Polarity (getD b 11 0) (getD b 12 0) (bytes 11) (bytes 12) (v .0) .0 (v .1) in
+      let t = through (offsets.offsetIn b from 4) _ x e in
+      let u = through (offsets.timeIn b from 6) _ x (t .2) in
+      let v = through (offsets.offsetIn b from 11) _ x (u .2) in
+      let local = offset-at-exactly Polarity (getD b 4 0) (getD b 5 0) (bytes 4) (bytes 5) (t .0) (from + 4) .0 (t .1) in
+      let change = time-at-exactly (numberAt 2 b 6) (getD b 8 0) (getD b 9 0) (getD b 10 0)
+      (number-at-below 2 b 6 bytes) (bytes 8) (bytes 9) (bytes 10) (from + 6) (u .0) .0 (u .1) in
+      let next = offset-at-exactly Polarity (getD b 11 0) (getD b 12 0) (bytes 11) (bytes 12) (v .0) (from + 11) .0 (v .1) in
       subst (Placed Polarity) (value-is (v .2)) (
         record { local = (local .0, local .1); change = change .0; next = (next .0, next .1) },
         whole-span b bytes 3 0 also refl also flag _ also whole-span b bytes 2 4
@@ -140,8 +140,8 @@ module _ (b : List ℕ) (bytes : Bytes b) (x : Offset) where
             also whole-span b bytes 2 11 ∙ next .2 also refl,
       )
 
-  offsets-read : (behind : Bool) → Placed behind x → offsets.fields b ≡ value x
-  unfolding offsets.fields offsets.offsetAt offsets.timeAt numberAt bitsAt
+  offsets-read : (behind : Bool) → Placed behind x → offsets.fields from b ≡ value x
+  unfolding offsets.fields offsets.offsetIn offsets.timeIn numberAt bitsAt
   offsets-read behind (right, e) =
       let of : ℕ → List ℕ → ℕ = λ i vs. getD vs i 0 in
       let country : numberAt 3 b 0 ≡ x .«country_code» = sym (whole-span b bytes 3 0) ∙ ap (of 0) e in
@@ -153,11 +153,11 @@ module _ (b : List ℕ) (bytes : Bytes b) (x : Offset) where
       let next = sym (whole-span b bytes 2 11) ∙ ap (of 5) e in
       rw (
         polarity,
-        offset-exactly behind (getD b 4 0) (getD b 5 0) (bytes 4) (bytes 5) (x .«local_time_offset») .1
+        offset-at-exactly behind (getD b 4 0) (getD b 5 0) (bytes 4) (bytes 5) (x .«local_time_offset») (from + 4) .1
             (right .local .0, right .local .1, local),
-        time-exactly (numberAt 2 b 6) (getD b 8 0) (getD b 9 0) (getD b 10 0) (number-at-below 2 b 6 bytes) (bytes 8)
-            (bytes 9) (bytes 10) (x .«time_of_change») .1 (right .change, change),
-        offset-exactly behind (getD b 11 0) (getD b 12 0) (bytes 11) (bytes 12) (x .«next_time_offset») .1
+        time-at-exactly (numberAt 2 b 6) (getD b 8 0) (getD b 9 0) (getD b 10 0) (number-at-below 2 b 6 bytes) (bytes 8)
+            (bytes 9) (bytes 10) (from + 6) (x .«time_of_change») .1 (right .change, change),
+        offset-at-exactly behind (getD b 11 0) (getD b 12 0) (bytes 11) (bytes 12) (x .«next_time_offset») (from + 11) .1
             (right .next .0, right .next .1, next),
         country,
         region,
@@ -169,11 +169,11 @@ pub offsets-exactly : (s : List ℕ) → Bytes s → (i : ℕ) (x : Offset)
 unfolding offsets.localTimeOffset
 offsets-exactly s bytes i x = (
   λ e.
-      let t = through (item s 0x58 13 i) offsets.fields x e in
+      let t = through (item s 0x58 13 i) (offsets.fields (13 * i)) x e in
       let given = given-bytes 0x58 13 i (omega arith) s bytes offsets.layout refl (t .0) (t .1) in
-      let p = offsets-places (t .0) given x (t .2) in
+      let p = offsets-places (13 * i) (t .0) given x (t .2) in
       (_, p .0, holds-item 0x58 13 i (omega arith) s bytes offsets.layout refl (t .0) _ (t .1) (p .1)),
   λ h.
       let y = held-item 0x58 13 i (omega arith) s bytes offsets.layout refl (offsets.shown (h .0) x) (h .2) in
-      ap (λ r. r >>= offsets.fields) (y .1) ∙ offsets-read (y .0) (y .2) x (h .0) (h .1, y .3),
+      ap (λ r. r >>= offsets.fields (13 * i)) (y .1) ∙ offsets-read (13 * i) (y .0) (y .2) x (h .0) (h .1, y .3),
 )

@@ -1,3 +1,4 @@
 -- What holds of the answers.
 pub mod Layouts
+pub mod Reported
 pub mod Unique

@@ -1,8 +1,8 @@
 -- 0x58 local time offset: EN 300 468, clause 6.2.20.
 use mathlib.Core.Path.{_≡_}
 use mathlib.Core.Bool.{Bool}
-use mathlib.Core.List.{List, [], _∷_}
-use Prim.Native.Nat.{ℕ, _+_, _<_}
+use mathlib.Core.List.{List, [], _∷_, _++_}
+use Prim.Native.Nat.{ℕ, _+_, _*_, _<_}
 use lib.IntN.{ℤ, natAbs}
 use lib.Dec.{eqb}
 use lib.ListN.{getD}
@@ -10,8 +10,9 @@ use Rattle.wire.specs.Reading.{value, refused, _>>=_}
 use Rattle.wire.specs.Number.{numberAt}
 use Rattle.forms.specs.Fields.{Field, kept, reserved}
 use Rattle.clock.specs.Fault.{Answered}
-use Rattle.clock.specs.Offset.{signed, offsetOf, offsetShown}
-use Rattle.clock.specs.Time.{timeOf, Defined, timeShown}
+use Rattle.clock.specs.Reported.{Checked, offsetFields, timeFields}
+use Rattle.clock.specs.Offset.{signed, offsetAt, offsetShown}
+use Rattle.clock.specs.Time.{timeAt, Defined, timeShown}
 use Rattle.clock.specs.declared.time.Moment.{Moment}
 use Rattle.layout.specs.Refusal.{numbered}
 use Rattle.layout.specs.Items.{item, count}
@@ -33,19 +34,19 @@ layout =
     ∷ []
 
 -- an offset of 16 bits at a place of the item: hour and minute in BCD, and the polarity that serves both offsets
-unfoldable pub offsetAt : List ℕ → ℕ → Answered ℤ
-offsetAt b at = offsetOf (eqb (bitsOf layout 3 b) 1) (getD b at 0) (getD b (at + 1) 0)
+unfoldable pub offsetIn : List ℕ → ℕ → ℕ → Answered ℤ
+offsetIn b from at = offsetAt (from + at) (eqb (bitsOf layout 3 b) 1) (getD b at 0) (getD b (at + 1) 0)
 
 -- a time of 40 bits at a place of the item: MJD 16, then hour, minute and second in BCD
-unfoldable pub timeAt : List ℕ → ℕ → Answered Moment
-timeAt b at = timeOf (numberAt 2 b at) (getD b (at + 2) 0) (getD b (at + 3) 0) (getD b (at + 4) 0)
+unfoldable pub timeIn : List ℕ → ℕ → ℕ → Answered Moment
+timeIn b from at = timeAt (from + at) (numberAt 2 b at) (getD b (at + 2) 0) (getD b (at + 3) 0) (getD b (at + 4) 0)
 
--- each field by its index in the layout
-unfoldable pub fields : List ℕ → Answered Item
-fields b = do
-  local ← offsetAt b (place layout 4)
-  change ← timeAt b (place layout 5)
-  next ← offsetAt b (place layout 6)
+-- each field by its index in the layout; the item stands at the place `from` of the body
+unfoldable pub fields : ℕ → List ℕ → Answered Item
+fields from b = do
+  local ← offsetIn b from (place layout 4)
+  change ← timeIn b from (place layout 5)
+  next ← offsetIn b from (place layout 6)
   value (record {
     «country_code» = numberOf layout 0 b;
     «country_region_id» = bitsOf layout 1 b;
@@ -56,11 +57,15 @@ fields b = do
 
 -- the item of an index, of a body of items of the layout's 13 bytes behind the tag 0x58
 unfoldable pub localTimeOffset : List ℕ → ℕ → Answered Item
-localTimeOffset s index = item s 0x58 (size layout) index >>= fields
+localTimeOffset s index = item s 0x58 (size layout) index >>= fields (size layout * index)
 
 -- how many there are
 abbrev pub offsetCount : List ℕ → Answered ℕ
 offsetCount s = count s 0x58 (size layout)
+
+-- the fields of the item at the place `from` that can be refused, by their places in the body b
+abbrev pub checked : List ℕ → ℕ → List Checked
+checked b from = offsetFields (from + 4) ++ (timeFields b (from + 6) ++ offsetFields (from + 11))
 
 -- the values that its kept fields have, in the layout's order; one polarity serves both offsets
 abbrev pub shown : Bool → Item → List ℕ

@@ -4,7 +4,7 @@ ghost use Prim.Native.Nat.{_<_};
 ghost use Rattle.clock.specs.Offset as Offset;
 ghost use Rattle.clock.specs.Time as Time;
 ghost use Rattle.layout.specs.Items.{toldCount};
-ghost use Rattle.lists.specs.LocalTimeOffset.{offsetAt, timeAt, fields, localTimeOffset, offsetCount, told};
+ghost use Rattle.lists.specs.LocalTimeOffset.{offsetIn, timeIn, fields, localTimeOffset, offsetCount, told};
 use clock::time::Moment;
 use layout::Refusal;
 use layout::items::Count;
@@ -33,19 +33,29 @@ pub enum Answer {
     Refused(Refusal),
 }
 
-// The offset at a place of the item. One polarity serves both offsets.
-fn offset_at(b: &[u8], at: usize) -> clock::offset::Answer
-    requires { ⌜ at < 256 ⌝ }
-    ensures { λ r. ⌜ Offset.told r ≡ offsetAt (now (b .entry)) at ⌝ }
+// The offset at a place of the item, which stands at `from` in the body. One polarity serves both offsets.
+fn offset_in(b: &[u8], from: u16, at: u16) -> clock::offset::Answer
+    requires { ⌜ (from < 256) × (at < 256) ⌝ }
+    ensures { λ r. ⌜ Offset.told r ≡ offsetIn (now (b .entry)) from at ⌝ }
 {
-    clock::offset::read(bits_at(b, 3, 0, 0) == 1, byte_at(b, at), byte_at(b, at + 1))
+    let place = from + at;
+    let at = at as usize;
+    clock::offset::read_at(
+        place,
+        bits_at(b, 3, 0, 0) == 1,
+        byte_at(b, at),
+        byte_at(b, at + 1),
+    )
 }
 
-fn time_at(b: &[u8], at: usize) -> clock::time::Answer
-    requires { ⌜ at < 256 ⌝ }
-    ensures { λ r. ⌜ Time.told r ≡ timeAt (now (b .entry)) at ⌝ }
+fn time_in(b: &[u8], from: u16, at: u16) -> clock::time::Answer
+    requires { ⌜ (from < 256) × (at < 256) ⌝ }
+    ensures { λ r. ⌜ Time.told r ≡ timeIn (now (b .entry)) from at ⌝ }
 {
-    clock::time::read(
+    let place = from + at;
+    let at = at as usize;
+    clock::time::read_at(
+        place,
         number16_at(b, at),
         byte_at(b, at + 2),
         byte_at(b, at + 3),
@@ -53,14 +63,15 @@ fn time_at(b: &[u8], at: usize) -> clock::time::Answer
     )
 }
 
-fn fields_of(b: &[u8]) -> Answer
-    ensures { λ r. ⌜ told r ≡ fields (now (b .entry)) ⌝ }
+fn fields_of(b: &[u8], from: u16) -> Answer
+    requires { ⌜ from < 256 ⌝ }
+    ensures { λ r. ⌜ told r ≡ fields from (now (b .entry)) ⌝ }
 {
     let country_code = number24_at(b, 0);
     let country_region_id = bits_at(b, 3, 7, 2);
-    let local = offset_at(b, 4);
-    let change = time_at(b, 6);
-    let next = offset_at(b, 11);
+    let local = offset_in(b, from, 4);
+    let change = time_in(b, from, 6);
+    let next = offset_in(b, from, 11);
     match local {
         clock::offset::Answer::Refused(f) => Answer::Refused(Refusal::Field(f)),
         clock::offset::Answer::Minutes(local_time_offset) => match change {
@@ -92,6 +103,6 @@ pub fn read(s: &[u8], index: usize) -> Answer
 {
     match item_at(s, 0x58, 13, index) {
         ItemPlace::Refused(why) => Answer::Refused(why),
-        ItemPlace::At(at) => fields_of(part(s, at, 13)),
+        ItemPlace::At(at) => fields_of(part(s, at, 13), (at - 2) as u16),
     }
 }

@@ -7,14 +7,14 @@ use borrow.Author.Needs.{needs}
 use Rattle.layout.proofs.digits.digits_at.Statement.{statement}
 use Rattle.layout.proofs.digits.digits_at.Tie as tie
 
+left-over-requires : tie.Need-left-over-requires
+left-over-requires c κs = search needs
+
 number32-at-requires : tie.Need-number32-at-requires
 number32-at-requires c κs = search needs
 
 cast-v : tie.Need-cast-v
 cast-v c = search needs
-
-left-over-requires : tie.Need-left-over-requires
-left-over-requires c κs = search needs
 
 mul-v : tie.Need-mul-v
 mul-v c = search needs
@@ -26,13 +26,16 @@ shr-v : tie.Need-shr-v
 shr-v c = search needs
 
 cast-bcd : tie.Need-cast-bcd
-cast-bcd c = omega (arith, shr-le (c .before .number32-at .result) (4 * c .left-over .result), c .before .number32-at .ok)
+cast-bcd c = omega (arith, shr-le (c .number32-at .result) (4 * c .before .left-over .result), c .number32-at .ok)
+
+sub-bcd : tie.Need-sub-bcd
+sub-bcd c = search needs
 
 bcd-requires : tie.Need-bcd-requires
 bcd-requires c κs = search needs
 
-enum-told : tie.Need-enum-told
-enum-told c = search needs
+enum-known-digit : tie.Need-enum-known-digit
+enum-known-digit c = search needs
 
 enum-known-a : tie.Need-enum-known-a
 enum-known-a c = search needs
@@ -40,21 +43,21 @@ enum-known-a c = search needs
 returns : tie.Need-returns
 unfolding digitsAt
 returns c =
-    let bcd = c .before .before .bcd in
-    let after-left-over = c .before .before .before in
-    let number32-at = after-left-over .before .number32-at in
-    rw (← number32-at .ensures, ← after-left-over .left-over .ensures, ← bcd .ensures, c .enum-told .given .1)
+    let after-bcd = c .before .before .before in
+    let number32-at = after-bcd .before .number32-at in
+    let left-over = after-bcd .before .before .left-over in
+    rw (← number32-at .ensures, ← left-over .ensures, ← after-bcd .bcd .ensures, c .before .digit .given .1)
 
 returns-2 : tie.Need-returns-2
 unfolding digitsAt
 returns-2 c =
     let after-bcd = c .before .before .before in
-    let left-over = after-bcd .before .left-over in
-    let number32-at = after-bcd .before .before .number32-at in
+    let number32-at = after-bcd .before .number32-at in
+    let left-over = after-bcd .before .before .left-over in
     rw (← number32-at .ensures, ← left-over .ensures, ← after-bcd .bcd .ensures, c .before .a .given .1)
 
 pub digits-at-spec : {M : Type 1} → statement M
 digits-at-spec =
     tie.close
-    (tie.spec number32-at-requires cast-v left-over-requires mul-v cast-v-2 shr-v cast-bcd bcd-requires enum-told
-    enum-known-a returns returns-2)
+    (tie.spec left-over-requires number32-at-requires cast-v mul-v cast-v-2 shr-v cast-bcd sub-bcd bcd-requires
+    enum-known-digit enum-known-a returns returns-2)

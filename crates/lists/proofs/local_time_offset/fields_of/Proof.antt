@@ -13,14 +13,14 @@ number24-at-requires c κs = search needs
 bits-at-requires : tie.Need-bits-at-requires
 bits-at-requires c κs = search needs
 
-offset-at-requires : tie.Need-offset-at-requires
-offset-at-requires c κs = search needs
+offset-in-requires : tie.Need-offset-in-requires
+offset-in-requires c κs = search needs
 
-time-at-requires : tie.Need-time-at-requires
-time-at-requires c κs = search needs
+time-in-requires : tie.Need-time-in-requires
+time-in-requires c κs = search needs
 
-offset-at-requires-2 : tie.Need-offset-at-requires-2
-offset-at-requires-2 c κs = search needs
+offset-in-requires-2 : tie.Need-offset-in-requires-2
+offset-in-requires-2 c κs = search needs
 
 enum-known-local : tie.Need-enum-known-local
 enum-known-local c = search needs
@@ -43,18 +43,18 @@ enum-known-next-2 c = search needs
 returns : tie.Need-returns
 unfolding fields
 returns c =
-    let after-offset-at2 = c .before .before .before in
-    let offset-at = after-offset-at2 .before .before .offset-at in
-    rw (← offset-at .ensures, c .before .local .given .1)
+    let after-offset-in2 = c .before .before .before in
+    let offset-in = after-offset-in2 .before .before .offset-in in
+    rw (← offset-in .ensures, c .before .local .given .1)
 
 returns-2 : tie.Need-returns-2
 unfolding fields
 returns-2 c =
     let after-change = c .before in
     let l = after-change .before .before .before in
-    let after-time-at = l .before .before .before in
-    let offset-at = after-time-at .before .offset-at in
-    rw (← offset-at .ensures, l .local2 .given .1, ← after-time-at .time-at .ensures, after-change .change .given .1)
+    let after-time-in = l .before .before .before in
+    let offset-in = after-time-in .before .offset-in in
+    rw (← offset-in .ensures, l .local2 .given .1, ← after-time-in .time-in .ensures, after-change .change .given .1)
 
 returns-3 : tie.Need-returns-3
 unfolding fields
@@ -63,14 +63,14 @@ returns-3 c =
     let t = after-next .before .before .before in
     let l = t .before .before .before in
     let calls = l .before .before in
-    let time-at = calls .before .time-at in
-    let offset-at = calls .before .before .offset-at in
+    let time-in = calls .before .time-in in
+    let offset-in = calls .before .before .offset-in in
     rw (
-      ← offset-at .ensures,
+      ← offset-in .ensures,
       l .local2 .given .1,
-      ← time-at .ensures,
+      ← time-in .ensures,
       t .change2 .given .1,
-      ← calls .offset-at2 .ensures,
+      ← calls .offset-in2 .ensures,
       after-next .next .given .1,
     )
 
@@ -85,11 +85,11 @@ returns-4 c =
     let calls = l .before .before in
     let bits = calls .before .before .before in
     rw (
-      ← calls .before .before .offset-at .ensures,
+      ← calls .before .before .offset-in .ensures,
       l .local2 .given .1,
-      ← calls .before .time-at .ensures,
+      ← calls .before .time-in .ensures,
       t .change2 .given .1,
-      ← calls .offset-at2 .ensures,
+      ← calls .offset-in2 .ensures,
       n .next2 .given .1,
       bits .bits-at .ensures,
       bits .before .number24-at .ensures,
@@ -100,6 +100,6 @@ returns-4 c =
 pub fields-of-spec : {M : Type 1} → statement M
 fields-of-spec =
     tie.close
-    (tie.spec number24-at-requires bits-at-requires offset-at-requires time-at-requires offset-at-requires-2
+    (tie.spec number24-at-requires bits-at-requires offset-in-requires time-in-requires offset-in-requires-2
     enum-known-local enum-known-local-2 enum-known-change enum-known-change-2 enum-known-next enum-known-next-2 returns
     returns-2 returns-3 returns-4)
