@@ -8,8 +8,8 @@ use Rattle.wire.specs.Reading.{value}
 use Rattle.wire.specs.Number.{numberAt, bitsAt}
 use Rattle.wire.specs.Digits.{bcdAfter, bcdOf}
 use Rattle.clock.specs.Field.{field, hms}
-use Rattle.clock.specs.Time.{timeOf}
-use Rattle.clock.specs.Offset.{offsetOf}
+use Rattle.clock.specs.Time.{timeAt}
+use Rattle.clock.specs.Offset.{offsetAt}
 use Rattle.clock.specs.declared.time.Moment.the-variants.{At}
 use Rattle.layout.specs.Body.{framed, fixed}
 use Rattle.layout.specs.Items.{items, place, item}
@@ -51,8 +51,8 @@ pub offset-example : offsets.localTimeOffset
       «time_of_change» = At (record { mjd = 0xC079; clock = record { hour = 12; minute = 45; second = 0 } });
       «next_time_offset» = negℤ (pos 135);
     })
-unfolding offsets.localTimeOffset offsets.fields offsets.offsetAt offsets.timeAt item place items framed numberAt bitsAt
-    timeOf offsetOf hms field bcdOf bcdAfter
+unfolding offsets.localTimeOffset offsets.fields offsets.offsetIn offsets.timeIn item place items framed numberAt bitsAt
+    timeAt offsetAt hms field bcdOf bcdAfter
 offset-example = refl
 
 -- two services: 0x1020 of type 0x01 and 0x1038 of type 0x02

@@ -1,3 +1,4 @@
--- That each reading refuses in document 01's order, and what it reads out of a descriptor made by hand.
+-- That each reading refuses in document 01's order, what it reads out of a descriptor made by hand, and what it tells of a wrong one.
 pub mod Order
 pub mod Examples
+pub mod Refused

@@ -107,16 +107,16 @@ module _ (k tag : ℕ) (some : 0 < k) where
         if-case (λ x. x ≡ refused (plain 62)) (eqb (length b % k) 0) (λ q. absurd (g (cut s b e q))) (λ _. refl));
   }
 
-  item-order : {A : Type 0} (f : List ℕ → Answered A) → ListInOrder k tag (λ s i. item s tag k i >>= f)
+  item-order : {A : Type 0} (f : ℕ → List ℕ → Answered A) → ListInOrder k tag (λ s i. item s tag k i >>= f i)
   unfolding item place
   item-order f = record {
     at = λ i. record {
-      tag-first = λ s h. refused-on (item s tag k i) f
+      tag-first = λ s h. refused-on (item s tag k i) (f i)
           (refused-on (place s tag k i) _ (refused-on (items s tag k) _ (items-order .tag-first s h)));
-      then-body = λ s h g. refused-on (item s tag k i) f
+      then-body = λ s h g. refused-on (item s tag k i) (f i)
           (refused-on (place s tag k i) _ (refused-on (items s tag k) _ (items-order .then-body s h g)));
     };
-    then-index = λ s xs i are l. refused-on (item s tag k i) f (item-past k tag some s xs are i l);
+    then-index = λ s xs i are l. refused-on (item s tag k i) (f i) (item-past k tag some s xs are i l);
   }
 
 -- ---- the eleven

@@ -10,7 +10,7 @@ use Rattle.wire.specs.Reading.{value, refused}
 use Rattle.wire.specs.Number.{number}
 use Rattle.clock.specs.Fault.{Why, numberOf}
 use Rattle.clock.specs.Field.{hms}
-use Rattle.clock.specs.Time.{timeOf}
+use Rattle.clock.specs.Time.{timeAt}
 use Rattle.clock.specs.declared.Hms.{Hms}
 use Rattle.clock.specs.declared.time.Moment.the-variants.{At}
 use Rattle.clock.proofs.Exactly.{time-exactly}
@@ -35,8 +35,8 @@ date-is mjd d low valid e =
 
 -- a day from 15,079 on, at one clock
 pub told : (mjd h m s : ℕ) (d : Date) (t : Hms) → 15079 ≤ mjd → Valid d → mjdOf d ≡ mjd → s < 255
-    → hms 24 h m s ≡ value t → Told mjd h m s d t
-unfolding timeOf
+    → hms 2 24 h m s ≡ value t → Told mjd h m s d t
+unfolding timeAt
 told mjd h m s d t low valid number l e =
     record {
       moment = rw (not-ones mjd h m s l, le-ltb mjd 15079 low, e);
@@ -57,7 +57,7 @@ every-clock mjd d low high valid number t right =
     }
 
 pub no-day : (mjd : ℕ) → mjd < 15079 → holds (noDay mjd 65)
-unfolding timeOf dateOf
+unfolding timeAt dateOf
 no-day mjd l = (
   rw (lt-ltb mjd 15079 l) refl,
   λ h m s i j k.
@@ -65,6 +65,6 @@ no-day mjd l = (
       rw (ne-eqb (number (mjd ∷ h ∷ m ∷ s ∷ [])) 0xFF_FFFF_FFFF e, lt-ltb mjd 15079 l) refl,
 )
 
-pub no-clock : (h m s : ℕ) (w : Why) → s < 255 → hms 24 h m s ≡ refused w → holds (noClock h m s (numberOf w))
-unfolding timeOf
+pub no-clock : (h m s : ℕ) (w : Why) → s < 255 → hms 2 24 h m s ≡ refused w → holds (noClock h m s (numberOf w))
+unfolding timeAt
 no-clock h m s w l e mjd low = rw (not-ones mjd h m s l, le-ltb mjd 15079 low, e) refl
