@@ -25,8 +25,8 @@
  * - No call keeps a pointer. No call writes through a `const` pointer.
  * - Every answer of a call that can refuse has the field `number`: 0, or the number of the first refusal that applies, in the order of its table
  *   below. A refusal alters nothing that was lent. Where `number` is not 0 every other field of the answer is 0, and of the value that it holds, but for
- *   `place`, and for `next` of the walk. `lohitunga_text.h` has a sentence for each number.
- * - A place and a `start` are counted from the first byte lent as 0.
+ *   `place` and `digit`, and for `next` of the walk. `lohitunga_text.h` has a sentence for each number.
+ * - A place and a `start` are counted from the first byte lent as 0, but for the places of 63 to 65: how these count stands at the readings and times.
  */
 #ifndef LOHITUNGA_H
 #define LOHITUNGA_H
@@ -41,7 +41,7 @@ extern "C" {
 /* The version of the library, and the number of this interface: it goes up when the layout of a struct or the meaning of a call changes. A program that
  * was compiled with this header may use an archive or a shared library for which lohitunga_interface() tells the same number. */
 #define LOHITUNGA_VERSION "0.1"
-#define LOHITUNGA_INTERFACE 2
+#define LOHITUNGA_INTERFACE 3
 
 uint32_t lohitunga_interface(void);
 
@@ -334,14 +334,19 @@ lohitunga_section_answer lohitunga_to_section(const uint8_t *sheet, size_t size,
 /* Readings of descriptors.
  * Each takes a whole descriptor, from its tag on. Its answer holds the descriptor's fields as one struct, or one item of a list.
  *
- * number   given when
- *   61     no byte, or another tag
- *   62     the length byte is missing or is not the number of bytes after it, or the body doesn't fit the layout exactly
- *   66     the index is past the end
- *   63     a BCD digit above 9
- *   64     an hour above 23, a minute or a second above 59
- *   65     an MJD below 15,079
+ * number   given when                                                                                                     place
+ *   61     no byte, or another tag                                                                                          0
+ *   62     the length byte is missing or is not the number of bytes after it, or the body doesn't fit the layout exactly    0
+ *   66     the index is past the end                                                                                        0
+ *   63     a BCD digit above 9                                                                                              of the field
+ *   64     an hour above 23, a minute or a second above 59                                                                  of the field
+ *   65     an MJD below 15,079                                                                                              of the field
  * 61, 62 and 66 come first, in this order; then the fields from left to right, each 63, 64, 65.
+ *
+ * The place of a field is that of its first byte, counted from the body's first byte as 0; the body begins 2 bytes behind the tag. In a list the items in
+ * front count too. MJD, hour, minute and second are a field each. With 63 `digit` tells the first digit above 9, counted in half bytes from the field's
+ * start: 0 is the high half of its first byte. The half byte to look at stands in body[place + digit / 2]: it is the high half where `digit` is even, else
+ * the low half. With every other number `digit` is 0.
  */
 
 typedef struct lohitunga_text_answer {
@@ -451,10 +456,13 @@ typedef struct lohitunga_local_time_offset_item {
 
 typedef struct lohitunga_local_time_offset_answer {
     uint32_t number; /* 0, 61 to 66 */
+    size_t place;    /* of 63 to 65; else 0 */
+    uint32_t digit;  /* of 63; else 0 */
     lohitunga_local_time_offset_item item;
 } lohitunga_local_time_offset_answer;
 
-/* 0x58 local time offset. */
+/* 0x58 local time offset. An item begins at the place 13 * index; in it the places are: of local_time_offset, hour 4, minute 5; of time_of_change, MJD 6,
+ * hour 8, minute 9, second 10; of next_time_offset, hour 11, minute 12. */
 lohitunga_count_answer lohitunga_local_time_offset_count(const uint8_t *descriptor, size_t size);
 lohitunga_local_time_offset_answer lohitunga_read_local_time_offset(const uint8_t *descriptor, size_t size, size_t index);
 
@@ -489,10 +497,12 @@ typedef struct lohitunga_satellite {
 
 typedef struct lohitunga_satellite_answer {
     uint32_t number; /* 0, 61 to 63 */
+    size_t place;    /* of 63; else 0 */
+    uint32_t digit;  /* of 63; else 0 */
     lohitunga_satellite satellite;
 } lohitunga_satellite_answer;
 
-/* 0x43 satellite delivery system. */
+/* 0x43 satellite delivery system. Places: frequency 0, orbital_position 4, symbol_rate 7. */
 lohitunga_satellite_answer lohitunga_read_satellite(const uint8_t *descriptor, size_t size);
 
 typedef struct lohitunga_cable {
@@ -505,10 +515,12 @@ typedef struct lohitunga_cable {
 
 typedef struct lohitunga_cable_answer {
     uint32_t number; /* 0, 61 to 63 */
+    size_t place;    /* of 63; else 0 */
+    uint32_t digit;  /* of 63; else 0 */
     lohitunga_cable cable;
 } lohitunga_cable_answer;
 
-/* 0x44 cable delivery system. */
+/* 0x44 cable delivery system. Places: frequency 0, symbol_rate 7. */
 lohitunga_cable_answer lohitunga_read_cable(const uint8_t *descriptor, size_t size);
 
 typedef struct lohitunga_terrestrial {
@@ -536,10 +548,18 @@ lohitunga_terrestrial_answer lohitunga_read_terrestrial(const uint8_t *descripto
 
 /* Times.
  * Hour, minute and second are given as they are broadcast: two BCD digits in a byte.
- * number: 63, 64 and 65 as above, the fields from left to right.
+ * number: 63, 64 and 65 as above, the fields from left to right. A place counts in the bytes of the time, duration or offset alone:
+ *
+ *              MJD   hour   minute   second
+ *   time         0      2        3        4
+ *   duration            0        1        2
+ *   offset              0        1
+ *   date         0
  */
 typedef struct lohitunga_time_answer {
     uint32_t number; /* 0, 63 to 65 */
+    size_t place;    /* of 63 to 65; else 0 */
+    uint32_t digit;  /* of 63; else 0 */
     lohitunga_moment time;
 } lohitunga_time_answer;
 
@@ -557,6 +577,8 @@ typedef struct lohitunga_duration {
 
 typedef struct lohitunga_duration_answer {
     uint32_t number; /* 0, 63, 64 */
+    size_t place;    /* of 63 and 64; else 0 */
+    uint32_t digit;  /* of 63; else 0 */
     lohitunga_duration duration;
 } lohitunga_duration_answer;
 
@@ -567,6 +589,8 @@ lohitunga_duration_answer lohitunga_duration_from(const uint8_t *bytes, size_t s
 
 typedef struct lohitunga_offset_answer {
     uint32_t number; /* 0, 63, 64 */
+    size_t place;    /* of 63 and 64; else 0 */
+    uint32_t digit;  /* of 63; else 0 */
     int16_t minutes; /* -1,439 to 1,439, below zero behind UTC */
 } lohitunga_offset_answer;
 
@@ -581,6 +605,8 @@ typedef struct lohitunga_date {
 
 typedef struct lohitunga_date_answer {
     uint32_t number; /* 0, 65 */
+    size_t place;    /* 0: no field stands before the MJD */
+    uint32_t digit;  /* 0: an MJD has no digits */
     lohitunga_date date;
 } lohitunga_date_answer;
 
@@ -636,16 +662,19 @@ lohitunga_roll_answer lohitunga_roll_take(lohitunga_roll *roll, const uint8_t *s
  *   lohitunga_next_entry             632
  *   lohitunga_roll_ask               304
  *   lohitunga_collect                256
+ *   lohitunga_read_local_time_offset 184
  *   lohitunga_read_satellite         184
  *   lohitunga_read_terrestrial       184
  *   lohitunga_read_date              136
  *   lohitunga_read_parental_rating   136
  *   lohitunga_read_service_list      136
- *   lohitunga_read_local_time_offset  96
  *   lohitunga_crc32                   88
+ *   lohitunga_duration_from           48
  *   lohitunga_read_time               48
  *   lohitunga_time_from               48
  *   lohitunga_read_cable              40
+ *   lohitunga_read_duration           32
+ *   lohitunga_read_offset             24
  *   every other                        8
  */
 

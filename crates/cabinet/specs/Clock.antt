@@ -1,7 +1,7 @@
 -- What the readings of times, durations, offsets and dates say in numbers: 0 and the value, or the refusal and zeros.
 use lib.IntN.{ℤ, pos}
 use Rattle.wire.specs.Reading.{value, refused}
-use Rattle.clock.specs.Fault.{Answered, numberOf}
+use Rattle.clock.specs.Fault.{Answered}
 use Rattle.clock.specs.declared.Hms.{Hms}
 use Rattle.clock.specs.declared.time.Moment as clock
 use Rattle.clock.specs.declared.time.Moment.the-variants.{Undefined, At}
@@ -31,8 +31,8 @@ noMoment = record { mjd = 0; hour = 0; minute = 0; second = 0; undefined = 0 }
 
 -- the time, or the refusal
 abbrev pub timeAnswer : Answered clock.Moment → TimeAnswer
-timeAnswer (value t) = record { number = 0; time = momentSays t }
-timeAnswer (refused w) = record { number = numberOf w; time = noMoment }
+timeAnswer (value t) = record { number = 0; place = 0; digit = 0; time = momentSays t }
+timeAnswer (refused w) = record { number = w .number; place = w .place; digit = w .digit; time = noMoment }
 
 -- a duration's fields
 abbrev pub durationSays : Hms → Duration
@@ -44,13 +44,13 @@ noDuration = record { hour = 0; minute = 0; second = 0 }
 
 -- the duration, or the refusal
 abbrev pub durationAnswer : Answered Hms → DurationAnswer
-durationAnswer (value t) = record { number = 0; duration = durationSays t }
-durationAnswer (refused w) = record { number = numberOf w; duration = noDuration }
+durationAnswer (value t) = record { number = 0; place = 0; digit = 0; duration = durationSays t }
+durationAnswer (refused w) = record { number = w .number; place = w .place; digit = w .digit; duration = noDuration }
 
 -- "An offset is signed minutes"
 abbrev pub offsetAnswer : Answered ℤ → OffsetAnswer
-offsetAnswer (value n) = record { number = 0; minutes = n }
-offsetAnswer (refused w) = record { number = numberOf w; minutes = pos 0 }
+offsetAnswer (value n) = record { number = 0; place = 0; digit = 0; minutes = n }
+offsetAnswer (refused w) = record { number = w .number; place = w .place; digit = w .digit; minutes = pos 0 }
 
 -- a date's fields
 abbrev pub dateSays : calendar.Date → Date
@@ -62,5 +62,5 @@ noDate = record { year = 0; month = 0; day = 0 }
 
 -- the date, or the refusal
 abbrev pub dateAnswer : Answered calendar.Date → DateAnswer
-dateAnswer (value d) = record { number = 0; date = dateSays d }
-dateAnswer (refused w) = record { number = numberOf w; date = noDate }
+dateAnswer (value d) = record { number = 0; place = 0; digit = 0; date = dateSays d }
+dateAnswer (refused w) = record { number = w .number; place = w .place; digit = w .digit; date = noDate }

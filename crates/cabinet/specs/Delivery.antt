@@ -55,8 +55,8 @@ noSatellite = record {
 
 -- the satellite delivery system, or the refusal
 abbrev pub satelliteAnswer : Answered satellite.Satellite → SatelliteAnswer
-satelliteAnswer (value f) = record { number = 0; satellite = satelliteSays f }
-satelliteAnswer (refused w) = record { number = numberOf w; satellite = noSatellite }
+satelliteAnswer (value f) = record { number = 0; place = 0; digit = 0; satellite = satelliteSays f }
+satelliteAnswer (refused w) = record { number = w .number; place = w .place; digit = w .digit; satellite = noSatellite }
 
 -- the fields of a cable delivery system
 abbrev pub cableSays : cable.Cable → Cable
@@ -80,8 +80,8 @@ noCable = record {
 
 -- the cable delivery system, or the refusal
 abbrev pub cableAnswer : Answered cable.Cable → CableAnswer
-cableAnswer (value f) = record { number = 0; cable = cableSays f }
-cableAnswer (refused w) = record { number = numberOf w; cable = noCable }
+cableAnswer (value f) = record { number = 0; place = 0; digit = 0; cable = cableSays f }
+cableAnswer (refused w) = record { number = w .number; place = w .place; digit = w .digit; cable = noCable }
 
 -- the fields of a terrestrial delivery system
 abbrev pub terrestrialSays : terrestrial.Terrestrial → Terrestrial

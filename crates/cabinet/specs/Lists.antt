@@ -80,5 +80,5 @@ noLocalTimeOffset = record {
 }
 
 abbrev pub localTimeOffsetAnswer : Answered LocalTimeOffset.Item → LocalTimeOffsetAnswer
-localTimeOffsetAnswer (value i) = record { number = 0; item = localTimeOffsetSays i }
-localTimeOffsetAnswer (refused w) = record { number = numberOf w; item = noLocalTimeOffset }
+localTimeOffsetAnswer (value i) = record { number = 0; place = 0; digit = 0; item = localTimeOffsetSays i }
+localTimeOffsetAnswer (refused w) = record { number = w .number; place = w .place; digit = w .digit; item = noLocalTimeOffset }

@@ -9,6 +9,7 @@ ghost use Rattle.cabinet.specs.Delivery.{cableSays, noCable, cableAnswer
 ghost use Rattle.cabinet.specs.Delivery.{terrestrialSays, noTerrestrial, terrestrialAnswer};
 use crate::numbers::of_flag;
 use crate::numbers::of_refusal;
+use crate::numbers::why_of;
 use delivery::cable;
 use delivery::satellite;
 use delivery::terrestrial;
@@ -52,6 +53,8 @@ pub struct Satellite {
 #[repr(C)]
 pub struct SatelliteAnswer {
     pub number: u32,
+    pub place: usize,
+    pub digit: u32,
     pub satellite: Satellite,
 }
 
@@ -68,6 +71,8 @@ pub struct Cable {
 #[repr(C)]
 pub struct CableAnswer {
     pub number: u32,
+    pub place: usize,
+    pub digit: u32,
     pub cable: Cable,
 }
 
@@ -173,12 +178,19 @@ pub extern "C" fn lohitunga_read_satellite(descriptor: &[u8]) -> SatelliteAnswer
     match satellite::read(descriptor) {
         satellite::Answer::Is(read) => SatelliteAnswer {
             number: 0,
+            place: 0,
+            digit: 0,
             satellite: satellite_of(read),
         },
-        satellite::Answer::Refused(why) => SatelliteAnswer {
-            number: of_refusal(why),
-            satellite: no_satellite(),
-        },
+        satellite::Answer::Refused(refusal) => {
+            let why = why_of(refusal);
+            SatelliteAnswer {
+                number: why.number,
+                place: why.place,
+                digit: why.digit,
+                satellite: no_satellite(),
+            }
+        }
     }
 }
 
@@ -214,12 +226,19 @@ pub extern "C" fn lohitunga_read_cable(descriptor: &[u8]) -> CableAnswer
     match cable::read(descriptor) {
         cable::Answer::Is(read) => CableAnswer {
             number: 0,
+            place: 0,
+            digit: 0,
             cable: cable_of(read),
         },
-        cable::Answer::Refused(why) => CableAnswer {
-            number: of_refusal(why),
-            cable: no_cable(),
-        },
+        cable::Answer::Refused(refusal) => {
+            let why = why_of(refusal);
+            CableAnswer {
+                number: why.number,
+                place: why.place,
+                digit: why.digit,
+                cable: no_cable(),
+            }
+        }
     }
 }
 

@@ -12,6 +12,7 @@ ghost use Rattle.cabinet.specs.Lists.{localTimeOffsetSays, noLocalTimeOf
 use crate::moments::moment_of;
 use crate::moments::no_moment;
 use crate::numbers::of_refusal;
+use crate::numbers::why_of;
 use crate::times::Moment;
 use layout::items::Count;
 use lists::content;
@@ -78,6 +79,8 @@ pub struct LocalTimeOffsetItem {
 #[repr(C)]
 pub struct LocalTimeOffsetAnswer {
     pub number: u32,
+    pub place: usize,
+    pub digit: u32,
     pub item: LocalTimeOffsetItem,
 }
 
@@ -263,11 +266,18 @@ pub extern "C" fn lohitunga_read_local_time_offset(
     match local_time_offset::read(descriptor, index) {
         local_time_offset::Answer::Is(item) => LocalTimeOffsetAnswer {
             number: 0,
+            place: 0,
+            digit: 0,
             item: local_time_offset_of(item),
         },
-        local_time_offset::Answer::Refused(why) => LocalTimeOffsetAnswer {
-            number: of_refusal(why),
-            item: no_local_time_offset(),
-        },
+        local_time_offset::Answer::Refused(refusal) => {
+            let why = why_of(refusal);
+            LocalTimeOffsetAnswer {
+                number: why.number,
+                place: why.place,
+                digit: why.digit,
+                item: no_local_time_offset(),
+            }
+        }
     }
 }

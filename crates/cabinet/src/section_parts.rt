@@ -7,17 +7,12 @@ ghost use Rattle.parts.specs.Descriptors.{nextDescriptor};
 ghost use Rattle.cabinet.specs.Clock.{timeAnswer, durationAnswer};
 ghost use Rattle.cabinet.specs.Parts.{only, partIn, says, transportIn, extensionIf, numbered, bare, headOf, headIf, openSays};
 ghost use Rattle.cabinet.specs.Parts.{sectionSays, idIf, streamIn, entrySays, descriptorSays};
-use crate::moments::moment_of;
-use crate::moments::no_moment;
-use crate::numbers::of_fault;
+use crate::moments::duration_answer;
+use crate::moments::time_answer;
 use crate::numbers::of_flag;
 use crate::text_readings::Part;
 use crate::times::DurationAnswer;
 use crate::times::TimeAnswer;
-use crate::times::duration_of;
-use crate::times::no_duration;
-use clock::duration;
-use clock::time;
 use head::sub_tables::sub_table_of;
 use parts::descriptors::next_descriptor;
 use parts::entries::next_entry;
@@ -293,30 +288,12 @@ pub extern "C" fn lohitunga_next_descriptor(section: &[u8], rest: Part) -> Descr
 pub extern "C" fn lohitunga_time_from(bytes: &[u8]) -> TimeAnswer
     ensures { λ r. ⌜ r ≡ timeAnswer (timeFrom (now (bytes .entry))) ⌝ }
 {
-    match names::time_from(bytes) {
-        time::Answer::Is(moment) => TimeAnswer {
-            number: 0,
-            time: moment_of(moment),
-        },
-        time::Answer::Refused(fault) => TimeAnswer {
-            number: of_fault(fault),
-            time: no_moment(),
-        },
-    }
+    time_answer(names::time_from(bytes))
 }
 
 #[no_mangle]
 pub extern "C" fn lohitunga_duration_from(bytes: &[u8]) -> DurationAnswer
     ensures { λ r. ⌜ r ≡ durationAnswer (durationFrom (now (bytes .entry))) ⌝ }
 {
-    match names::duration_from(bytes) {
-        duration::Answer::Is(t) => DurationAnswer {
-            number: 0,
-            duration: duration_of(t),
-        },
-        duration::Answer::Refused(fault) => DurationAnswer {
-            number: of_fault(fault),
-            duration: no_duration(),
-        },
-    }
+    duration_answer(names::duration_from(bytes))
 }

@@ -5,11 +5,11 @@ ghost use Rattle.clock.specs.Duration.{durationOf};
 ghost use Rattle.clock.specs.Offset.{offsetOf};
 ghost use Rattle.calendar.specs.Calendar.{dateOf};
 ghost use Rattle.cabinet.specs.Numbers.{isSet};
-ghost use Rattle.cabinet.specs.Clock.{timeAnswer, durationSays, noDuration, durationAnswer};
-ghost use Rattle.cabinet.specs.Clock.{offsetAnswer, dateSays, noDate, dateAnswer};
-use crate::moments::moment_of;
-use crate::moments::no_moment;
+ghost use Rattle.cabinet.specs.Clock.{timeAnswer, durationAnswer, offsetAnswer, dateSays, noDate, dateAnswer};
+use crate::moments::duration_answer;
+use crate::moments::time_answer;
 use crate::numbers::of_fault;
+use clock::duration;
 use clock::time;
 
 // A time that was read.
@@ -26,6 +26,8 @@ pub struct Moment {
 #[repr(C)]
 pub struct TimeAnswer {
     pub number: u32,
+    pub place: usize,
+    pub digit: u32,
     pub time: Moment,
 }
 
@@ -39,12 +41,16 @@ pub struct Duration {
 #[repr(C)]
 pub struct DurationAnswer {
     pub number: u32,
+    pub place: usize,
+    pub digit: u32,
     pub duration: Duration,
 }
 
 #[repr(C)]
 pub struct OffsetAnswer {
     pub number: u32,
+    pub place: usize,
+    pub digit: u32,
     // Below zero behind UTC.
     pub minutes: i16,
 }
@@ -60,6 +66,8 @@ pub struct Date {
 #[repr(C)]
 pub struct DateAnswer {
     pub number: u32,
+    pub place: usize,
+    pub digit: u32,
     pub date: Date,
 }
 
@@ -67,52 +75,14 @@ pub struct DateAnswer {
 pub extern "C" fn lohitunga_read_time(mjd: u16, hour: u8, minute: u8, second: u8) -> TimeAnswer
     ensures { λ r. ⌜ r ≡ timeAnswer (timeOf mjd hour minute second) ⌝ }
 {
-    match time::read(mjd, hour, minute, second) {
-        time::Answer::Is(moment) => TimeAnswer {
-            number: 0,
-            time: moment_of(moment),
-        },
-        time::Answer::Refused(fault) => TimeAnswer {
-            number: of_fault(fault),
-            time: no_moment(),
-        },
-    }
-}
-
-pub fn duration_of(t: clock::Hms) -> Duration
-    ensures { λ r. ⌜ r ≡ durationSays t ⌝ }
-{
-    Duration {
-        hour: t.hour,
-        minute: t.minute,
-        second: t.second,
-    }
-}
-
-pub fn no_duration() -> Duration
-    ensures { λ r. ⌜ r ≡ noDuration ⌝ }
-{
-    Duration {
-        hour: 0,
-        minute: 0,
-        second: 0,
-    }
+    time_answer(time::read(mjd, hour, minute, second))
 }
 
 #[no_mangle]
 pub extern "C" fn lohitunga_read_duration(hour: u8, minute: u8, second: u8) -> DurationAnswer
     ensures { λ r. ⌜ r ≡ durationAnswer (durationOf hour minute second) ⌝ }
 {
-    match clock::duration::read(hour, minute, second) {
-        clock::duration::Answer::Is(t) => DurationAnswer {
-            number: 0,
-            duration: duration_of(t),
-        },
-        clock::duration::Answer::Refused(fault) => DurationAnswer {
-            number: of_fault(fault),
-            duration: no_duration(),
-        },
-    }
+    duration_answer(duration::read(hour, minute, second))
 }
 
 // Any polarity but 0 is behind UTC.
@@ -121,11 +91,21 @@ pub extern "C" fn lohitunga_read_offset(behind: u8, hour: u8, minute: u8) -> Off
     ensures { λ r. ⌜ r ≡ offsetAnswer (offsetOf (isSet behind) hour minute) ⌝ }
 {
     match clock::offset::read(behind != 0, hour, minute) {
-        clock::offset::Answer::Minutes(minutes) => OffsetAnswer { number: 0, minutes },
-        clock::offset::Answer::Refused(fault) => OffsetAnswer {
-            number: of_fault(fault),
-            minutes: 0,
+        clock::offset::Answer::Minutes(minutes) => OffsetAnswer {
+            number: 0,
+            place: 0,
+            digit: 0,
+            minutes,
         },
+        clock::offset::Answer::Refused(fault) => {
+            let why = of_fault(fault);
+            OffsetAnswer {
+                number: why.number,
+                place: why.place,
+                digit: why.digit,
+                minutes: 0,
+            }
+        }
     }
 }
 
@@ -156,11 +136,18 @@ pub extern "C" fn lohitunga_read_date(mjd: u16) -> DateAnswer
     match calendar::date_of(mjd) {
         calendar::Answer::Is(date) => DateAnswer {
             number: 0,
+            place: 0,
+            digit: 0,
             date: date_given(date),
         },
-        calendar::Answer::Refused(fault) => DateAnswer {
-            number: of_fault(fault),
-            date: no_date(),
-        },
+        calendar::Answer::Refused(fault) => {
+            let why = of_fault(fault);
+            DateAnswer {
+                number: why.number,
+                place: why.place,
+                digit: why.digit,
+                date: no_date(),
+            }
+        }
     }
 }

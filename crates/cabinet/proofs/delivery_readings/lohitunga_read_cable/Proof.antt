@@ -12,11 +12,11 @@ enum-known-read c = search needs
 cable-of-requires : tie.Need-cable-of-requires
 cable-of-requires c κs = search needs
 
-enum-known-why : tie.Need-enum-known-why
-enum-known-why c = search needs
+enum-known-refusal : tie.Need-enum-known-refusal
+enum-known-refusal c = search needs
 
-of-refusal-requires : tie.Need-of-refusal-requires
-of-refusal-requires c κs = search needs
+why-of-requires : tie.Need-why-of-requires
+why-of-requires c κs = search needs
 
 no-cable-requires : tie.Need-no-cable-requires
 no-cable-requires c κs = search needs
@@ -29,8 +29,8 @@ returns c =
 returns-2 : tie.Need-returns-2
 returns-2 c =
     let refused = c .before .before .before in
-    let number = c .before .of-refusal .ensures in
-    rw (← refused .before .before .read .ensures, refused .why .given .1, number, c .no-cable .ensures)
+    let why = c .before .why-of .ensures in
+    rw (← refused .before .before .read .ensures, refused .refusal .given .1, why, c .no-cable .ensures)
 
 pub lohitunga-read-cable-spec : {M : Type 1} → statement M
 lohitunga-read-cable-spec =
@@ -39,8 +39,8 @@ lohitunga-read-cable-spec =
     read-requires
     enum-known-read
     cable-of-requires
-    enum-known-why
-    of-refusal-requires
+    enum-known-refusal
+    why-of-requires
     no-cable-requires
     returns
     returns-2)

@@ -12,11 +12,11 @@ enum-known-item c = search needs
 local-time-offset-of-requires : tie.Need-local-time-offset-of-requires
 local-time-offset-of-requires c κs = search needs
 
-enum-known-why : tie.Need-enum-known-why
-enum-known-why c = search needs
+enum-known-refusal : tie.Need-enum-known-refusal
+enum-known-refusal c = search needs
 
-of-refusal-requires : tie.Need-of-refusal-requires
-of-refusal-requires c κs = search needs
+why-of-requires : tie.Need-why-of-requires
+why-of-requires c κs = search needs
 
 no-local-time-offset-requires : tie.Need-no-local-time-offset-requires
 no-local-time-offset-requires c κs = search needs
@@ -29,8 +29,8 @@ returns c =
 returns-2 : tie.Need-returns-2
 returns-2 c =
     let refused = c .before .before .before in
-    let number = c .before .of-refusal .ensures in
-    rw (← refused .before .before .read .ensures, refused .why .given .1, number, c .no-local-time-offset .ensures)
+    let why = c .before .why-of .ensures in
+    rw (← refused .before .before .read .ensures, refused .refusal .given .1, why, c .no-local-time-offset .ensures)
 
 pub lohitunga-read-local-time-offset-spec : {M : Type 1} → statement M
 lohitunga-read-local-time-offset-spec =
@@ -39,8 +39,8 @@ lohitunga-read-local-time-offset-spec =
     read-requires
     enum-known-item
     local-time-offset-of-requires
-    enum-known-why
-    of-refusal-requires
+    enum-known-refusal
+    why-of-requires
     no-local-time-offset-requires
     returns
     returns-2)

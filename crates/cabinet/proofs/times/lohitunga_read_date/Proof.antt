@@ -29,8 +29,8 @@ returns c =
 returns-2 : tie.Need-returns-2
 returns-2 c =
     let refused = c .before .before .before in
-    let number = c .before .of-fault .ensures in
-    rw (← refused .before .before .date-of .ensures, refused .fault .given .1, number, c .no-date .ensures)
+    let why = c .before .of-fault .ensures in
+    rw (← refused .before .before .date-of .ensures, refused .fault .given .1, why, c .no-date .ensures)
 
 pub lohitunga-read-date-spec : {M : Type 1} → statement M
 lohitunga-read-date-spec =

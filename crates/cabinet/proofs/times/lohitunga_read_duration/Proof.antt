@@ -1,4 +1,4 @@
--- The duration, or the refusal.
+-- The duration that is read, as an answer.
 use borrow.Author.Needs.{needs}
 use Rattle.cabinet.proofs.times.lohitunga_read_duration.Statement.{statement}
 use Rattle.cabinet.proofs.times.lohitunga_read_duration.Tie as tie
@@ -6,41 +6,11 @@ use Rattle.cabinet.proofs.times.lohitunga_read_duration.Tie as tie
 read-requires : tie.Need-read-requires
 read-requires c κs = search needs
 
-enum-known-t : tie.Need-enum-known-t
-enum-known-t c = search needs
-
-duration-of-requires : tie.Need-duration-of-requires
-duration-of-requires c κs = search needs
-
-enum-known-fault : tie.Need-enum-known-fault
-enum-known-fault c = search needs
-
-of-fault-requires : tie.Need-of-fault-requires
-of-fault-requires c κs = search needs
-
-no-duration-requires : tie.Need-no-duration-requires
-no-duration-requires c κs = search needs
+duration-answer-requires : tie.Need-duration-answer-requires
+duration-answer-requires c κs = search needs
 
 returns : tie.Need-returns
-returns c =
-    let is = c .before .before in
-    rw (← is .before .before .read .ensures, is .t .given .1, c .duration-of .ensures)
-
-returns-2 : tie.Need-returns-2
-returns-2 c =
-    let refused = c .before .before .before in
-    let number = c .before .of-fault .ensures in
-    rw (← refused .before .before .read .ensures, refused .fault .given .1, number, c .no-duration .ensures)
+returns c = rw (← c .before .read .ensures) (c .duration-answer .ensures)
 
 pub lohitunga-read-duration-spec : {M : Type 1} → statement M
-lohitunga-read-duration-spec =
-    tie.close
-    (tie.spec
-    read-requires
-    enum-known-t
-    duration-of-requires
-    enum-known-fault
-    of-fault-requires
-    no-duration-requires
-    returns
-    returns-2)
+lohitunga-read-duration-spec = tie.close (tie.spec read-requires duration-answer-requires returns)
