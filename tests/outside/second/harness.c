@@ -23,7 +23,8 @@
     KIND(descriptors) \
     KIND(times) \
     KIND(rolls) \
-    KIND(sheets)
+    KIND(sheets) \
+    KIND(digits)
 
 #define DECLARED(name) extern const struct kind kind_##name;
 #define LISTED(name) &kind_##name,

@@ -32,6 +32,9 @@ void back(void);
 /* Where the reading is refused, every other field of the library's answer is 0. */
 #define OR_0(number, value) ((number) ? 0 : (long long)(value))
 
+/* What 63 to 65 tell, of the library's answer and of `why` in the second implementation's: three values, "number place digit". */
+#define WHY(told) (told).number, (long long)(told).place, (told).digit
+
 /* Of kinds_parts.c: a part of the kind `sections`. */
 void prepare_parts(void);
 void compare_parts(struct dice *d, const uint8_t *section, size_t size);

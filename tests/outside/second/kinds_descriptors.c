@@ -43,15 +43,15 @@ static void compare_satellite(const uint8_t *lent, const uint8_t *b, size_t n)
     struct second_satellite s = second_satellite(b, n);
     lohitunga_satellite_answer a = lohitunga_read_satellite(lent, n);
     lohitunga_satellite f = a.satellite;
-    long long library[] = {a.number, f.frequency.steps, f.orbital_position, f.west_east_flag, f.polarization, f.modulation_system,
+    long long library[] = {WHY(a), f.frequency.steps, f.orbital_position, f.west_east_flag, f.polarization, f.modulation_system,
                            f.roll_off, f.modulation_type, f.symbol_rate, f.fec_inner,
                            (long long)lohitunga_satellite_hertz(f.frequency)};
-    long long second[] = {s.number, OR_0(s.number, s.frequency), OR_0(s.number, s.orbital_position),
-                          OR_0(s.number, s.west_east_flag), OR_0(s.number, s.polarization),
-                          OR_0(s.number, s.modulation_system), OR_0(s.number, s.roll_off), OR_0(s.number, s.modulation_type),
-                          OR_0(s.number, s.symbol_rate), OR_0(s.number, s.fec_inner), OR_0(s.number, s.frequency) * 10000};
-    SAME("number frequency orbital_position west_east_flag polarization modulation_system roll_off modulation_type symbol_rate fec_inner hertz",
-         library, second);
+    long long second[] = {WHY(s.why), OR_0(s.why.number, s.frequency), OR_0(s.why.number, s.orbital_position),
+                          OR_0(s.why.number, s.west_east_flag), OR_0(s.why.number, s.polarization),
+                          OR_0(s.why.number, s.modulation_system), OR_0(s.why.number, s.roll_off), OR_0(s.why.number, s.modulation_type),
+                          OR_0(s.why.number, s.symbol_rate), OR_0(s.why.number, s.fec_inner), OR_0(s.why.number, s.frequency) * 10000};
+    SAME("number place digit frequency orbital_position west_east_flag polarization modulation_system roll_off modulation_type symbol_rate "
+         "fec_inner hertz", library, second);
 }
 
 static void compare_cable(const uint8_t *lent, const uint8_t *b, size_t n)
@@ -59,11 +59,11 @@ static void compare_cable(const uint8_t *lent, const uint8_t *b, size_t n)
     struct second_cable s = second_cable(b, n);
     lohitunga_cable_answer a = lohitunga_read_cable(lent, n);
     lohitunga_cable f = a.cable;
-    long long library[] = {a.number, f.frequency.steps, f.fec_outer, f.modulation, f.symbol_rate, f.fec_inner,
+    long long library[] = {WHY(a), f.frequency.steps, f.fec_outer, f.modulation, f.symbol_rate, f.fec_inner,
                            (long long)lohitunga_cable_hertz(f.frequency)};
-    long long second[] = {s.number, OR_0(s.number, s.frequency), OR_0(s.number, s.fec_outer), OR_0(s.number, s.modulation),
-                          OR_0(s.number, s.symbol_rate), OR_0(s.number, s.fec_inner), OR_0(s.number, s.frequency) * 100};
-    SAME("number frequency fec_outer modulation symbol_rate fec_inner hertz", library, second);
+    long long second[] = {WHY(s.why), OR_0(s.why.number, s.frequency), OR_0(s.why.number, s.fec_outer), OR_0(s.why.number, s.modulation),
+                          OR_0(s.why.number, s.symbol_rate), OR_0(s.why.number, s.fec_inner), OR_0(s.why.number, s.frequency) * 100};
+    SAME("number place digit frequency fec_outer modulation symbol_rate fec_inner hertz", library, second);
 }
 
 static void compare_service(const uint8_t *lent, const uint8_t *b, size_t n)
@@ -113,14 +113,14 @@ static void compare_local(const uint8_t *lent, const uint8_t *b, size_t n, size_
     struct second_local s = second_local_time_offset(b, n, index);
     lohitunga_local_time_offset_answer a = lohitunga_read_local_time_offset(lent, n, index);
     lohitunga_local_time_offset_item f = a.item;
-    long long library[] = {a.number, f.country_code, f.country_region_id, f.local_time_offset, f.time_of_change.undefined,
+    long long library[] = {WHY(a), f.country_code, f.country_region_id, f.local_time_offset, f.time_of_change.undefined,
                            f.time_of_change.mjd, f.time_of_change.hour, f.time_of_change.minute, f.time_of_change.second,
                            f.next_time_offset};
-    long long second[] = {s.number, OR_0(s.number, letters(s.country)), OR_0(s.number, s.region), OR_0(s.number, s.offset),
-                          OR_0(s.number, s.change.undefined), OR_0(s.number, s.change.mjd), OR_0(s.number, s.change.hour),
-                          OR_0(s.number, s.change.minute), OR_0(s.number, s.change.second), OR_0(s.number, s.next)};
-    SAME("number country_code country_region_id local_time_offset undefined mjd hour minute second next_time_offset", library, second);
-    if (!s.number && s.change.undefined)
+    long long second[] = {WHY(s.why), OR_0(s.why.number, letters(s.country)), OR_0(s.why.number, s.region), OR_0(s.why.number, s.offset),
+                          OR_0(s.why.number, s.change.undefined), OR_0(s.why.number, s.change.mjd), OR_0(s.why.number, s.change.hour),
+                          OR_0(s.why.number, s.change.minute), OR_0(s.why.number, s.change.second), OR_0(s.why.number, s.next)};
+    SAME("number place digit country_code country_region_id local_time_offset undefined mjd hour minute second next_time_offset", library, second);
+    if (!s.why.number && s.change.undefined)
         met_word("0x58 local offset", "undefined", 1);
 }
 
@@ -168,13 +168,13 @@ static unsigned number_of(const uint8_t *b, size_t n, uint8_t tag, size_t index)
     case 0x40: return second_network_name(b, n).number;
     case 0x41: return second_service_list(b, n, index).number;
     case 0x42: return second_stuffing(b, n).number;
-    case 0x43: return second_satellite(b, n).number;
-    case 0x44: return second_cable(b, n).number;
+    case 0x43: return second_satellite(b, n).why.number;
+    case 0x44: return second_cable(b, n).why.number;
     case 0x48: return second_service(b, n).number;
     case 0x4D: return second_short_event(b, n).number;
     case 0x54: return second_content(b, n, index).number;
     case 0x55: return second_parental_rating(b, n, index).number;
-    case 0x58: return second_local_time_offset(b, n, index).number;
+    case 0x58: return second_local_time_offset(b, n, index).why.number;
     default: return second_terrestrial(b, n).number;
     }
 }

@@ -21,22 +21,22 @@ static void compare_time(const uint8_t b[5])
     call_begins("lohitunga_read_time", AT_END);
     call_piece("time", b, 5);
     lohitunga_time_answer a = lohitunga_read_time((uint16_t)(b[0] * 256 + b[1]), b[2], b[3], b[4]);
-    long long library[] = {a.number, a.time.undefined, a.time.mjd, a.time.hour, a.time.minute, a.time.second};
-    long long second[] = {s.number, s.undefined, OR_0(s.number, s.mjd), OR_0(s.number, s.hour), OR_0(s.number, s.minute),
-                          OR_0(s.number, s.second)};
-    SAME("number undefined mjd hour minute second", library, second);
+    long long library[] = {WHY(a), a.time.undefined, a.time.mjd, a.time.hour, a.time.minute, a.time.second};
+    long long second[] = {WHY(s.why), s.undefined, OR_0(s.why.number, s.mjd), OR_0(s.why.number, s.hour), OR_0(s.why.number, s.minute),
+                          OR_0(s.why.number, s.second)};
+    SAME("number place digit undefined mjd hour minute second", library, second);
     for (enum placing p = 0; p < PLACINGS; p++) {
         call_begins("lohitunga_time_from", p);
         call_piece("time", b, 5);
         lohitunga_time_answer from = lohitunga_time_from(lend(b, 5, p), 5);
-        long long told[] = {from.number, from.time.undefined, from.time.mjd, from.time.hour, from.time.minute, from.time.second};
-        SAME("number undefined mjd hour minute second", told, second);
+        long long told[] = {WHY(from), from.time.undefined, from.time.mjd, from.time.hour, from.time.minute, from.time.second};
+        SAME("number place digit undefined mjd hour minute second", told, second);
         back();
     }
     if (s.undefined)
         met_word("time", "undefined", 1);
     else
-        met_number("time", s.number);
+        met_number("time", s.why.number);
 }
 
 static void compare_duration(const uint8_t b[3])
@@ -45,32 +45,32 @@ static void compare_duration(const uint8_t b[3])
     call_begins("lohitunga_read_duration", AT_END);
     call_piece("duration", b, 3);
     lohitunga_duration_answer a = lohitunga_read_duration(b[0], b[1], b[2]);
-    long long library[] = {a.number, a.duration.hour, a.duration.minute, a.duration.second};
-    long long second[] = {s.number, OR_0(s.number, s.hours), OR_0(s.number, s.minutes), OR_0(s.number, s.seconds)};
-    SAME("number hour minute second", library, second);
+    long long library[] = {WHY(a), a.duration.hour, a.duration.minute, a.duration.second};
+    long long second[] = {WHY(s.why), OR_0(s.why.number, s.hours), OR_0(s.why.number, s.minutes), OR_0(s.why.number, s.seconds)};
+    SAME("number place digit hour minute second", library, second);
     for (enum placing p = 0; p < PLACINGS; p++) {
         call_begins("lohitunga_duration_from", p);
         call_piece("duration", b, 3);
         lohitunga_duration_answer from = lohitunga_duration_from(lend(b, 3, p), 3);
-        long long told[] = {from.number, from.duration.hour, from.duration.minute, from.duration.second};
-        SAME("number hour minute second", told, second);
+        long long told[] = {WHY(from), from.duration.hour, from.duration.minute, from.duration.second};
+        SAME("number place digit hour minute second", told, second);
         back();
     }
-    met_number("duration", s.number);
+    met_number("duration", s.why.number);
 }
 
 static void compare_offset(uint8_t behind, uint8_t hour, uint8_t minute)
 {
-    struct second_offset s = second_offset(behind != 0, hour, minute);
+    struct second_offset s = second_offset(behind != 0, (const uint8_t[]){hour, minute});
     call_begins("lohitunga_read_offset", AT_END);
     call_number("behind", behind);
     call_number("hour", hour);
     call_number("minute", minute);
     lohitunga_offset_answer a = lohitunga_read_offset(behind, hour, minute);
-    long long library[] = {a.number, a.minutes};
-    long long second[] = {s.number, OR_0(s.number, s.minutes)};
-    SAME("number minutes", library, second);
-    met_number("offset", s.number);
+    long long library[] = {WHY(a), a.minutes};
+    long long second[] = {WHY(s.why), OR_0(s.why.number, s.minutes)};
+    SAME("number place digit minutes", library, second);
+    met_number("offset", s.why.number);
 }
 
 static void compare_date(unsigned mjd)
@@ -79,10 +79,10 @@ static void compare_date(unsigned mjd)
     call_begins("lohitunga_read_date", AT_END);
     call_number("mjd", mjd);
     lohitunga_date_answer a = lohitunga_read_date((uint16_t)mjd);
-    long long library[] = {a.number, a.date.year, a.date.month, a.date.day};
-    long long second[] = {s.number, s.year, s.month, s.day};
-    SAME("number year month day", library, second);
-    met_number("date", s.number);
+    long long library[] = {WHY(a), a.date.year, a.date.month, a.date.day};
+    long long second[] = {WHY(s.why), s.year, s.month, s.day};
+    SAME("number place digit year month day", library, second);
+    met_number("date", s.why.number);
 }
 
 /* Every MJD, alone and with a clock; every hour and minute, as an offset either way, in a time and in a duration. */

@@ -1,10 +1,12 @@
 /*
- * A second implementation of document 01, written from document 01, docs/DECISIONS.md and EN 300 468 alone, a byte at a
- * time. It is the judge in the comparison with the library, so it is plain before it is fast. It stands in the files
- * second_*.c. Sentences in quotation marks are document 01's there; where it leaves a choice, docs/DECISIONS.md has what
- * was chosen. Field layouts are those of EN 300 468, the clause named at each.
+ * A second implementation of document 01, written from document 01, request (v) of document 02, docs/DECISIONS.md and
+ * EN 300 468 alone, a byte at a time. It is the judge in the comparison with the library, so it is plain before it is
+ * fast. It stands in the files second_*.c. Sentences in quotation marks are document 01's there, or document 02's where it
+ * is named; where they leave a choice, docs/DECISIONS.md has what was chosen. Field layouts are those of EN 300 468, the
+ * clause named at each.
  *
- * Every answer has a `number`: 0, or the number of the refusal. `place` is 0 but for 8 to 10.
+ * Every answer has a `number`: 0, or the number of the refusal. `place` is 0 but for 8 to 10. Of the readings that can be
+ * refused with 63 to 65 the number stands in `why`, with the place of the field and that of the digit.
  */
 #ifndef SECOND_H
 #define SECOND_H
@@ -101,29 +103,35 @@ void second_collect(struct second_collected *answer, struct second_record *recor
 
 /* Times */
 
-struct second_time { unsigned number; int undefined; unsigned mjd, hour, minute, second; };
-struct second_date { unsigned number, year, month, day; };
-struct second_duration { unsigned number, hours, minutes, seconds; };
-struct second_offset { unsigned number; int minutes; };
+/*
+ * `place` is that of the field, with 63 to 65: in the bytes of a time, duration, offset or MJD; of a descriptor's field in the
+ * body. `digit` is that of the first bad digit, with 63. Both are 0 with every other number, and where nothing is refused.
+ */
+struct second_why { unsigned number, place, digit; };
+
+struct second_time { struct second_why why; int undefined; unsigned mjd, hour, minute, second; };
+struct second_date { struct second_why why; unsigned year, month, day; };
+struct second_duration { struct second_why why; unsigned hours, minutes, seconds; };
+struct second_offset { struct second_why why; int minutes; };
 
 struct second_time second_time(const uint8_t bytes[5]);
 struct second_date second_date(unsigned mjd);
 struct second_duration second_duration(const uint8_t bytes[3]);
-struct second_offset second_offset(int behind, uint8_t hour, uint8_t minute);
+struct second_offset second_offset(int behind, const uint8_t bytes[2]);
 
 /* Typed readings: each takes a descriptor's bytes from its tag on */
 
 struct second_text { unsigned number; size_t at, size; };                               /* 0x40, 0x42 */
 struct second_listed { unsigned number, service_id, service_type; };                    /* 0x41 */
 struct second_satellite {                                                               /* 0x43 */
-    unsigned number;
+    struct second_why why;
     uint32_t frequency;
     unsigned orbital_position, west_east_flag, polarization, modulation_system, roll_off, modulation_type;
     uint32_t symbol_rate;
     unsigned fec_inner;
 };
 struct second_cable {                                                                   /* 0x44 */
-    unsigned number;
+    struct second_why why;
     uint32_t frequency;
     unsigned fec_outer, modulation;
     uint32_t symbol_rate;
@@ -134,7 +142,7 @@ struct second_event { unsigned number; uint8_t language[3]; size_t name_at, name
 struct second_content { unsigned number, level_1, level_2, user_byte; };                /* 0x54 */
 struct second_rating { unsigned number; uint8_t country[3]; unsigned rating; };         /* 0x55 */
 struct second_local {                                                                   /* 0x58 */
-    unsigned number;
+    struct second_why why;
     uint8_t country[3];
     unsigned region;
     int offset;

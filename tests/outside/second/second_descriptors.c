@@ -7,7 +7,7 @@
 
 /*
  * "61 no byte, or tag differs; 62 length byte missing or not the number of bytes after it". What the length byte says is
- * written, so that the body runs from byte 2 on.
+ * written, so that the body runs from byte 2 on. Document 02: a refused field is told with its place "in the body".
  */
 static unsigned frame(const uint8_t *b, size_t size, uint8_t tag, size_t *body)
 {
@@ -91,15 +91,15 @@ struct second_satellite second_satellite(const uint8_t *b, size_t size)
     struct second_satellite s;
     uint32_t orbital;
     memset(&s, 0, sizeof s);
-    s.number = fixed_body(b, size, 0x43, 11);
-    if (s.number)
+    s.why.number = fixed_body(b, size, 0x43, 11);
+    if (s.why.number)
         return s;
     /* frequency 32 (8 digits), orbital_position 16 (4 digits) */
-    s.number = bcd(b + 2, 8, &s.frequency);
-    if (s.number)
+    s.why = bcd(b + 2, b + 2, 8, &s.frequency);
+    if (s.why.number)
         return s;
-    s.number = bcd(b + 6, 4, &orbital);
-    if (s.number)
+    s.why = bcd(b + 2, b + 6, 4, &orbital);
+    if (s.why.number)
         return s;
     s.orbital_position = orbital;
     /* west_east_flag 1, polarization 2, roll_off 2 (modulation_system 1) or two reserved bits, modulation_system 1, modulation_type 2 */
@@ -109,7 +109,7 @@ struct second_satellite second_satellite(const uint8_t *b, size_t size)
     s.roll_off = s.modulation_system == 1 ? b[8] / 8 % 4 : 0;
     s.modulation_type = b[8] % 4;
     /* symbol_rate 28 (7 digits), FEC_inner 4 */
-    s.number = bcd(b + 9, 7, &s.symbol_rate);
+    s.why = bcd(b + 2, b + 9, 7, &s.symbol_rate);
     s.fec_inner = b[12] % 16;
     return s;
 }
@@ -119,16 +119,16 @@ struct second_cable second_cable(const uint8_t *b, size_t size)
 {
     struct second_cable c;
     memset(&c, 0, sizeof c);
-    c.number = fixed_body(b, size, 0x44, 11);
-    if (c.number)
+    c.why.number = fixed_body(b, size, 0x44, 11);
+    if (c.why.number)
         return c;
     /* frequency 32 (8 digits), reserved_future_use 12, FEC_outer 4, modulation 8, symbol_rate 28 (7 digits), FEC_inner 4 */
-    c.number = bcd(b + 2, 8, &c.frequency);
-    if (c.number)
+    c.why = bcd(b + 2, b + 2, 8, &c.frequency);
+    if (c.why.number)
         return c;
     c.fec_outer = b[7] % 16;
     c.modulation = b[8];
-    c.number = bcd(b + 9, 7, &c.symbol_rate);
+    c.why = bcd(b + 2, b + 9, 7, &c.symbol_rate);
     c.fec_inner = b[12] % 16;
     return c;
 }
@@ -207,14 +207,22 @@ struct second_rating second_parental_rating(const uint8_t *b, size_t size, uint6
     return r;
 }
 
+/* What a time or an offset that stands at `at` has told of its own bytes, told of the body. */
+static struct second_why in_body(const uint8_t *b, const uint8_t *at, struct second_why why)
+{
+    if (why.number)
+        why.place += (unsigned)(at - (b + 2));
+    return why;
+}
+
 /* 6.2.20, local_time_offset_descriptor: "fields left to right, each 63, 64, 65". */
 struct second_local second_local_time_offset(const uint8_t *b, size_t size, uint64_t index)
 {
     struct second_local l;
     const uint8_t *i;
     memset(&l, 0, sizeof l);
-    l.number = listed(b, size, 0x58, 13, index, &i);
-    if (l.number)
+    l.why.number = listed(b, size, 0x58, 13, index, &i);
+    if (l.why.number)
         return l;
     /* country_code 24, country_region_id 6, reserved 1, local_time_offset_polarity 1 */
     l.country[0] = i[0];
@@ -223,17 +231,17 @@ struct second_local second_local_time_offset(const uint8_t *b, size_t size, uint
     l.region = i[3] / 4;
     int behind = i[3] % 2;
     /* local_time_offset 16, time_of_change 40, next_time_offset 16 */
-    struct second_offset offset = second_offset(behind, i[4], i[5]);
-    l.number = offset.number;
-    if (l.number)
+    struct second_offset offset = second_offset(behind, i + 4);
+    l.why = in_body(b, i + 4, offset.why);
+    if (l.why.number)
         return l;
     l.offset = offset.minutes;
     l.change = second_time(i + 6);
-    l.number = l.change.number;
-    if (l.number)
+    l.why = in_body(b, i + 6, l.change.why);
+    if (l.why.number)
         return l;
-    offset = second_offset(behind, i[11], i[12]);
-    l.number = offset.number;
+    offset = second_offset(behind, i + 11);
+    l.why = in_body(b, i + 11, offset.why);
     l.next = offset.minutes;
     return l;
 }

@@ -2,8 +2,7 @@
 #ifndef SECOND_SHARED_H
 #define SECOND_SHARED_H
 
-#include <stddef.h>
-#include <stdint.h>
+#include "second.h"
 
 static inline unsigned two(const uint8_t *at) { return at[0] * 256u + at[1]; }
 
@@ -58,17 +57,20 @@ static inline unsigned fixed_bytes(enum table t) { return t == SDT ? 5 : t == EI
 
 /* BCD */
 
-/* "63 BCD digit above 9": `digits` half bytes from the high half of the first byte on. */
-static inline unsigned bcd(const uint8_t *bytes, unsigned digits, uint32_t *value)
+/*
+ * "63 BCD digit above 9": `digits` half bytes from the high half of the field's first byte on. Document 02: "the place of the
+ * first bad digit, counted in half bytes from the field's start", with the field's place, which is counted from `first` on.
+ */
+static inline struct second_why bcd(const uint8_t *first, const uint8_t *field, unsigned digits, uint32_t *value)
 {
     *value = 0;
     for (unsigned i = 0; i < digits; i++) {
-        unsigned digit = i % 2 == 0 ? bytes[i / 2] / 16 : bytes[i / 2] % 16;
+        unsigned digit = i % 2 == 0 ? field[i / 2] / 16 : field[i / 2] % 16;
         if (digit > 9)
-            return 63;
+            return (struct second_why){63, (unsigned)(field - first), i};
         *value = *value * 10 + digit;
     }
-    return 0;
+    return (struct second_why){0, 0, 0};
 }
 
 #endif

@@ -5,15 +5,17 @@
 
 /* Times */
 
-/* "64 hour above 23, minute or second above 59" */
-static unsigned clock_field(uint8_t byte, unsigned most, unsigned *value)
+/* "64 hour above 23, minute or second above 59". Document 02: "64 and 65 carry the field's place too". */
+static struct second_why clock_field(const uint8_t *first, const uint8_t *field, unsigned most, unsigned *value)
 {
     uint32_t number;
-    unsigned refusal = bcd(&byte, 2, &number);
-    if (refusal)
-        return refusal;
+    struct second_why why = bcd(first, field, 2, &number);
+    if (why.number)
+        return why;
     *value = number;
-    return number > most ? 64 : 0;
+    if (number > most)
+        why = (struct second_why){64, (unsigned)(field - first), 0};
+    return why;
 }
 
 /* "A time is MJD 16 bits, six BCD digits" */
@@ -29,13 +31,13 @@ struct second_time second_time(const uint8_t b[5])
     /* "else MJD, hour, minute and second are four fields"; "65 MJD below 15,079" */
     t.mjd = two(b);
     if (t.mjd < 15079)
-        t.number = 65;
-    if (!t.number)
-        t.number = clock_field(b[2], 23, &t.hour);
-    if (!t.number)
-        t.number = clock_field(b[3], 59, &t.minute);
-    if (!t.number)
-        t.number = clock_field(b[4], 59, &t.second);
+        t.why.number = 65;
+    if (!t.why.number)
+        t.why = clock_field(b, b + 2, 23, &t.hour);
+    if (!t.why.number)
+        t.why = clock_field(b, b + 3, 59, &t.minute);
+    if (!t.why.number)
+        t.why = clock_field(b, b + 4, 59, &t.second);
     return t;
 }
 
@@ -63,11 +65,11 @@ struct second_date second_date(unsigned mjd)
     static struct second_date known[65536];
     static unsigned counted = 15079;
     if (mjd < 15079) {
-        struct second_date none = {65, 0, 0, 0};
+        struct second_date none = {{65, 0, 0}, 0, 0, 0};
         return none;
     }
     if (counted == 15079) {
-        struct second_date first = {0, 1900, 3, 1};
+        struct second_date first = {{0, 0, 0}, 1900, 3, 1};
         known[15079] = first;
     }
     for (; counted < mjd; counted++)
@@ -80,23 +82,24 @@ struct second_duration second_duration(const uint8_t b[3])
 {
     struct second_duration d;
     memset(&d, 0, sizeof d);
-    d.number = clock_field(b[0], 99, &d.hours);
-    if (!d.number)
-        d.number = clock_field(b[1], 59, &d.minutes);
-    if (!d.number)
-        d.number = clock_field(b[2], 59, &d.seconds);
+    d.why = clock_field(b, b, 99, &d.hours);
+    if (!d.why.number)
+        d.why = clock_field(b, b + 1, 59, &d.minutes);
+    if (!d.why.number)
+        d.why = clock_field(b, b + 2, 59, &d.seconds);
     return d;
 }
 
 /* "An offset is signed minutes (polarity 1 is behind UTC); 1 with 0000 is zero." */
-struct second_offset second_offset(int behind, uint8_t hour, uint8_t minute)
+struct second_offset second_offset(int behind, const uint8_t b[2])
 {
-    struct second_offset o = {0, 0};
+    struct second_offset o;
     unsigned h = 0, m = 0;
-    o.number = clock_field(hour, 23, &h);
-    if (!o.number)
-        o.number = clock_field(minute, 59, &m);
-    if (!o.number)
+    memset(&o, 0, sizeof o);
+    o.why = clock_field(b, b, 23, &h);
+    if (!o.why.number)
+        o.why = clock_field(b, b + 1, 59, &m);
+    if (!o.why.number)
         o.minutes = behind ? -(int)(h * 60 + m) : (int)(h * 60 + m);
     return o;
 }

@@ -247,6 +247,17 @@ lohitunga_parental_rating_answer lohitunga_read_parental_rating(const uint8_t *b
     return a;
 }
 
+/* What 63 to 65 tell. */
+static struct second_why refused(struct second_why why)
+{
+    /* 29: the digit one on; 33: 64 and 65 without a place */
+    if (fault(29) && why.number == 63)
+        why.digit++;
+    if (fault(33) && why.number != 63)
+        why.place = 0;
+    return why;
+}
+
 static lohitunga_moment moment(unsigned number, const struct second_time *t)
 {
     lohitunga_moment m = {0, 0, 0, 0, 0};
@@ -263,10 +274,12 @@ static lohitunga_moment moment(unsigned number, const struct second_time *t)
 lohitunga_local_time_offset_answer lohitunga_read_local_time_offset(const uint8_t *b, size_t n, size_t index)
 {
     struct second_local s = second_local_time_offset(b, n, index);
-    lohitunga_local_time_offset_answer a;
-    memset(&a, 0, sizeof a);
-    a.number = s.number;
-    if (s.number)
+    struct second_why why = refused(s.why);
+    lohitunga_local_time_offset_answer a = {.number = why.number, .place = why.place, .digit = why.digit};
+    /* 28: the place in the item */
+    if (fault(28))
+        a.place %= 13;
+    if (why.number)
         return a;
     a.item.country_code = letters(0, s.country);
     a.item.country_region_id = (uint8_t)s.region;
@@ -284,10 +297,12 @@ uint64_t lohitunga_terrestrial_hertz(lohitunga_terrestrial_frequency f) { return
 lohitunga_satellite_answer lohitunga_read_satellite(const uint8_t *b, size_t n)
 {
     struct second_satellite s = second_satellite(b, n);
-    lohitunga_satellite_answer a;
-    memset(&a, 0, sizeof a);
-    a.number = s.number;
-    if (s.number)
+    struct second_why why = refused(s.why);
+    lohitunga_satellite_answer a = {.number = why.number, .place = why.place, .digit = why.digit};
+    /* 32: of two bad digits the later one */
+    if (fault(32) && why.number == 63 && b[12] / 16 > 9)
+        a.place = 7, a.digit = 6;
+    if (why.number)
         return a;
     a.satellite.frequency.steps = s.frequency;
     a.satellite.orbital_position = s.orbital_position;
@@ -304,10 +319,12 @@ lohitunga_satellite_answer lohitunga_read_satellite(const uint8_t *b, size_t n)
 lohitunga_cable_answer lohitunga_read_cable(const uint8_t *b, size_t n)
 {
     struct second_cable s = second_cable(b, n);
-    lohitunga_cable_answer a;
-    memset(&a, 0, sizeof a);
-    a.number = s.number;
-    if (s.number)
+    struct second_why why = refused(s.why);
+    lohitunga_cable_answer a = {.number = why.number, .place = why.place, .digit = why.digit};
+    /* 31: the place counted from the tag on */
+    if (fault(31) && why.number == 63)
+        a.place += 2;
+    if (why.number)
         return a;
     a.cable.frequency.steps = s.frequency;
     a.cable.symbol_rate = s.symbol_rate;
@@ -331,9 +348,10 @@ lohitunga_time_answer lohitunga_read_time(uint16_t mjd, uint8_t hour, uint8_t mi
 {
     uint8_t b[5] = {(uint8_t)(mjd / 256), (uint8_t)mjd, hour, minute, second};
     struct second_time s = second_time(b);
-    lohitunga_time_answer a = {s.number, moment(s.number, &s)};
+    struct second_why why = refused(s.why);
+    lohitunga_time_answer a = {why.number, why.place, why.digit, moment(why.number, &s)};
     /* 14: 64 before 63 */
-    if (fault(14) && s.number == 63 && hour >= 0x24)
+    if (fault(14) && why.number == 63 && hour >= 0x24)
         a.number = 64;
     return a;
 }
@@ -342,8 +360,9 @@ lohitunga_duration_answer lohitunga_read_duration(uint8_t hour, uint8_t minute, 
 {
     uint8_t b[3] = {hour, minute, second};
     struct second_duration s = second_duration(b);
-    lohitunga_duration_answer a = {s.number, {0, 0, 0}};
-    if (s.number)
+    struct second_why why = refused(s.why);
+    lohitunga_duration_answer a = {why.number, why.place, why.digit, {0, 0, 0}};
+    if (why.number)
         return a;
     a.duration.hour = (uint8_t)s.hours;
     a.duration.minute = (uint8_t)s.minutes;
@@ -367,15 +386,21 @@ lohitunga_duration_answer lohitunga_duration_from(const uint8_t *bytes, size_t s
 
 lohitunga_offset_answer lohitunga_read_offset(uint8_t behind, uint8_t hour, uint8_t minute)
 {
-    struct second_offset s = second_offset(behind != 0, hour, minute);
-    lohitunga_offset_answer a = {s.number, (int16_t)s.minutes};
+    uint8_t b[2] = {hour, minute};
+    struct second_offset s = second_offset(behind != 0, b);
+    struct second_why why = refused(s.why);
+    lohitunga_offset_answer a = {why.number, why.place, why.digit, (int16_t)s.minutes};
+    /* 30: a minute at its hour's place */
+    if (fault(30))
+        a.place = 0;
     return a;
 }
 
 lohitunga_date_answer lohitunga_read_date(uint16_t mjd)
 {
     struct second_date s = second_date(mjd);
-    lohitunga_date_answer a = {s.number, {(uint16_t)s.year, (uint8_t)s.month, (uint8_t)s.day}};
+    struct second_why why = refused(s.why);
+    lohitunga_date_answer a = {why.number, why.place, why.digit, {(uint16_t)s.year, (uint8_t)s.month, (uint8_t)s.day}};
     /* 15: the last day of the range alone */
     if (fault(15) && mjd == 65535)
         a.date.day--;

@@ -1,6 +1,6 @@
 /*
  * Values that the documents print, put to the library: those of EN 300 468 and of the standards beside it, and the worked
- * values of document 01, the starred ones too. Each line names what is printed where.
+ * values of document 01, the starred ones too; and the example of docs/REFUSALS.md. Each line names what is printed where.
  */
 #include "lohitunga.h"
 #include "second.h"
@@ -21,6 +21,16 @@ static void is(const char *what, long long library, long long printed)
 }
 
 #define BYTES(...) (const uint8_t[]){__VA_ARGS__}, sizeof(const uint8_t[]){__VA_ARGS__}
+
+/* What a reading's answer begins with; the call is made once for each. */
+#define TOLD(answer) (answer).number, (long long)(answer).place, (answer).digit
+
+static void tells(const char *what, long long number, long long place, long long digit, long long printed, long long at, long long which)
+{
+    is(what, number, printed);
+    is(what, place, at);
+    is(what, digit, which);
+}
 
 /* Times and dates */
 
@@ -61,32 +71,38 @@ static void times(void)
     is_date("2000-03-01", 51604, 2000, 3, 1);
     is_date("2036-02-29", 64752, 2036, 2, 29);
 
-    is("document 01: MJD 0x3AE6: 65", lohitunga_read_date(0x3AE6).number, 65);
-    is("document 01: MJD 0x3AE6: 65, in a time", lohitunga_read_time(0x3AE6, 0, 0, 0).number, 65);
+    tells("document 01: MJD 0x3AE6: 65", TOLD(lohitunga_read_date(0x3AE6)), 65, 0, 0);
+    tells("document 01: MJD 0x3AE6: 65, in a time", TOLD(lohitunga_read_time(0x3AE6, 0, 0, 0)), 65, 0, 0);
     is_date("document 01: 0x3AE7: 1900-03-01", 0x3AE7, 1900, 3, 1);
     t = lohitunga_read_time(0xFFFF, 0, 0, 0);
     is("document 01: 0xFFFF at 000000: 2038-04-22", t.number + t.time.undefined, 0);
     is_date("document 01: 0xFFFF at 000000: 2038-04-22", t.time.mjd, 2038, 4, 22);
-    is("document 01: clock 24 00 00: 64", lohitunga_read_time(0xC079, 0x24, 0, 0).number, 64);
-    is("document 01: clock 12 4A 00: 63", lohitunga_read_time(0xC079, 0x12, 0x4A, 0).number, 63);
+    tells("document 01: clock 24 00 00: 64, at the hour", TOLD(lohitunga_read_time(0xC079, 0x24, 0, 0)), 64, 2, 0);
+    tells("document 01: clock 12 4A 00: 63, at the minute's second digit", TOLD(lohitunga_read_time(0xC079, 0x12, 0x4A, 0)), 63, 3, 1);
+    tells("the same out of five bytes", TOLD(lohitunga_time_from(BYTES(0xC0, 0x79, 0x12, 0x4A, 0x00))), 63, 3, 1);
+    tells("a time that is read tells no place", TOLD(lohitunga_read_time(0xC079, 0x12, 0x45, 0)), 0, 0, 0);
+    tells("an undefined time tells none", TOLD(lohitunga_read_time(0xFFFF, 0xFF, 0xFF, 0xFF)), 0, 0, 0);
     is("document 01: an offset of 1 with 0000 is zero", lohitunga_read_offset(1, 0, 0).minutes, 0);
     is("document 01: a duration's hours go to 99", lohitunga_read_duration(0x99, 0x59, 0x59).duration.hour, 99);
     is("MJD 15,020 is below 15,079: 65", lohitunga_read_date(15020).number, 65);
 
     what = "the first fault, left to right: MJD, hour, minute, second";
-    is(what, lohitunga_read_time(0xC079, 0x2A, 0x00, 0x00).number, 63);
-    is(what, lohitunga_read_time(0xC079, 0x24, 0x6A, 0x00).number, 64);
-    is(what, lohitunga_read_time(0x0000, 0xFF, 0x00, 0x00).number, 65);
-    is(what, lohitunga_read_time(0xC079, 0x23, 0x59, 0x60).number, 64);
+    tells(what, TOLD(lohitunga_read_time(0xC079, 0x2A, 0x00, 0x00)), 63, 2, 1);
+    tells(what, TOLD(lohitunga_read_time(0xC079, 0x24, 0x6A, 0x00)), 64, 2, 0);
+    tells(what, TOLD(lohitunga_read_time(0x0000, 0xFF, 0x00, 0x00)), 65, 0, 0);
+    tells(what, TOLD(lohitunga_read_time(0xC079, 0x23, 0x59, 0x60)), 64, 4, 0);
     t = lohitunga_read_time(0xC079, 0x23, 0x59, 0x59);
     is("the last second of a day", t.number, 0);
     is("the last second of a day", t.time.hour * 10000 + t.time.minute * 100 + t.time.second, 235959);
-    is("a duration of 99 60 00: 64", lohitunga_read_duration(0x99, 0x60, 0x00).number, 64);
-    is("a duration of FF FF FF: 63", lohitunga_read_duration(0xFF, 0xFF, 0xFF).number, 63);
+    tells("a duration of 99 60 00: 64, at the minute", TOLD(lohitunga_read_duration(0x99, 0x60, 0x00)), 64, 1, 0);
+    tells("a duration of FF FF FF: 63, at its first digit", TOLD(lohitunga_read_duration(0xFF, 0xFF, 0xFF)), 63, 0, 0);
+    tells("a duration of 01 45 3A: 63, at its last digit", TOLD(lohitunga_duration_from(BYTES(0x01, 0x45, 0x3A))), 63, 2, 1);
     is("an offset of 01 00 ahead", lohitunga_read_offset(0, 0x01, 0x00).minutes, 60);
     is("an offset of 23 59 behind", lohitunga_read_offset(1, 0x23, 0x59).minutes, -1439);
-    is("an offset of 24 00: 64", lohitunga_read_offset(0, 0x24, 0x00).number, 64);
-    is("an offset of 00 0A: 63", lohitunga_read_offset(0, 0x00, 0x0A).number, 63);
+    tells("an offset of 24 00: 64, at the hour", TOLD(lohitunga_read_offset(0, 0x24, 0x00)), 64, 0, 0);
+    tells("an offset of 00 60: 64, at the minute", TOLD(lohitunga_read_offset(0, 0x00, 0x60)), 64, 1, 0);
+    tells("an offset of 00 0A: 63, at the minute's second digit", TOLD(lohitunga_read_offset(0, 0x00, 0x0A)), 63, 1, 1);
+    tells("an offset of 01 6A: 63, since digits come before their number", TOLD(lohitunga_read_offset(1, 0x01, 0x6A)), 63, 1, 1);
 }
 
 /* Descriptors */
@@ -127,13 +143,17 @@ static void delivery(void)
     is("reserved bits of zeros: the same fields", c.number, 0);
     is("reserved bits of zeros: the same fields", c.cable.fec_outer, 2);
     is("reserved bits of zeros: the same fields", c.cable.symbol_rate, 274500);
-    is("a frequency's last digit A: 63",
-       lohitunga_read_cable(BYTES(0x44, 11, 0x03, 0x12, 0x00, 0x0A, 0xFF, 0xF2, 0x03, 0x02, 0x74, 0x50, 0x0F)).number, 63);
-    is("a digit A of the symbol_rate: 63",
-       lohitunga_read_cable(BYTES(0x44, 11, 0x03, 0x12, 0x00, 0x00, 0xFF, 0xF2, 0x03, 0x02, 0x74, 0x5A, 0x0F)).number, 63);
-    is("a body of ten bytes: 62", lohitunga_read_cable(BYTES(0x44, 10, 0x03, 0x12, 0x00, 0x00, 0xFF, 0xF2, 0x03, 0x02, 0x74, 0x50)).number, 62);
-    is("a satellite descriptor read as a cable one: 61",
-       lohitunga_read_cable(BYTES(0x43, 11, 0x01, 0x17, 0x57, 0x25, 0x01, 0x92, 0x81, 0x02, 0x74, 0x50, 0x03)).number, 61);
+    tells("a cable descriptor that is read tells no place", TOLD(c), 0, 0, 0);
+    tells("docs/REFUSALS.md: 44 0B 03 12 00 00 FF F2 03 00 6B 75 02: 63 at place 7, digit 3",
+          TOLD(lohitunga_read_cable(BYTES(0x44, 0x0B, 0x03, 0x12, 0x00, 0x00, 0xFF, 0xF2, 0x03, 0x00, 0x6B, 0x75, 0x02))), 63, 7, 3);
+    tells("a frequency's last digit A: 63",
+          TOLD(lohitunga_read_cable(BYTES(0x44, 11, 0x03, 0x12, 0x00, 0x0A, 0xFF, 0xF2, 0x03, 0x02, 0x74, 0x50, 0x0F))), 63, 0, 7);
+    tells("a digit A of the symbol_rate: 63",
+          TOLD(lohitunga_read_cable(BYTES(0x44, 11, 0x03, 0x12, 0x00, 0x00, 0xFF, 0xF2, 0x03, 0x02, 0x74, 0x5A, 0x0F))), 63, 7, 5);
+    tells("a body of ten bytes: 62",
+          TOLD(lohitunga_read_cable(BYTES(0x44, 10, 0x03, 0x12, 0x00, 0x00, 0xFF, 0xF2, 0x03, 0x02, 0x74, 0x5A))), 62, 0, 0);
+    tells("a satellite descriptor read as a cable one: 61",
+          TOLD(lohitunga_read_cable(BYTES(0x43, 11, 0x01, 0x17, 0x57, 0x25, 0x01, 0x92, 0x81, 0x02, 0x74, 0x5A, 0x03))), 61, 0, 0);
 
     lohitunga_satellite_answer s = lohitunga_read_satellite(BYTES(0x43, 11, 0x01, 0x17, 0x57, 0x25, 0x01, 0x92, 0x81, 0x02, 0x74, 0x50, 0x03));
     what = "EN 300 468, 6.2.13.2: satellite frequency 011,75725 GHz; document 01: 1,175,725 steps";
@@ -153,8 +173,15 @@ static void delivery(void)
     is(what, s.number, 0);
     is(what, s.satellite.west_east_flag, 0);
     is(what, s.satellite.polarization * 1000 + s.satellite.modulation_system * 100 + s.satellite.modulation_type * 10 + s.satellite.roll_off, 3112);
-    is("a digit F of the orbital position: 63",
-       lohitunga_read_satellite(BYTES(0x43, 11, 0x01, 0x17, 0x57, 0x25, 0x0F, 0x92, 0x81, 0x02, 0x74, 0x50, 0x03)).number, 63);
+    tells("a digit F of the orbital position: 63",
+          TOLD(lohitunga_read_satellite(BYTES(0x43, 11, 0x01, 0x17, 0x57, 0x25, 0x0F, 0x92, 0x81, 0x02, 0x74, 0x50, 0x03))), 63, 4, 1);
+    tells("a seventh digit A of the symbol_rate: 63",
+          TOLD(lohitunga_read_satellite(BYTES(0x43, 11, 0x01, 0x17, 0x57, 0x25, 0x01, 0x92, 0x81, 0x02, 0x74, 0x50, 0xA3))), 63, 7, 6);
+    tells("a digit in each field: the first",
+          TOLD(lohitunga_read_satellite(BYTES(0x43, 11, 0x01, 0x17, 0x57, 0xB5, 0x0F, 0x92, 0x81, 0x02, 0x74, 0x50, 0xA3))), 63, 0, 6);
+    tells("what stands between the fields and behind them is no digit",
+          TOLD(lohitunga_read_satellite(BYTES(0x43, 11, 0x01, 0x17, 0x57, 0x25, 0x01, 0x92, 0xFF, 0x02, 0x74, 0x50, 0x0F))), 0, 0, 0);
+    tells("a satellite descriptor of one byte: 62", TOLD(lohitunga_read_satellite(BYTES(0x43))), 62, 0, 0);
 
     what = "EN 300 468, 6.2.13.4: centre_frequency from 10 Hz to 42 949 672 950 Hz";
     lohitunga_terrestrial_answer t = lohitunga_read_terrestrial(BYTES(0x5A, 11, 0, 0, 0, 1, 0, 0, 0, 0, 0, 0, 0));
@@ -267,16 +294,34 @@ static void offsets(void)
     is("local time offset", l.item.country_region_id + l.item.local_time_offset, 0);
     is("local time offset: time of change", l.item.time_of_change.hour * 10000 + l.item.time_of_change.minute * 100 + l.item.time_of_change.second, 124500);
     is_date("local time offset: time of change", l.item.time_of_change.mjd, 1993, 10, 13);
-    is("index past the end: 66", lohitunga_read_local_time_offset(one, sizeof one, 1).number, 66);
+    tells("index past the end: 66", TOLD(lohitunga_read_local_time_offset(one, sizeof one, 1)), 66, 0, 0);
     l = lohitunga_read_local_time_offset(BYTES(0x58, 13, 'G', 'B', 'R', 0xFF, 0, 0, 0xFF, 0xFF, 0xFF, 0xFF, 0xFF, 0x01, 0), 0);
     is("region 63, polarity 1", l.item.country_region_id, 63);
     is("region 63, polarity 1: zero is zero", l.item.local_time_offset, 0);
     is("region 63, polarity 1", l.item.next_time_offset, -60);
     is("region 63: undefined", l.item.time_of_change.undefined, 1);
     const char *what = "the first fault, left to right: offset, time of change, next offset";
-    is(what, lohitunga_read_local_time_offset(BYTES(0x58, 13, 'G', 'B', 'R', 0x02, 0, 0x60, 0, 0, 0x12, 0x45, 0, 0x01, 0x0A), 0).number, 64);
-    is(what, lohitunga_read_local_time_offset(BYTES(0x58, 13, 'G', 'B', 'R', 0x02, 0, 0, 0, 0, 0x12, 0x45, 0, 0x01, 0x0A), 0).number, 65);
-    is(what, lohitunga_read_local_time_offset(BYTES(0x58, 13, 'G', 'B', 'R', 0x02, 0, 0, 0xC0, 0x79, 0x12, 0x45, 0, 0x01, 0x0A), 0).number, 63);
+    uint8_t wrong[sizeof one];
+    memcpy(wrong, one, sizeof one);
+    wrong[2 + 12] = 0x0A;
+    tells(what, TOLD(lohitunga_read_local_time_offset(wrong, sizeof wrong, 0)), 63, 12, 1);
+    wrong[2 + 6] = wrong[2 + 7] = 0;
+    tells(what, TOLD(lohitunga_read_local_time_offset(wrong, sizeof wrong, 0)), 65, 6, 0);
+    wrong[2 + 5] = 0x60;
+    tells(what, TOLD(lohitunga_read_local_time_offset(wrong, sizeof wrong, 0)), 64, 5, 0);
+
+    /* The place is in the body, so that item 1 begins at 13; item 0 is right. */
+    uint8_t two[2 + 26] = {0x58, 26};
+    memcpy(two + 2, one + 2, 13);
+    memcpy(two + 15, one + 2, 13);
+    uint8_t *clock = two + 15 + 8, *mjd = two + 15 + 6;
+    memcpy(clock, "\x24\x00\x00", 3);
+    tells("item 1 changes at 24 00 00: 64", TOLD(lohitunga_read_local_time_offset(two, sizeof two, 1)), 64, 13 + 8, 0);
+    memcpy(clock, "\x12\x4A\x00", 3);
+    tells("item 1 changes at 12 4A 00: 63", TOLD(lohitunga_read_local_time_offset(two, sizeof two, 1)), 63, 13 + 9, 1);
+    memcpy(mjd, "\x3A\xE6", 2);
+    tells("item 1 changes on MJD 0x3AE6: 65", TOLD(lohitunga_read_local_time_offset(two, sizeof two, 1)), 65, 13 + 6, 0);
+    tells("item 0 is read", TOLD(lohitunga_read_local_time_offset(two, sizeof two, 0)), 0, 0, 0);
 }
 
 /* Sections */
