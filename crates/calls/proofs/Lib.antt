@@ -5,4 +5,5 @@ pub mod Judges
 pub mod Rolls
 pub mod Sheets
 pub mod Sections
+pub mod Readings
 pub mod Tied

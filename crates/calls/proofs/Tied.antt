@@ -17,6 +17,7 @@ use Rattle.calls.specs.Collects as collects
 use Rattle.calls.specs.Judges as judges
 use Rattle.calls.specs.Rolls as rolls
 use Rattle.calls.specs.Sheets as sheets
+use Rattle.calls.specs.Readings as readings
 use Rattle.cabinet.proofs.collect.lohitunga_fresh as fresh
 use Rattle.cabinet.proofs.collect.lohitunga_collect as collect
 use Rattle.cabinet.proofs.judge.lohitunga_judge as judge
@@ -29,6 +30,15 @@ use Rattle.cabinet.proofs.section_parts.lohitunga_open as opening
 use Rattle.cabinet.proofs.section_parts.lohitunga_next_section as next-section
 use Rattle.cabinet.proofs.section_parts.lohitunga_next_entry as next-entry
 use Rattle.cabinet.proofs.section_parts.lohitunga_next_descriptor as next-descriptor
+use Rattle.cabinet.proofs.delivery_readings.lohitunga_read_satellite as satellite
+use Rattle.cabinet.proofs.delivery_readings.lohitunga_read_cable as cable
+use Rattle.cabinet.proofs.list_readings.lohitunga_read_local_time_offset as item
+use Rattle.cabinet.proofs.section_parts.lohitunga_time_from as time-from
+use Rattle.cabinet.proofs.section_parts.lohitunga_duration_from as duration-from
+use Rattle.cabinet.proofs.times.lohitunga_read_time as time
+use Rattle.cabinet.proofs.times.lohitunga_read_duration as duration
+use Rattle.cabinet.proofs.times.lohitunga_read_offset as offset
+use Rattle.cabinet.proofs.times.lohitunga_read_date as date
 
 module _ {M : Type 1} (𝓤 : URA M) (H : Heap 𝓤) (A : Atoms 𝓤) (at-mem : Memory → SProp 𝓤) (run : Routine → Fun 𝓤) where
   pub fresh-promises : (κs : Lfts (fresh.ended .signature .lifetimes)) (a : Args (fresh.ended .signature) κs)
@@ -107,3 +117,57 @@ module _ {M : Type 1} (𝓤 : URA M) (H : Heap 𝓤) (A : Atoms 𝓤) (at-mem : 
       → next-descriptor.clauses 𝓤 H A at-mem run κs a .ensures tt x (atExit next-descriptor.ended κs a ws)
           ≡ fact 𝓤 (sections.PromisedDescriptor (a .0 .now) (a .1 .0) x)
   next-descriptor-promises κs a x ws = refl
+
+  pub satellite-promises : (κs : Lfts (satellite.ended .signature .lifetimes)) (a : Args (satellite.ended .signature) κs)
+      (x : Res (satellite.ended .signature) κs) (ws : Lasts satellite.ended κs a)
+      → satellite.clauses 𝓤 H A at-mem run κs a .ensures tt x (atExit satellite.ended κs a ws)
+      ≡ fact 𝓤 (readings.PromisedSatellite (a .0 .now) x)
+  satellite-promises κs a x ws = refl
+
+  pub cable-promises : (κs : Lfts (cable.ended .signature .lifetimes)) (a : Args (cable.ended .signature) κs)
+      (x : Res (cable.ended .signature) κs) (ws : Lasts cable.ended κs a)
+      → cable.clauses 𝓤 H A at-mem run κs a .ensures tt x (atExit cable.ended κs a ws)
+      ≡ fact 𝓤 (readings.PromisedCable (a .0 .now) x)
+  cable-promises κs a x ws = refl
+
+  pub item-promises : (κs : Lfts (item.ended .signature .lifetimes)) (a : Args (item.ended .signature) κs)
+      (x : Res (item.ended .signature) κs) (ws : Lasts item.ended κs a)
+      → item.clauses 𝓤 H A at-mem run κs a .ensures tt x (atExit item.ended κs a ws)
+      ≡ fact 𝓤 (readings.PromisedItem (a .0 .now) (a .1 .0) x)
+  item-promises κs a x ws = refl
+
+  pub time-from-promises : (κs : Lfts (time-from.ended .signature .lifetimes)) (a : Args (time-from.ended .signature) κs)
+      (x : Res (time-from.ended .signature) κs) (ws : Lasts time-from.ended κs a)
+      → time-from.clauses 𝓤 H A at-mem run κs a .ensures tt x (atExit time-from.ended κs a ws)
+      ≡ fact 𝓤 (readings.PromisedTimeFrom (a .0 .now) x)
+  time-from-promises κs a x ws = refl
+
+  pub duration-from-promises : (κs : Lfts (duration-from.ended .signature .lifetimes)) (a : Args (duration-from.ended .signature) κs)
+      (x : Res (duration-from.ended .signature) κs) (ws : Lasts duration-from.ended κs a)
+      → duration-from.clauses 𝓤 H A at-mem run κs a .ensures tt x (atExit duration-from.ended κs a ws)
+      ≡ fact 𝓤 (readings.PromisedDurationFrom (a .0 .now) x)
+  duration-from-promises κs a x ws = refl
+
+  pub time-promises : (κs : Lfts (time.ended .signature .lifetimes)) (a : Args (time.ended .signature) κs)
+      (x : Res (time.ended .signature) κs) (ws : Lasts time.ended κs a)
+      → time.clauses 𝓤 H A at-mem run κs a .ensures tt x (atExit time.ended κs a ws)
+      ≡ fact 𝓤 (readings.PromisedTime (a .0) (a .1 .0) (a .1 .1 .0) (a .1 .1 .1 .0) x)
+  time-promises κs a x ws = refl
+
+  pub duration-promises : (κs : Lfts (duration.ended .signature .lifetimes)) (a : Args (duration.ended .signature) κs)
+      (x : Res (duration.ended .signature) κs) (ws : Lasts duration.ended κs a)
+      → duration.clauses 𝓤 H A at-mem run κs a .ensures tt x (atExit duration.ended κs a ws)
+      ≡ fact 𝓤 (readings.PromisedDuration (a .0) (a .1 .0) (a .1 .1 .0) x)
+  duration-promises κs a x ws = refl
+
+  pub offset-promises : (κs : Lfts (offset.ended .signature .lifetimes)) (a : Args (offset.ended .signature) κs)
+      (x : Res (offset.ended .signature) κs) (ws : Lasts offset.ended κs a)
+      → offset.clauses 𝓤 H A at-mem run κs a .ensures tt x (atExit offset.ended κs a ws)
+      ≡ fact 𝓤 (readings.PromisedOffset (a .0) (a .1 .0) (a .1 .1 .0) x)
+  offset-promises κs a x ws = refl
+
+  pub date-promises : (κs : Lfts (date.ended .signature .lifetimes)) (a : Args (date.ended .signature) κs)
+      (x : Res (date.ended .signature) κs) (ws : Lasts date.ended κs a)
+      → date.clauses 𝓤 H A at-mem run κs a .ensures tt x (atExit date.ended κs a ws)
+      ≡ fact 𝓤 (readings.PromisedDate (a .0) x)
+  date-promises κs a x ws = refl

@@ -1,7 +1,8 @@
--- The statements about whole sequences of the calls for C: the collector's, the judge's, the roll's, and both turns of
--- sheets.
+-- The statements about the calls for C, and about whole sequences of them: the collector's, the judge's, the roll's, both turns of sheets, and
+-- what the readings tell of a wrong field.
 pub mod Collects
 pub mod Judges
 pub mod Rolls
 pub mod Sheets
 pub mod Sections
+pub mod Readings
