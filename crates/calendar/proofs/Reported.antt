@@ -8,7 +8,7 @@ use Rattle.wire.specs.Number.{numberAt}
 use Rattle.wire.specs.Reading.{refused}
 use Rattle.clock.specs.Fault.{tooEarly}
 use Rattle.clock.specs.Reported.{mjd, Judged, RefusalTells}
-use Rattle.clock.proofs.FirstWrong.{reads, judged-then, judged-tells}
+use Rattle.clock.proofs.FirstWrong.{judged-value, judged-then, judged-tells}
 use Rattle.clock.proofs.Reported.{day-judged, byte-more, no-bytes}
 use Rattle.calendar.specs.Calendar.{dateOf}
 
@@ -22,7 +22,7 @@ module _ (day : ℕ) (days : day < 65536) where
       let e : day / 256 * 256 + day % 256 ≡ day = omega arith in
       let bytes = byte-more (day / 256) (day % 256 ∷ []) (omega arith) (byte-more (day % 256) [] (omega arith) no-bytes) in
       subst (λ d. Judged Own (mjd 0 ∷ []) (dateOf d)) e
-      (judged-then Own (mjd 0 ∷ []) [] _ _ (day-judged Own bytes 0) (λ d. reads Own [] _ tt))
+      (judged-then Own (mjd 0 ∷ []) [] _ _ (day-judged Own bytes 0) (λ d. judged-value Own [] _ tt))
 
   pub date-tells : RefusalTells Own (mjd 0 ∷ []) (dateOf day)
   date-tells = judged-tells Own (mjd 0 ∷ []) (dateOf day) date-alone

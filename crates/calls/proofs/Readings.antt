@@ -5,7 +5,6 @@ use mathlib.Core.Logic.{inl}
 use mathlib.Core.List.{List, [], _∷_}
 use native.Mathlib.Omega.{arith}
 use lib.ListN.{drop}
-use Rattle.wire.specs.Bytes.{Bytes}
 use Rattle.wire.specs.Reading.{value, refused}
 use Rattle.clock.specs.Fault.{Why, Answered, plain}
 use Rattle.clock.specs.Time.{timeOf}

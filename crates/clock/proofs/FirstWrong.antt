@@ -60,11 +60,11 @@ module _ {A : Type 0} (b : List ℕ) (fs : List Checked) where
   read-exactly (refused w) j = (λ e. absurd (never (sym (e .1))), λ right. absurd (none-wrong b w fs right (j .told w refl)))
 
   -- with a value, and with a refusal
-  pub reads : (a : A) → Each (Right b) fs → Judged b fs (value a)
-  reads a right = record { read = λ c e. right; told = λ w e. absurd (never e) }
+  pub judged-value : (a : A) → Each (Right b) fs → Judged b fs (value a)
+  judged-value a right = record { read = λ c e. right; told = λ w e. absurd (never e) }
 
-  pub tells : (w : Why) → FirstWrong b w fs → Judged {A = A} b fs (refused w)
-  tells w wrong =
+  pub judged-refusal : (w : Why) → FirstWrong b w fs → Judged {A = A} b fs (refused w)
+  judged-refusal w wrong =
       record { read = λ a e. absurd (never (sym e)); told = λ v e. subst (λ x. FirstWrong b x fs) (refused-is e) wrong }
 
 -- one reading after another
@@ -91,7 +91,7 @@ module _ (b : List ℕ) (fs gs : List Checked) where
   pub judged-then : {A B : Type 0} (r : Answered A) (k : A → Answered B) → Judged b fs r → ((a : A) → Judged b gs (k a))
       → Judged b (fs ++ gs) (r >>= k)
   judged-then (value a) k j h = behind (j .read a refl) (k a) (h a)
-  judged-then (refused w) k j h = tells b (fs ++ gs) w (wrong-also b w fs gs (j .told w refl))
+  judged-then (refused w) k j h = judged-refusal b (fs ++ gs) w (wrong-also b w fs gs (j .told w refl))
 
 -- ---- what a refusal tells
 

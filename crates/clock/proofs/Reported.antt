@@ -27,7 +27,7 @@ use Rattle.clock.specs.Offset.{offsetAt, offsetOf}
 use Rattle.clock.specs.declared.time.Moment.{Moment}
 use Rattle.clock.specs.declared.time.Moment.the-variants.{Undefined, At}
 use Rattle.clock.specs.Reported.{Checked, digits, clock, mjd, halves, twoDigits, BadDigit, Judged, RefusalTells, offsetFields, durationFields, timeFields}
-use Rattle.clock.proofs.FirstWrong.{reads, tells, judged-then, judged-tells}
+use Rattle.clock.proofs.FirstWrong.{judged-value, judged-refusal, judged-then, judged-tells}
 
 -- ---- numbers in BCD
 
@@ -40,8 +40,8 @@ module _ (b : List ℕ) (at n v : ℕ) (same : (j : ℕ) → j < n → digitFrom
   none-told x e = none-bad-same (digitFrom n v) (halves b at) n same (bcd-none n v x e)
 
   pub digits-judged : (r : Result ℕ ℕ) → bcdOf v n ≡ r → Judged b (digits at n ∷ []) (inField at r)
-  digits-judged (value x) e = reads b (digits at n ∷ []) x (none-told x e, tt)
-  digits-judged (refused j) e = tells b (digits at n ∷ []) (badDigit at j) (inl (bad-told j e))
+  digits-judged (value x) e = judged-value b (digits at n ∷ []) x (none-told x e, tt)
+  digits-judged (refused j) e = judged-refusal b (digits at n ∷ []) (badDigit at j) (inl (bad-told j e))
 
 -- two digits that are read are their number
 two-are : (v x : ℕ) → bcdOf v 2 ≡ value x → x ≡ digitFrom 2 v 0 * 10 + digitFrom 2 v 1
@@ -74,13 +74,13 @@ module _ (b : List ℕ) (bytes : Bytes b) where
       fs = clock at limit ∷ []
 
       go : (r : Result ℕ ℕ) → bcdOf v 2 ≡ r → Judged b fs (inField at r >>= below at limit)
-      go (refused j) e = tells b fs (badDigit at j) (inl (inl (bad-told b at 2 v same j e)))
+      go (refused j) e = judged-refusal b fs (badDigit at j) (inl (inl (bad-told b at 2 v same j e)))
       go (value x) e =
           let none = none-told b at 2 v same x e in
           let is : x ≡ twoDigits b at = two-are v x e ∙ ap₂ (λ y z. y * 10 + z) (same 0 (omega arith)) (same 1 (omega arith)) in
           if-case (Judged b fs) (ltb x limit)
-          (λ h. reads b fs x ((none, subst (λ y. y < limit) is (ltb-true x limit h)), tt))
-          (λ h. tells b fs (outOfRange at) (inl (inr (none, subst (λ y. limit ≤ y) is (ltb-false x limit h), refl))))
+          (λ h. judged-value b fs x ((none, subst (λ y. y < limit) is (ltb-true x limit h)), tt))
+          (λ h. judged-refusal b fs (outOfRange at) (inl (inr (none, subst (λ y. limit ≤ y) is (ltb-false x limit h), refl))))
 
   pub hms-judged : (at limit : ℕ)
       → Judged b (clock at limit ∷ clock (at + 1) 60 ∷ clock (at + 2) 60 ∷ [])
@@ -89,21 +89,21 @@ module _ (b : List ℕ) (bytes : Bytes b) where
   hms-judged at limit =
       judged-then b (clock at limit ∷ []) (clock (at + 1) 60 ∷ clock (at + 2) 60 ∷ []) _ _ (field-judged at limit) (λ hour.
       judged-then b (clock (at + 1) 60 ∷ []) (clock (at + 2) 60 ∷ []) _ _ (field-judged (at + 1) 60) (λ minute.
-      judged-then b (clock (at + 2) 60 ∷ []) [] _ _ (field-judged (at + 2) 60) (λ second. reads b [] _ tt)))
+      judged-then b (clock (at + 2) 60 ∷ []) [] _ _ (field-judged (at + 2) 60) (λ second. judged-value b [] _ tt)))
 
   pub offset-judged : (at : ℕ) (behind : Bool)
       → Judged b (offsetFields at) (offsetAt at behind (getD b at 0) (getD b (at + 1) 0))
   unfolding offsetAt
   offset-judged at behind =
       judged-then b (clock at 24 ∷ []) (clock (at + 1) 60 ∷ []) _ _ (field-judged at 24) (λ hour.
-      judged-then b (clock (at + 1) 60 ∷ []) [] _ _ (field-judged (at + 1) 60) (λ minute. reads b [] _ tt))
+      judged-then b (clock (at + 1) 60 ∷ []) [] _ _ (field-judged (at + 1) 60) (λ minute. judged-value b [] _ tt))
 
   pub day-judged : (at : ℕ) → Judged b (mjd at ∷ []) (day at (numberAt 2 b at))
   day-judged at =
       let d : ℕ = numberAt 2 b at in
       if-case (Judged b (mjd at ∷ [])) (ltb d 15079)
-      (λ h. tells b (mjd at ∷ []) (tooEarly at) (inl (ltb-true d 15079 h, refl)))
-      (λ h. reads b (mjd at ∷ []) d (ltb-false d 15079 h, tt))
+      (λ h. judged-refusal b (mjd at ∷ []) (tooEarly at) (inl (ltb-true d 15079 h, refl)))
+      (λ h. judged-value b (mjd at ∷ []) d (ltb-false d 15079 h, tt))
 
   module _ (at : ℕ) where
     abbrev Hour : ℕ
@@ -144,10 +144,10 @@ module _ (b : List ℕ) (bytes : Bytes b) where
     four-judged : Judged b FourFields Fields
     four-judged =
         judged-then b (mjd at ∷ []) Clock _ _ (day-judged at) (λ d.
-        judged-then b Clock [] _ _ clock-judged (λ t. reads b [] _ tt))
+        judged-then b Clock [] _ _ clock-judged (λ t. judged-value b [] _ tt))
 
     either-judged : (ones : Bool) → Judged b (if ones then [] else FourFields) (if ones then value Undefined else Fields)
-    either-judged true = reads b [] Undefined tt
+    either-judged true = judged-value b [] Undefined tt
     either-judged false = four-judged
 
     -- "Forty ones mean "undefined", before any check; else MJD, hour, minute and second are four fields."

@@ -7,7 +7,7 @@ use native.Mathlib.Omega.{arith}
 use lib.ListN.{length, drop}
 use Rattle.wire.specs.Bytes.{Bytes}
 use Rattle.clock.specs.Reported.{digits, Judged, RefusalTells}
-use Rattle.clock.proofs.FirstWrong.{reads, judged-then}
+use Rattle.clock.proofs.FirstWrong.{judged-value, judged-then}
 use Rattle.layout.specs.Shapes.{Framed}
 use Rattle.layout.proofs.WidthLaws.{body-bytes}
 use Rattle.layout.proofs.Reported.{digits-at-judged, fixed-judged, fixed-tells}
@@ -21,14 +21,14 @@ module _ (b : List ℕ) (bytes : Bytes b) where
       judged-then b (digits 0 8 ∷ []) (digits 4 4 ∷ digits 7 7 ∷ []) _ _ (digits-at-judged b bytes 0 8 (omega arith))
       (λ frequency. judged-then b (digits 4 4 ∷ []) (digits 7 7 ∷ []) _ _ (digits-at-judged b bytes 4 4 (omega arith))
       (λ position. judged-then b (digits 7 7 ∷ []) [] _ _ (digits-at-judged b bytes 7 7 (omega arith))
-      (λ rate. reads b [] _ tt)))
+      (λ rate. judged-value b [] _ tt)))
 
   cable-fields : Judged b cable.checked (cable.fields b)
   unfolding cable.fields
   cable-fields =
       judged-then b (digits 0 8 ∷ []) (digits 7 7 ∷ []) _ _ (digits-at-judged b bytes 0 8 (omega arith))
       (λ frequency. judged-then b (digits 7 7 ∷ []) [] _ _ (digits-at-judged b bytes 7 7 (omega arith))
-      (λ rate. reads b [] _ tt))
+      (λ rate. judged-value b [] _ tt))
 
 module _ (s : List ℕ) (bytes : Bytes s) where
   -- a body that fits is read exactly if its fields are right, and else the first wrong one is told

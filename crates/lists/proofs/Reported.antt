@@ -10,7 +10,7 @@ use Rattle.wire.specs.Bytes.{Bytes}
 use Rattle.wire.specs.Number.{numberAt}
 use Rattle.wire.specs.Reading.{_>>=_}
 use Rattle.clock.specs.Reported.{offsetFields, timeFields, Judged, RefusalTells}
-use Rattle.clock.proofs.FirstWrong.{reads, judged-then, judged-tells}
+use Rattle.clock.proofs.FirstWrong.{judged-value, judged-then, judged-tells}
 use Rattle.clock.proofs.Reported.{offset-judged, time-judged}
 use Rattle.layout.specs.Items.{item}
 use Rattle.layout.specs.Widths.{bitsOf}
@@ -64,7 +64,7 @@ module _ (s : List ℕ) (bytes : Bytes s) (xs : List (List ℕ)) (are : Itemed 1
       item-judged 13 0x58 (omega arith) s xs are i there (fields From) (checked Body From)
       (judged-then Body (offsetFields (From + 4)) (timeFields Body (From + 6) ++ offsetFields (From + 11)) _ _ (offset 4 (omega arith))
       (λ l. judged-then Body (timeFields Body (From + 6)) (offsetFields (From + 11)) _ _ change
-      (λ c. judged-then Body (offsetFields (From + 11)) [] _ _ (offset 11 (omega arith)) (λ n. reads Body [] _ tt))))
+      (λ c. judged-then Body (offsetFields (From + 11)) [] _ _ (offset 11 (omega arith)) (λ n. judged-value Body [] _ tt))))
 
 -- whatever the bytes and the index are
 pub offset-item-tells : (s : List ℕ) → Bytes s → (i : ℕ)
