@@ -1,4 +1,4 @@
-// Document 01's numbers of refusals, and flags as numbers.
+// What the refusals of readings tell, document 01's number first, and flags as numbers.
 ghost use mathlib.Core.Path.{_≡_};
 ghost use Rattle.clock.specs.Fault.{numberOf, numbered as faultNumbered, plain as faultPlain};
 ghost use Rattle.layout.specs.Refusal.{numbered};

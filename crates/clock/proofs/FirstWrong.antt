@@ -112,7 +112,7 @@ fields-before b w (f ∷ fs) (inr (right, further)) =
     )
 
 module _ (b : List ℕ) (fs : List Checked) (w : Why) where
-  -- a number that is neither 61, 62 nor 66
+  -- a field's number
   not-bare : {A : Type 0} → 62 < numberOf w → numberOf w < 66 → Bare (numberOf w) → A
   not-bare low high m = absurd (⊎-elim (λ (l : numberOf w < 63). omega arith) (λ (l : 65 < numberOf w). omega arith) m)
 
@@ -160,7 +160,7 @@ module _ (b : List ℕ) (fs : List Checked) (w : Why) where
   first-tells : FirstWrong b w fs → Tells b fs w
   first-tells wrong = let (f, x) = fields-before b w fs wrong in field-tells f (x .wrong) x
 
--- 61, 62 and 66 carry nothing else
+-- a number that is no field's carries nothing else
 pub bare-tells : (b : List ℕ) (fs : List Checked) (k : ℕ) → Bare k → Tells b fs (plain k)
 bare-tells b fs k other = record {
   bad-digit = λ m. not-bare b fs (plain k) (omega arith) (omega arith) other;

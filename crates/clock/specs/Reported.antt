@@ -70,7 +70,7 @@ pub record Found (b : List ℕ) (w : Why) (fs : List Checked) (f : Checked) : Ty
   pub right : Each (Right b) front
   pub wrong : Wrong b w f
 
--- 61, 62 and 66 are no field's
+-- any number but 63 to 65 is no field's: 61, 62 and 66, and the 0 of what is not refused
 abbrev pub Bare : ℕ → Type 0
 Bare k = (k < 63) ⊎ (65 < k)
 

@@ -44,7 +44,7 @@ digits-eight b at n h =
 
 -- ---- 61, 62 and 66
 
--- what is refused, is refused with one of them, and it carries nothing else
+-- what is refused, is refused with a number that is no field's, and it carries nothing else
 abbrev pub OnlyBare : {A : Type 0} → Answered A → Type 0
 OnlyBare r = (w : Why) → r ≡ refused w → (k : ℕ) × Bare k × (plain k ≡ w)
 

@@ -1,12 +1,12 @@
 -- The layout's refusal, or the fields of the item, with its offset in the list.
-use Prim.Native.Nat.{ℕ, _+_, _-_, _*_, _<_, _≤_}
+use Prim.Native.Nat.{ℕ, _+_, _*_, _<_}
 use mathlib.Core.Path.{_≡_, sym, ap, _∙_}
 use mathlib.Core.List.{List}
 use native.Mathlib.Omega.{arith}
 use Rattle.wire.specs.Reading.{value}
 use Rattle.layout.specs.Items.{place, item, toldPlace}
 use Rattle.layout.proofs.Exactly.{item-place, item-low}
-use Rattle.lists.specs.LocalTimeOffset.{localTimeOffset}
+use Rattle.lists.specs.LocalTimeOffset.{fields, localTimeOffset}
 use borrow.Author.Needs.{needs}
 use Rattle.lists.proofs.local_time_offset.read.Statement.{statement}
 use Rattle.lists.proofs.local_time_offset.read.Tie as tie
@@ -40,17 +40,14 @@ module _ (b : tie.After-at) where
   placed : place S 0x58 13 Index ≡ value At
   placed = sym (Call .item-at .ensures) ∙ ap toldPlace (b .at .given .1)
 
-  from : At - 2 ≡ 13 * Index
-  from = omega (arith, item-place 13 0x58 S Index At placed)
-
-  behind-two : 2 ≤ At
-  behind-two = omega (arith, item-place 13 0x58 S Index At placed)
+  where-it-stands : At ≡ 2 + 13 * Index
+  where-it-stands = item-place 13 0x58 S Index At placed
 
   low : At + 13 < 258
   low = item-low 13 0x58 S Index (Call .before .shared-slice-known .given 1 .fits) At placed
 
 sub-fields-of : tie.Need-sub-fields-of
-sub-fields-of c = behind-two (c .before .before)
+sub-fields-of c = omega (arith, where-it-stands (c .before .before))
 
 cast-fields-of : tie.Need-cast-fields-of
 cast-fields-of c = omega (arith, low (c .before .before))
@@ -67,7 +64,9 @@ unfolding localTimeOffset item
 returns-2 c =
     let after-at = c .before .before .before in
     let item-at = after-at .before .before .item-at in
-    rw (← item-at .ensures, after-at .at .given .1, ← c .before .part .ensures, ← from after-at) (c .fields-of .ensures)
+    let at = where-it-stands after-at in
+    rw (← item-at .ensures, after-at .at .given .1, ← c .before .part .ensures)
+    (c .fields-of .ensures ∙ ap (λ from. fields from (c .before .part .result .now)) (omega arith))
 
 pub read-spec : {M : Type 1} → statement M
 read-spec =
