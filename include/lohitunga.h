@@ -41,7 +41,7 @@ extern "C" {
 /* The version of the library, and the number of this interface: it goes up when the layout of a struct or the meaning of a call changes. A program that
  * was compiled with this header may use an archive or a shared library for which lohitunga_interface() tells the same number. */
 #define LOHITUNGA_VERSION "0.1"
-#define LOHITUNGA_INTERFACE 3
+#define LOHITUNGA_INTERFACE 4
 
 uint32_t lohitunga_interface(void);
 
@@ -151,7 +151,8 @@ uint32_t lohitunga_crc32(const uint8_t *bytes, size_t size);
 typedef struct lohitunga_record {
     uint16_t pid;
     uint8_t last; /* the last continuity_counter, 0 to 15; LOHITUNGA_NO_COUNTER for none */
-    uint8_t spare[5];
+    uint8_t mark; /* not 0: a splice was marked, and no packet with payload was taken since; where a call sets it, it writes 1 */
+    uint8_t spare[4];
     size_t in_hand;
     uint32_t pointer;
     uint32_t delivered;
@@ -168,11 +169,14 @@ typedef struct lohitunga_collect_answer {
     size_t size;       /* how many bytes they are: the first of the out room, end to end */
 } lohitunga_collect_answer;
 
-/* A record without counter, with nothing in hand and zeros, also in what is spare. Any number is taken; a pid above 8,191 gets 43 at each packet. */
+/* A record without counter and mark, with nothing in hand and zeros, also in what is spare. Any number is taken; a pid above 8,191 gets 43 at each
+ * packet. */
 lohitunga_record lohitunga_fresh(uint16_t pid);
 
 /* One packet. Alters the record; of the hold the first bytes, as many as are then in hand; of the out room the first `size` bytes. All other bytes of
- * either stay. */
+ * either stay.
+ * A packet that is not refused sets the mark by an adaptation field of at least one byte with discontinuity_indicator set. The next packet with
+ * payload, the marked one itself if it has any, is never repeated, breaks off what is in hand and clears the mark. */
 lohitunga_collect_answer lohitunga_collect(lohitunga_record *record, uint8_t *hold, size_t hold_size, uint8_t *out, size_t out_size,
                                            const uint8_t *packet, size_t packet_size);
 

@@ -4,9 +4,9 @@
     samples/make.py            writes both
     samples/make.py --check    says whether the two are what this file says, and changes nothing
 
-NIT, BAT, SDT, EIT, TDT and TOT sections, packed end to end; and what happens to streams: a gap, repeated packets, a splice, packets that
-document 01 refuses, adaptation fields, a section whose length no section can have, a last piece that is cut. The account is kept here by rules
-of its own, byte by byte from document 01, and not by the library.
+NIT, BAT, SDT, EIT, TDT and TOT sections, packed end to end; and what happens to streams: a gap, repeated packets, a splice, splices that the
+sender marks, packets that document 01 refuses, adaptation fields, a section whose length no section can have, a last piece that is cut. The
+account is kept here by rules of its own, byte by byte from document 01 and request (ix) of document 02, and not by the library.
 """
 import random
 import sys
@@ -19,13 +19,13 @@ HERE = Path(__file__).resolve().parent
 PID = 0x0014
 
 
-def packet(payload, counter, start, pid=PID, sync=0x47, error=0, scrambling=0):
-    """A packet with this payload; what is short of 184 bytes an adaptation field fills."""
+def packet(payload, counter, start, pid=PID, sync=0x47, error=0, scrambling=0, flags=0):
+    """A packet with this payload; what is short of 184 bytes an adaptation field with these flags fills."""
     head = bytes([sync, error << 7 | start << 6 | pid >> 8, pid & 255])
     room = 184 - len(payload)
     if room == 0:
         return head + bytes([scrambling << 6 | 0x10 | counter]) + payload
-    field = b"" if room == 1 else b"\x00" + b"\xFF" * (room - 2)
+    field = b"" if room == 1 else bytes([flags]) + b"\xFF" * (room - 2)
     return head + bytes([scrambling << 6 | (0x30 if payload else 0x20) | counter, room - 1]) + field + payload
 
 
@@ -54,6 +54,28 @@ def packed(sections, counter, pid=PID):
     return out, counter
 
 
+MARK = 0x80  # discontinuity_indicator
+LONG = made.sdt(made.service(made.NAME) * 30)  # byte 183, with which the second of its packets begins, is above 127
+
+
+def marked(counter):
+    """Packets from this counter on: splices that the sender marks inside a section, and a field that marks none."""
+    begun, rest = b"\x00" + LONG[:183], LONG[183:]
+    whole = b"\x00" + made.TDT
+    out = [
+        (begun, 0, 1, 0),
+        (whole + b"\xFF" * (100 - len(whole)), 0, 1, MARK),  # the counter of the packet before: not repeated
+        (begun, 1, 1, 0),
+        (rest, 2, 0, MARK),  # the next counter: the section does not go on
+        (begun, 3, 1, 0),
+        (b"", 3, 0, MARK),  # no payload: the section does not go on in the packet behind
+        ((rest + b"\xFF" * 184)[:184], 4, 0, 0),
+        (begun, 5, 1, 0),
+        ((rest + b"\xFF" * 184)[:183], 6, 0, 0),  # no mark: the field is empty, and the byte above 127 is payload
+    ]
+    return [packet(payload, (counter + more) % 16, start, flags=flags) for payload, more, start, flags in out]
+
+
 def stream(count=60):
     """Each table once and then so many sections chosen among them, as packets with what happens to streams."""
     rng = random.Random(412)
@@ -76,12 +98,14 @@ def stream(count=60):
         if i % 37 == 20:
             out += [p, p]  # repeated
         if i % 53 == 30:
-            out.append(packet(b"", p[3] % 16, 0))  # no payload
+            out.append(packet(b"", p[3] % 16, 0, flags=0x40))  # no payload, and another flag than the mark
         if i % 61 == 10:  # refused: another sync, an error, another PID, scrambled, no adaptation control, a pointer past the payload
             out += [b"\x00" + p[1:], packet(p[4:], p[3] % 16, 0, error=1), packet(p[4:], p[3] % 16, 0, pid=0x11), packet(p[4:], p[3] % 16, 0, scrambling=2)]
             out += [p[:3] + bytes([p[3] % 16]) + p[4:], packet(b"\xB7" + p[5:], (p[3] + 1) % 16, 1)]
         if i % 89 == 50:
             out.append(packet(p[4:104], (p[3] + 9) % 16, 0))  # a splice
+        if i % 97 == 70:
+            out += marked(p[3] + 1)
     last = out[-1][3] % 16
     out.append(packet(b"\x00\x42\xFF\xFF" + b"\x00" * 180, (last + 1) % 16, 1))  # a section_length of 4,095
     out.append(packet(b"\x00" + b"\xFF" * 183, (last + 2) % 16, 1))
@@ -90,13 +114,13 @@ def stream(count=60):
 
 
 def account(data, pid=None):
-    """Document 01's rules, a byte at a time; the PID is that of the first packet, or another."""
+    """Document 01's rules and request (ix), a byte at a time; the PID is that of the first packet, or another."""
     if len(data) < 188:
         return "no packets\n"
     if pid is None:
         pid = (data[1] & 31) << 8 | data[2]
     n = dict.fromkeys(["taken", "repeated", "refused", "pointer", "delivered", "broken", "filler", "skipped"], 0)
-    hand, last, sections = b"", None, 0
+    hand, last, sections, mark = b"", None, 0, False
 
     def stretch(payload, begin):
         """The bytes of one stretch; begin: sections may begin in it. The bytes in hand after it."""
@@ -132,17 +156,19 @@ def account(data, pid=None):
         if control != 2 and start and (len(payload) < 2 or payload[0] > len(payload) - 2):
             n["refused"] += 1
             continue
+        if control != 1 and p[4] > 0 and p[5] >= 0x80:
+            mark = True
         if control == 2:
             n["taken"] += 1
             continue
-        if counter == last:
+        if counter == last and not mark:
             n["repeated"] += 1
             continue
         n["taken"] += 1
-        if last is not None and counter != (last + 1) % 16:
+        if mark or last is not None and counter != (last + 1) % 16:
             n["broken"] += len(hand)
             hand = b""
-        last = counter
+        last, mark = counter, False
         if not start:
             stretch(payload, False)
             continue

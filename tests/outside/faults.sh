@@ -4,13 +4,14 @@ set -eu
 cd "$(dirname "$0")/../.."
 tests/outside/second/build stand_in
 tried=target/second/stand_in.log
-target/second/stand_in 1 5000 >"$tried" || { cat "$tried"; exit 1; }
+target/second/stand_in 1 20000 >"$tried" || { cat "$tried"; exit 1; }
 # Kind and fault. What 63 to 65 tell is tried twice: by the second implementation, and by the caller's bytes, the kind digits.
 all="bytes:1 bytes:6 sections:2 sections:3 sections:4 sections:5 sections:23 sections:24 sections:25 sections:26
     packets:7 packets:8 packets:9 packets:10 packets:27 descriptors:11 descriptors:12 descriptors:13 times:14 times:15
     rolls:16 rolls:17 rolls:18 sheets:19 sheets:20 sheets:21 sheets:22
     descriptors:28 descriptors:29 times:29 times:30 descriptors:31 descriptors:32 descriptors:33 times:33
-    digits:14 digits:28 digits:29 digits:30 digits:31 digits:32 digits:33"
+    digits:14 digits:28 digits:29 digits:30 digits:31 digits:32 digits:33
+    packets:34 packets:35 packets:36 packets:37 packets:38 packets:39 packets:40 packets:41"
 for kind in $all; do
     status=0
     FAULT=${kind#*:} target/second/stand_in 1 20000 "${kind%:*}" >"$tried" || status=$?

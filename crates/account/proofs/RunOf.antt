@@ -59,7 +59,7 @@ runs k (p ∷ ps) =
 outcome-pid : (r : Record) (hold out : List ℕ) (z : Ruling) → outcomeOf r hold out z .rec .pid ≡ r .pid
 outcome-pid r hold out (Ruled.refuses n) = refl
 outcome-pid r hold out Ruled.repeated = refl
-outcome-pid r hold out Ruled.bare = refl
+outcome-pid r hold out (Ruled.bare splice) = refl
 outcome-pid r hold out (Ruled.takes q) = refl
 
 pub pid-stays : (k : Kept) (ps : List (List ℕ)) → enteredAll k ps .account .rec .pid ≡ k .account .rec .pid
@@ -179,9 +179,9 @@ room-enough pid size before p n k =
 outcome-room : (r : Record) (hold out : List ℕ) (z : Ruling) → length out ≤ length (outcomeOf r hold out z .out)
 outcome-room r hold out (Ruled.refuses n) = omega arith
 outcome-room r hold out Ruled.repeated = omega arith
-outcome-room r hold out Ruled.bare = omega arith
+outcome-room r hold out (Ruled.bare splice) = omega arith
 outcome-room r hold out (Ruled.takes q) =
-    over-room (flatten (deliveredOf (storyAfter delivers plain (beforeOf r) (holding (take (r .in_hand) hold)) q))) out
+    over-room (flatten (deliveredOf (storyAfter delivers plain (beforeOf r .last) (holding (take (r .in_hand) hold)) q))) out
   where
     over-room : (bs room : List ℕ) → length room ≤ length (over bs room)
     over-room bs room = omega (arith, length-append bs (drop (length bs) room), length-drop (length bs) room)

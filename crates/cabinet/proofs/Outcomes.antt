@@ -1,5 +1,6 @@
 -- The outcomes in numbers are those of the operations beneath; and a refusal leaves every number.
 use mathlib.Core.Path.{_≡_, refl, sym, ap, _∙_}
+use mathlib.Core.Bool.{Bool, true, false, not}
 use mathlib.Core.List.{List}
 use Prim.Native.Nat.{ℕ}
 use lib.ListN.{length}
@@ -15,7 +16,7 @@ use Rattle.roll.specs.Answer.{Says, missing, complete, refusing}
 use Rattle.roll.specs.Roll as roll
 use Rattle.roll.specs.Roll.{taking}
 use Rattle.roll.specs.declared.Roll as of-roll
-use Rattle.cabinet.specs.Collect.{lastIn, lastSays, countedIn, numbersWith, recordIn, recordAfter, collectSays, collecting}
+use Rattle.cabinet.specs.Collect.{lastIn, lastSays, markIn, markSays, countedIn, numbersWith, recordIn, recordAfter, collectSays, collecting}
 use Rattle.cabinet.specs.Collect as Collect
 use Rattle.cabinet.specs.Roll.{rollIn, rolling}
 use Rattle.cabinet.specs.Roll as Roll
@@ -40,12 +41,20 @@ rolling-is r s e is = ap (Roll.outcomeSays r) is ∙ ap (λ (x : of-roll.Roll). 
 pub last-kept : (n : ℕ) → lastSays (lastIn n) ≡ n
 last-kept n = if-case (λ l. lastSays l ≡ n) (eqb n 255) (λ is. sym (eqb-true n 255 is)) (λ other. refl)
 
+-- a number that keeps its meaning is kept
+pub mark-kept : (n : ℕ) → markSays n (markIn n) ≡ n
+mark-kept n = kept (eqb n 0) refl
+  where
+    kept : (t : Bool) → eqb n 0 ≡ t → markSays n (not t) ≡ n
+    kept true is = sym (eqb-true n 0 is)
+    kept false is = rw (is)
+
 -- every record of numbers stands for one of the collector's and is the numbers of that: what the collector leaves
 -- unaltered is unaltered here
 pub record-kept : (r : Record) → recordAfter r (recordIn r) ≡ r
 record-kept r =
-    ap (λ n. numbersWith (r .pid) n (r .spare) (r .in_hand) (λ k. countedIn k r) (r .«spare_counter»))
-    (last-kept (r .last))
+    λ i. numbersWith (r .pid) (last-kept (r .last) i) (mark-kept (r .mark) i) (r .spare) (r .in_hand) (λ k. countedIn k r)
+    (r .«spare_counter»)
 
 -- ---- "the record and all lent room unaltered"
 
@@ -54,7 +63,7 @@ unaltered-by : (x : of-collector.Record) (hold out : List ℕ) (ruled : Ruling)
     → outcomeOf x hold out ruled ≡ unaltered x hold out (outcomeOf x hold out ruled .said)
 unaltered-by x hold out (refuses n) h = refl
 unaltered-by x hold out repeated h = absurd (h refl)
-unaltered-by x hold out bare h = absurd (h refl)
+unaltered-by x hold out (bare splice) h = absurd (h refl)
 unaltered-by x hold out (takes q) h = absurd (h refl)
 
 -- a call that gives a number alters nothing that was lent

@@ -1,5 +1,6 @@
 -- The collector's record and answer in numbers.
 use mathlib.Core.Path.{_≡_}
+use mathlib.Core.Bool.{Bool, true, false, not}
 use Prim.Native.Nat.{ℕ}
 use mathlib.Core.List.{List, [], _∷_}
 use lib.Dec.{eqb}
@@ -23,6 +24,16 @@ abbrev pub lastSays : Last → ℕ
 lastSays None = 255
 lastSays (Counter n) = n
 
+-- ---- the mark: any number but 0 is set
+
+abbrev pub markIn : ℕ → Bool
+markIn n = not (eqb n 0)
+
+-- and the number for it, in the place of the number before, which is rewritten only where its meaning changes
+abbrev pub markSays : ℕ → Bool → ℕ
+markSays before true = if eqb before 0 then 1 else before
+markSays before false = 0
+
 -- ---- the counters, each by the kind of the bytes that it counts
 
 -- the bytes of a kind that the numbers count
@@ -33,11 +44,12 @@ countedIn broken r = r .broken
 countedIn filler r = r .filler
 countedIn skipped r = r .skipped
 
--- the numbers by the PID, the last counter or none, what is spare, the bytes in hand, the counter of each kind, and the one that is spare
-abbrev pub numbersWith : ℕ → ℕ → List ℕ → ℕ → (Kind → ℕ) → ℕ → Record
-numbersWith pid last spare held n spare-counter = record {
+-- the numbers by the PID, the last counter or none, the mark, what is spare, the bytes in hand, the counter of each kind, and the one that is spare
+abbrev pub numbersWith : ℕ → ℕ → ℕ → List ℕ → ℕ → (Kind → ℕ) → ℕ → Record
+numbersWith pid last mark spare held n spare-counter = record {
   pid = pid;
   last = last;
+  mark = mark;
   spare = spare;
   in_hand = held;
   pointer = n pointer;
@@ -61,16 +73,17 @@ SameName r x skipped = x .skipped ≡ r .skipped
 
 -- the collector's record that the numbers stand for
 abbrev pub recordIn : Record → of.Record
-recordIn r = recordWith (r .pid) (lastIn (r .last)) (r .in_hand) (λ k. countedIn k r)
+recordIn r = recordWith (r .pid) (lastIn (r .last)) (markIn (r .mark)) (r .in_hand) (λ k. countedIn k r)
 
 -- the numbers for a record of the collector, in the place of the numbers before: what is spare stays as it was
 abbrev pub recordAfter : Record → of.Record → Record
 recordAfter before r =
-    numbersWith (r .pid) (lastSays (r .last)) (before .spare) (r .in_hand) (λ k. bytesCounted (done k) r) (before .«spare_counter»)
+    numbersWith (r .pid) (lastSays (r .last)) (markSays (before .mark) (r .mark)) (before .spare) (r .in_hand) (λ k. bytesCounted (done k) r)
+    (before .«spare_counter»)
 
 -- every byte 0
 abbrev pub zeros : Record
-zeros = numbersWith 0 0 (0 ∷ 0 ∷ 0 ∷ 0 ∷ 0 ∷ []) 0 (λ k. 0) 0
+zeros = numbersWith 0 0 0 (0 ∷ 0 ∷ 0 ∷ 0 ∷ []) 0 (λ k. 0) 0
 
 -- the numbers for a record of the collector where there were none before: what is spare is 0
 abbrev pub recordSays : of.Record → Record

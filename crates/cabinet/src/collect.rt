@@ -3,7 +3,7 @@ ghost use mathlib.Core.Path.{_≡_};
 ghost use Rattle.packet.specs.Judgement.{numberOf};
 ghost use Rattle.collector.specs.Answer.{told};
 ghost use Rattle.collector.specs.Collected.{freshRecord};
-ghost use Rattle.cabinet.specs.Collect.{lastIn, lastSays, zeros, recordIn, recordAfter, recordSays, collectSays, leaves, collecting};
+ghost use Rattle.cabinet.specs.Collect.{lastIn, lastSays, markIn, markSays, zeros, recordIn, recordAfter, recordSays, collectSays, leaves, collecting};
 use collector::Answer;
 use collector::Last;
 use packet::Refusal;
@@ -16,8 +16,10 @@ pub struct Record {
     pub pid: u16,
     // The last counter, or NO_COUNTER.
     pub last: u8,
+    // Any number but 0: set.
+    pub mark: u8,
     // No call reads or alters what is spare. It stands where a struct of C would have padding, which no promise can cover.
-    pub spare: [u8; 5],
+    pub spare: [u8; 4],
     pub in_hand: usize,
     pub pointer: u32,
     pub delivered: u32,
@@ -62,10 +64,30 @@ fn last_says(last: Last) -> u8
     }
 }
 
+fn mark_in(mark: u8) -> bool
+    ensures { λ r. ⌜ r ≡ markIn mark ⌝ }
+{
+    if mark == 0 { false } else { true }
+}
+
+// A number is rewritten only where its meaning changes.
+fn mark_says(before: u8, mark: bool) -> u8
+    ensures { λ r. ⌜ r ≡ markSays before mark ⌝ }
+{
+    if mark {
+        if before == 0 {
+            return 1;
+        }
+        return before;
+    }
+    0
+}
+
 fn record_in(rec: Record) -> collector::Record
     ensures { λ r. ⌜ r ≡ recordIn rec ⌝ }
 {
     let last = last_in(rec.last);
+    let mark = mark_in(rec.mark);
     collector::Record {
         pid: rec.pid,
         last,
@@ -75,6 +97,7 @@ fn record_in(rec: Record) -> collector::Record
         broken: rec.broken,
         filler: rec.filler,
         skipped: rec.skipped,
+        mark,
     }
 }
 
@@ -86,6 +109,7 @@ fn record_after(before: Record, rec: collector::Record) -> Record
     Record {
         pid: rec.pid,
         last: last_says(last),
+        mark: mark_says(before.mark, rec.mark),
         spare,
         in_hand: rec.in_hand,
         pointer: rec.pointer,
@@ -100,10 +124,11 @@ fn record_after(before: Record, rec: collector::Record) -> Record
 fn blank() -> Record
     ensures { λ r. ⌜ r ≡ zeros ⌝ }
 {
-    let spare = [0u8; 5];
+    let spare = [0u8; 4];
     Record {
         pid: 0,
         last: 0,
+        mark: 0,
         spare,
         in_hand: 0,
         pointer: 0,

@@ -1,17 +1,18 @@
 -- A run of `lohitunga_collect` from a fresh record is a run of the collector: no packet leaves a counter that the
 -- numbers cannot tell from none.
 use mathlib.Core.Path.{_≡_, refl, sym, ap, _∙_, subst}
-use mathlib.Core.Bool.{Bool}
+use mathlib.Core.Bool.{Bool, true, false, not}
 use mathlib.Core.List.{List, [], _∷_, map}
+use mathlib.Core.Logic.{_↔_}
 use mathlib.Core.Option.{Option, none, some}
 use Prim.Native.Nat.{ℕ, _<_}
 use native.Mathlib.Omega.{arith}
 use lib.ListN.{length}
 use lib.Dec.{eqb}
-use borrow.Author.Tests.{ne-eqb, eqb-true, eqb-false}
+use borrow.Author.Tests.{ne-eqb, eqb-true, eqb-false, not-true}
 use Rattle.wire.proofs.IfLaws.{if-case}
 use Rattle.packet.specs.Header.{control}
-use Rattle.packet.specs.Ruling.{Before, repeats, Ruling, refuses, repeated, takes, ruledBy, ruling}
+use Rattle.packet.specs.Ruling.{Before, markWith, repeats, Ruling, refuses, repeated, takes, ruledBy, ruling}
 use Rattle.packet.specs.Refusals.{Judged, refuse, has-payload, judgedBy, judged, firstOf, refusals}
 use Rattle.collector.specs.Refusals.{beforeOf, cannotStand, tooSmall}
 use Rattle.packet.specs.Refusals as Refusals
@@ -22,8 +23,8 @@ use Rattle.collector.specs.Collected.{bytesCounted, recordWith, freshRecord, ou
 use Rattle.history.specs.Run as beneath
 use Rattle.collector.specs.declared.Last.the-variants.{None, Counter}
 use Rattle.collector.specs.declared.Record as of
-use Rattle.cabinet.specs.Collect.{lastIn, lastSays, SameName, recordIn, recordAfter, recordSays, collectSays, Outcome, leaves, outcomeSays, collecting}
-use Rattle.cabinet.proofs.Outcomes.{last-kept, record-kept}
+use Rattle.cabinet.specs.Collect.{lastIn, lastSays, markIn, markSays, numbersWith, zeros, SameName, recordIn, recordAfter, recordSays, collectSays, Outcome, leaves, outcomeSays, collecting}
+use Rattle.cabinet.proofs.Outcomes.{last-kept, mark-kept, record-kept}
 use Rattle.calls.specs.Collects.{LastIs, Stands, Tells, tells-refused, tells-repeated, tells-taken, Promised, Kept, KeepsNumbers, Call, Run, no-call, one-call, callSays, Beneath, RunsBeneath}
 use Rattle.cabinet.specs.declared.collect.Record.{Record}
 
@@ -31,13 +32,13 @@ use Rattle.cabinet.specs.declared.collect.Record.{Record}
 
 abbrev SmallJudged : Judged → Type 0
 SmallJudged (refuse n) = Unit {0}
-SmallJudged Refusals.bare = Unit {0}
-SmallJudged (has-payload at start counter) = counter < 16
+SmallJudged (Refusals.bare splice) = Unit {0}
+SmallJudged (has-payload at start counter splice) = counter < 16
 
 abbrev Small : Ruling → Type 0
 Small (refuses n) = Unit {0}
 Small repeated = Unit {0}
-Small Ruled.bare = Unit {0}
+Small (Ruled.bare splice) = Unit {0}
 Small (takes q) = q .counter < 16
 
 small-by : (o : Option ℕ) (packet : List ℕ) → SmallJudged (judgedBy o packet)
@@ -46,8 +47,9 @@ small-by none packet = if-case SmallJudged (eqb (control packet) 2) (λ _. tt) (
 
 small-ruled : (before : Before) (packet : List ℕ) (j : Judged) → SmallJudged j → Small (ruledBy before packet j)
 small-ruled before packet (refuse n) x = tt
-small-ruled before packet Refusals.bare x = tt
-small-ruled before packet (has-payload at start counter) x = if-case Small (repeats before counter) (λ _. tt) (λ _. x)
+small-ruled before packet (Refusals.bare splice) x = tt
+small-ruled before packet (has-payload at start counter splice) x =
+    if-case Small (repeats (before .last) (markWith before splice) counter) (λ _. tt) (λ _. x)
 
 small : (few unfit : Bool) (pid : ℕ) (before : Before) (packet : List ℕ)
     → Small (ruling few unfit pid before packet)
@@ -57,6 +59,10 @@ small few unfit pid before packet =
     (small-by (firstOf (refusals few unfit pid packet)) packet)
 
 -- ---- a record that its numbers tell
+
+mark-told : (n : ℕ) (mark : Bool) → markIn (markSays n mark) ≡ mark
+mark-told n false = refl
+mark-told n true = if-case (λ k. markIn k ≡ true) (eqb n 0) (λ _. refl) (λ is. ap not is)
 
 abbrev NumbersTell : of.Record → Type 0
 NumbersTell x = lastIn (lastSays (x .last)) ≡ x .last
@@ -68,7 +74,7 @@ told-after : (x : of.Record) (hold out : List ℕ) (ruled : Ruling) → Small ru
     → NumbersTell (outcomeOf x hold out ruled .rec)
 told-after x hold out (refuses n) s t = t
 told-after x hold out repeated s t = t
-told-after x hold out Ruled.bare s t = t
+told-after x hold out (Ruled.bare splice) s t = t
 told-after x hold out (takes q) s t = told-counter (q .counter) s
 
 told-on : (x : of.Record) (hold out packet : List ℕ) → NumbersTell x → NumbersTell (collected x hold out packet .rec)
@@ -78,7 +84,7 @@ told-on x hold out packet t =
 
 told-back : (x : of.Record) → NumbersTell x → recordIn (recordSays x) ≡ x
 told-back x t =
-    ap (λ l. recordWith (x .pid) l (x .in_hand) (λ k. bytesCounted (done k) x)) t
+    λ i. recordWith (x .pid) (t i) (mark-told 0 (x .mark) i) (x .in_hand) (λ k. bytesCounted (done k) x)
 
 -- ---- field by field
 
@@ -90,10 +96,14 @@ last-is n =
     none-is : LastIs 255 None
     none-is = LastIs.none
 
+mark-is : (n : ℕ) → (markIn n ≡ true) ↔ (n ≡ 0 → ⊥)
+mark-is n = (λ e. eqb-false n 0 (not-true _ e), λ h. ap not (ne-eqb n 0 h))
+
 pub stands : (r : Record) → Stands r (recordIn r)
 stands r = record {
   pid = refl;
   last = last-is (r .last);
+  mark = mark-is (r .mark);
   in-hand = refl;
   counters = byKind (SameName r (recordIn r)) refl refl refl refl refl;
 }
@@ -105,19 +115,23 @@ collect-tells (collector.taken n b) = tells-taken refl refl refl refl
 
 -- ---- what stays of the numbers
 
--- two records that mean the same, with the same in what is spare, are the same
-same-meaning : (r r′ : Record) → r′ .spare ≡ r .spare → r′ .«spare_counter» ≡ r .«spare_counter»
-    → recordIn r′ ≡ recordIn r → r′ ≡ r
-same-meaning r r′ spare counter e =
-    sym (record-kept r′) ∙ ap (recordAfter r′) e ∙ spare-alike ∙ record-kept r
-  where
-    spare-alike : recordAfter r′ (recordIn r) ≡ recordAfter r (recordIn r)
-    spare-alike = rw (spare, counter)
+-- numbers that are written, read and written again in the same place are the same
+written-again : (r : Record) (x : of.Record) → recordAfter r (recordIn (recordAfter r x)) ≡ recordAfter r x
+written-again r x =
+    λ i. numbersWith (x .pid) (last-kept (lastSays (x .last)) i) (markSays (r .mark) (mark-told (r .mark) (x .mark) i)) (r .spare)
+    (x .in_hand) (λ k. bytesCounted (done k) x) (r .«spare_counter»)
+
+-- so numbers that come to mean the same are the same
+same-meaning : (r : Record) (x : of.Record) → recordIn (recordAfter r x) ≡ recordIn r → recordAfter r x ≡ r
+same-meaning r x e = sym (written-again r x) ∙ ap (recordAfter r) e ∙ record-kept r
+
+mark-alike : (n : ℕ) (mark : Bool) → markIn (markSays n mark) ≡ markIn n → markSays n mark ≡ n
+mark-alike n mark e = ap (markSays n) (sym (mark-told n mark) ∙ e) ∙ mark-kept n
 
 pid-kept : (x : of.Record) (hold out : List ℕ) (ruled : Ruling) → outcomeOf x hold out ruled .rec .pid ≡ x .pid
 pid-kept x hold out (refuses n) = refl
 pid-kept x hold out repeated = refl
-pid-kept x hold out Ruled.bare = refl
+pid-kept x hold out (Ruled.bare splice) = refl
 pid-kept x hold out (takes q) = refl
 
 last-alike : (n m : ℕ) → lastIn n ≡ lastIn m → n ≡ m
@@ -128,9 +142,10 @@ kept-by : (r : Record) (x : of.Record) → x .pid ≡ r .pid → Kept r (recordA
 kept-by r x e = record {
   pid = e;
   last = last-alike (lastSays (x .last)) (r .last);
+  mark = mark-alike (r .mark) (x .mark);
   spare = refl;
   spare-counter = refl;
-  whole = same-meaning r (recordAfter r x) refl refl;
+  whole = same-meaning r x;
 }
 
 pub keeps-numbers : KeepsNumbers Promised
@@ -142,6 +157,17 @@ keeps-numbers r hold out packet o is =
     (kept-by r (collected x hold out packet .rec) (pid-kept x hold out ruled))
 
 -- ---- a run, call by call
+
+-- in a run the mark's number is 0 or 1
+mark-after : (was mark : Bool) → markSays (markSays 0 was) mark ≡ markSays 0 mark
+mark-after was false = refl
+mark-after true true = refl
+mark-after false true = refl
+
+says-after : (x y : of.Record) → recordAfter (recordSays x) y ≡ recordSays y
+says-after x y =
+    λ i. numbersWith (y .pid) (lastSays (y .last)) (mark-after (x .mark) (y .mark) i) (zeros .spare) (y .in_hand)
+    (λ k. bytesCounted (done k) y) 0
 
 -- one call, in numbers, is that of the collector
 says-on : (x : of.Record) (hold out packet : List ℕ) → NumbersTell x
@@ -190,8 +216,8 @@ runs x hold (k ∷ ks) r r′ hold′ t is (one-call {r₁ = r₁} {hold₁ = ho
     let e : leaves r₁ hold₁ (k .out′) (k .answer) ≡ outcomeSays (recordSays x) o =
     p ∙ ap (λ (y : Record). collecting y hold (k .out) (k .packet)) is ∙ says-on x hold (k .out) (k .packet) t in
     more ks (recordSays x) r₁ hold₁ k o refl e
-    (runs (o .rec) hold₁ ks r₁ r′ hold′ (told-on x hold (k .out) (k .packet) t) (ap (λ (z : Outcome). z .rec) e)
-    rest)
+    (runs (o .rec) hold₁ ks r₁ r′ hold′ (told-on x hold (k .out) (k .packet) t)
+    (ap (λ (z : Outcome). z .rec) e ∙ says-after x (o .rec)) rest)
 
 pub runs-beneath : RunsBeneath Promised
 runs-beneath pid fresh hold calls r hold′ is x = runs (freshRecord pid) hold calls fresh r hold′ refl is x

@@ -57,17 +57,17 @@ front-out secs out whole =
 
 -- the story of a packet that is taken
 abbrev storyOf : of.Record → List ℕ → Carried ℕ → Story ℕ
-storyOf r hold q = storyAfter delivers plain (beforeOf r) (holding (take (r .in_hand) hold)) q
+storyOf r hold q = storyAfter delivers plain (beforeOf r .last) (holding (take (r .in_hand) hold)) q
 
 by-ruling : (before : Record) (r : of.Record) (hold out : List ℕ) (z : Ruling)
     → Hands (outcomeSays before (outcomeOf r hold out z))
 by-ruling before r hold out (refuses n) = none-out out
 by-ruling before r hold out repeated = none-out out
-by-ruling before r hold out Ruled.bare = none-out out
+by-ruling before r hold out (Ruled.bare splice) = none-out out
 by-ruling before r hold out (takes q) =
     front-out (deliveredOf (storyOf r hold q)) out
     (sections-each delivers plain delivered WholeSection (storyOf r hold q .sections)
-    (whole-taken delivers (beforeOf r) (take (r .in_hand) hold) q))
+    (whole-taken delivers (beforeOf r .last) (take (r .in_hand) hold) q))
 
 pub hands-out-all : HandsOutAll Promised
 unfolding collecting

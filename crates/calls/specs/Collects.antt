@@ -1,6 +1,8 @@
 -- Demand 3 for C: "Start a fresh collector, feed it any packets, hand record and hold on untouched." What whole runs of
 -- `lohitunga_collect` come to is what runs of the collector come to, said in numbers.
 use mathlib.Core.Path.{_≡_}
+use mathlib.Core.Bool.{true}
+use mathlib.Core.Logic.{_↔_}
 use mathlib.Core.List.{List, [], _∷_, map}
 use Prim.Native.Nat.{ℕ}
 use Rattle.collector.specs.Rules.{Kind}
@@ -11,7 +13,7 @@ use Rattle.history.specs.Run as beneath
 use Rattle.collector.specs.declared.Last.{Last}
 use Rattle.collector.specs.declared.Last.the-variants.{None, Counter}
 use Rattle.collector.specs.declared.Record as of
-use Rattle.cabinet.specs.Collect.{lastIn, SameName, recordIn, recordSays, collectSays, Outcome, leaves, collecting}
+use Rattle.cabinet.specs.Collect.{lastIn, markIn, SameName, recordIn, recordSays, collectSays, Outcome, leaves, collecting}
 use Rattle.cabinet.specs.declared.collect.Record.{Record}
 use Rattle.cabinet.specs.declared.collect.CollectAnswer.{CollectAnswer}
 
@@ -26,6 +28,8 @@ pub data LastIs : ℕ → Last → Type 0 where
 pub record Stands (r : Record) (x : of.Record) : Type 0 where
   pub pid : x .pid ≡ r .pid
   pub last : LastIs (r .last) (x .last)
+  -- any number but 0 is a mark that is set
+  pub mark : (x .mark ≡ true) ↔ (r .mark ≡ 0 → ⊥)
   pub in-hand : x .in_hand ≡ r .in_hand
   pub counters : (k : Kind) → SameName r x k
 
@@ -60,6 +64,7 @@ Promised r hold out packet o = o ≡ collecting r hold out packet
 pub record Kept (r r′ : Record) : Type 0 where
   pub pid : r′ .pid ≡ r .pid
   pub last : lastIn (r′ .last) ≡ lastIn (r .last) → r′ .last ≡ r .last
+  pub mark : markIn (r′ .mark) ≡ markIn (r .mark) → r′ .mark ≡ r .mark
   pub spare : r′ .spare ≡ r .spare
   pub spare-counter : r′ .«spare_counter» ≡ r .«spare_counter»
   -- so a record that means the same is the same, byte for byte: it has no padding

@@ -30,19 +30,19 @@ one-of n = byKind (λ k. n (done k) ≤ sumOf n) (omega arith) (omega arith) (om
 
 -- ---- a record
 
-pub counts-with : (pid : ℕ) (last : Last) (held : ℕ) (n : Kind → ℕ) (k : Kind)
-    → bytesCounted (done k) (recordWith pid last held n) ≡ n k
-counts-with pid last held n =
-    byKind (λ k. bytesCounted (done k) (recordWith pid last held n) ≡ n k) refl refl refl refl refl
+pub counts-with : (pid : ℕ) (last : Last) (mark : Bool) (held : ℕ) (n : Kind → ℕ) (k : Kind)
+    → bytesCounted (done k) (recordWith pid last mark held n) ≡ n k
+counts-with pid last mark held n =
+    byKind (λ k. bytesCounted (done k) (recordWith pid last mark held n) ≡ n k) refl refl refl refl refl
 
 -- and a record is made of what it counts
-pub with-counts : (r : Record) → recordWith (r .pid) (r .last) (r .in_hand) (λ k. bytesCounted (done k) r) ≡ r
+pub with-counts : (r : Record) → recordWith (r .pid) (r .last) (r .mark) (r .in_hand) (λ k. bytesCounted (done k) r) ≡ r
 with-counts r = refl
 
 -- two records that say the same, of each kind too, are one
-pub same-record : (r s : Record) → r .pid ≡ s .pid → r .last ≡ s .last → r .in_hand ≡ s .in_hand
+pub same-record : (r s : Record) → r .pid ≡ s .pid → r .last ≡ s .last → r .mark ≡ s .mark → r .in_hand ≡ s .in_hand
     → ((k : Kind) → bytesCounted (done k) r ≡ bytesCounted (done k) s) → r ≡ s
-same-record r s pid last held counts = λ i. recordWith (pid i) (last i) (held i) (λ k. counts k i)
+same-record r s pid last mark held counts = λ i. recordWith (pid i) (last i) (mark i) (held i) (λ k. counts k i)
 
 -- ---- an answer
 

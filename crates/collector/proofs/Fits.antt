@@ -49,11 +49,11 @@ module _ (r : Record) (hold : List ℕ) (e : cannotStand r hold ≡ false) where
 
 -- ---- what a call has once its packet is judged to carry payload
 
-pub fit-of : (r : Record) (hold out packet : List ℕ) (from : ℕ) (start : Bool) (counter : ℕ)
-    → judged (tooSmall (length hold) (length out)) (cannotStand r hold) (r .pid) packet ≡ has-payload from start counter
+pub fit-of : (r : Record) (hold out packet : List ℕ) (from : ℕ) (start : Bool) (counter : ℕ) (splice : Bool)
+    → judged (tooSmall (length hold) (length out)) (cannotStand r hold) (r .pid) packet ≡ has-payload from start counter splice
     → Fit (r .in_hand) hold out packet from start
-fit-of r hold out p from start counter e =
-    let x = payload-of (tooSmall (length hold) (length out)) (cannotStand r hold) (r .pid) p from start counter e in
+fit-of r hold out p from start counter splice e =
+    let x = payload-of (tooSmall (length hold) (length out)) (cannotStand r hold) (r .pid) p from start counter splice e in
     let long : length p ≡ 188 = eqb-true _ _ (not-false _ (x .passed .0)) in
     let rooms = or-false (ltb (length hold) 4096) _ (x .passed .1 .0) in
     let big : 4096 ≤ length hold = ltb-false _ _ (rooms .0) in

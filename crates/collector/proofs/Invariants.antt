@@ -2,12 +2,13 @@
 use mathlib.Core.Path.{_≡_, refl, sym, ap, _∙_, subst}
 use mathlib.Core.Bool.{Bool, true, false}
 use mathlib.Core.List.{List, [], _∷_, _++_, append-assoc, append-nil, map}
+use mathlib.Core.Option.{Option}
 use Prim.Native.Nat.{ℕ}
 use lib.ListN.{take, drop, take-append-drop}
 use lib.Dec.{eqb}
 use Rattle.wire.specs.Each.{Each}
 use Rattle.wire.proofs.EachLaws.{each-take, each-drop}
-use Rattle.packet.specs.Ruling.{Before, follows, Carried}
+use Rattle.packet.specs.Ruling.{joins, Carried}
 use Rattle.collector.specs.Rules.{Kind, Fate, pointer, filler, done, in-hand, Story, sameKind, sameFate, handOf, given, brokenOff, finished, Rest, kindOf, Mode, begin, inside, outside, filling, skipping, breaking, Next, Size, going, whole, too-long, sizeOf, begun, grown, resumed, joined, byteIn, stretch, goesOn, sectionsIn, payload, storyAfter}
 
 -- a kind that a byte has by its section's end alone: none of those that the rules give
@@ -84,8 +85,8 @@ module _ (comes : List ℕ → Kind) {A : Type 0} (value : A → ℕ) where
       keep-joined true l s x = x
       keep-joined false l s x = k .breaks l s x
 
-      pub keep-taken : (before : Before) (l : List A) (s : Story A) (q : Carried A) → Each R (q .bytes) → P l s
-          → P (l ++ q .bytes) (storyAfter comes value before s q)
-      keep-taken before l s q r x =
-          keep-payload (q .start) l (joined (follows before (q .counter)) s) (q .bytes) r
-          (keep-joined (follows before (q .counter)) l s x)
+      pub keep-taken : (last : Option ℕ) (l : List A) (s : Story A) (q : Carried A) → Each R (q .bytes) → P l s
+          → P (l ++ q .bytes) (storyAfter comes value last s q)
+      keep-taken last l s q r x =
+          keep-payload (q .start) l (joined (joins last (q .spliced) (q .counter)) s) (q .bytes) r
+          (keep-joined (joins last (q .spliced) (q .counter)) l s x)

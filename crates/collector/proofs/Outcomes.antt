@@ -27,10 +27,10 @@ use Rattle.collector.proofs.Invariants.{keep-goes, keep-sections, keep-
 use Rattle.collector.proofs.StoryLaws.{Any, Kept, keeps-kept, points-kept, kept-holding, all-delivered, delivered-in, keeps-points}
 use Rattle.collector.proofs.PayloadLaws.{plain-sections, any, same-hand, more-sections, small-of}
 
--- ---- what a break in the counter takes stays apart from the packet
+-- ---- what is broken off before the payload stays apart from the packet
 
 -- n bytes of one fate: broken off
-abbrev lost : ℕ → Fate → ℕ
+abbrev pub lost : ℕ → Fate → ℕ
 lost n f = if sameFate f (done broken) then n else 0
 
 lost-count : (h : List ℕ) (f : Fate) → countOf f (brokenOff (holding h) .marks) ≡ lost (length h) f
@@ -85,7 +85,7 @@ module _ (comes : List ℕ → Kind) where
       keep-sections comes plain Any _ (keeps-points comes plain none-points 1) [] (brokenOff f) (drop p bs)
       (any (drop p bs)) (keeps-points comes plain none-points 1 .breaks [] f y)
 
-  beside-break : (start : Bool) (h bs : List ℕ)
+  pub beside-break : (start : Bool) (h bs : List ℕ)
       → Beside plain (lost (length h)) [] (payload comes plain start (holding []) bs)
       (payload comes plain start (brokenOff (holding h)) bs)
   beside-break start h bs =
@@ -109,7 +109,7 @@ module _ (r : Record) (hold out : List ℕ) (counter : ℕ) (start : Bool) (h bs
   pub small : Ends s hold out 0 hold′ out′ e → length h + length bs ≤ 5000 → Small e
   small x w = small-of (h ++ bs) s (kept-payload delivers start h bs) (omega (arith, length-append h bs)) x
 
-  -- the bytes of each kind that the packet adds are those of its story, and those that a break took
+  -- the bytes of each kind that the packet adds are those of its story, and those that were broken off before it
   adds : Ends s hold out 0 hold′ out′ e → (n : ℕ) (S : Story ℕ) → Beside plain (lost n) [] s S → (k : Kind)
       → addedBy e n start k ≡ countOf (done k) (S .marks)
   adds x n S b =
@@ -135,7 +135,7 @@ module _ (r : Record) (hold out : List ℕ) (counter : ℕ) (start : Bool) (h bs
       let added : (k : Kind) → addedBy e n start k ≡ countOf (done k) (S .marks) = adds x n S b in
       let the-record : r′ ≡ recordAfter r counter S =
       w
-      ∙ (λ i. recordWith (r .pid) (Counter counter) ((x .in-hand ∙ ap length hand) i)
+      ∙ (λ i. recordWith (r .pid) (Counter counter) false ((x .in-hand ∙ ap length hand) i)
       (λ k. (bytesCounted (done k) r + added k i) % 2 ^ 32)) in
       let the-out : out′ ≡ over (flatten (deliveredOf S)) out =
       x .the-out

@@ -3,12 +3,13 @@
 use mathlib.Core.Path.{_≡_, refl, sym, ap, _∙_, subst}
 use mathlib.Core.Bool.{Bool, true, false}
 use mathlib.Core.List.{List, [], _∷_, _++_, append-assoc, map, map-append, map-id}
+use mathlib.Core.Option.{Option}
 use Prim.Native.Nat.{ℕ, zero, suc, _+_}
 use native.Mathlib.Omega.{arith}
 use lib.ListN.{length, take, drop, length-append}
 use lib.Dec.{eqb}
 use Rattle.wire.specs.If.{if_then_else_}
-use Rattle.packet.specs.Ruling.{Before, follows, Carried}
+use Rattle.packet.specs.Ruling.{joins, Carried}
 use Rattle.collector.specs.Rules.{Kind, Fate, pointer, broken, filler, done, in-hand, Story, sameFate, bytesOf, countOf, handOf, given, settled, brokenOff, finished, kindOf, Mode, begin, inside, outside, filling, Next, Size, going, whole, too-long, sizeOf, plain, begun, grown, resumed, joined, byteIn, stretch, goesOn, sectionsIn, payload, storyAfter}
 use Rattle.collector.proofs.MarkLaws.{bytesOf-more, settled-hand, settled-count}
 
@@ -127,7 +128,7 @@ module _ {A : Type 0} (value : A → ℕ) where
 
 -- a packet's bytes as bare numbers
 abbrev pub bareOf : {A : Type 0} → (A → ℕ) → Carried A → Carried ℕ
-bareOf value q = record { counter = q .counter; start = q .start; bytes = map value (q .bytes) }
+bareOf value q = record { counter = q .counter; start = q .start; spliced = q .spliced; bytes = map value (q .bytes) }
 
 module _ (comes : List ℕ → Kind) {A : Type 0} (value : A → ℕ) (base : Fate → ℕ) (secs : List (List ℕ)) where
   -- what a section's size and what it comes to go by: its bytes' values
@@ -197,8 +198,8 @@ module _ (comes : List ℕ → Kind) {A : Type 0} (value : A → ℕ) (base : Fa
   beside-joined true s S x = x
   beside-joined false s S x = beside-broken value base secs s S x
 
-  pub beside-taken : (before : Before) (s : Story ℕ) (S : Story A) (q : Carried A) → Beside value base secs s S
-      → Beside value base secs (storyAfter comes plain before s (bareOf value q)) (storyAfter comes value before S q)
-  beside-taken before s S q x =
-      beside-payload (q .start) (joined (follows before (q .counter)) s) (joined (follows before (q .counter)) S)
-      (q .bytes) (beside-joined (follows before (q .counter)) s S x)
+  pub beside-taken : (last : Option ℕ) (s : Story ℕ) (S : Story A) (q : Carried A) → Beside value base secs s S
+      → Beside value base secs (storyAfter comes plain last s (bareOf value q)) (storyAfter comes value last S q)
+  beside-taken last s S q x =
+      beside-payload (q .start) (joined (joins last (q .spliced) (q .counter)) s) (joined (joins last (q .spliced) (q .counter)) S)
+      (q .bytes) (beside-joined (joins last (q .spliced) (q .counter)) s S x)

@@ -1,10 +1,11 @@
 -- What one call of the collector comes to, for every record, hold, out room and packet.
+use mathlib.Core.Bool.{Bool, false}
 use mathlib.Core.List.{List, flatten}
 use Prim.Native.Nat.{ℕ, _+_, _%_, _^_}
 use lib.ListN.{length, take}
 use Rattle.copy.specs.Laid.{over}
 use Rattle.collector.specs.Rules.{Kind, pointer, delivered, broken, filler, skipped, Fate, in-hand, done, Story, countOf, handOf, holding, plain, storyAfter, sectionsOf, delivers}
-use Rattle.packet.specs.Ruling.{Ruling, refuses, repeated, bare, takes, ruling}
+use Rattle.packet.specs.Ruling.{markWith, Ruling, refuses, repeated, bare, takes, ruling}
 use Rattle.collector.specs.Refusals.{beforeOf, cannotStand, tooSmall}
 use Rattle.collector.specs.Answer as Answer
 use Rattle.collector.specs.Answer.{Reply, Outcome}
@@ -21,9 +22,9 @@ bytesCounted (done broken) r = r .broken
 bytesCounted (done filler) r = r .filler
 bytesCounted (done skipped) r = r .skipped
 
--- a record by its PID, its last counter or none, the bytes in hand, and its counter of each kind
-abbrev pub recordWith : ℕ → Last → ℕ → (Kind → ℕ) → Record
-recordWith pid last held n = record {
+-- a record by its PID, its last counter or none, its mark, the bytes in hand, and its counter of each kind
+abbrev pub recordWith : ℕ → Last → Bool → ℕ → (Kind → ℕ) → Record
+recordWith pid last mark held n = record {
   pid = pid;
   last = last;
   in_hand = held;
@@ -32,20 +33,25 @@ recordWith pid last held n = record {
   broken = n broken;
   filler = n filler;
   skipped = n skipped;
+  mark = mark;
 }
 
--- "A fresh one: no counter, nothing in hand, zeros."
+-- "A fresh one: no counter, nothing in hand, zeros.", and no mark
 abbrev pub freshRecord : ℕ → Record
-freshRecord pid = recordWith pid None 0 (λ k. 0)
+freshRecord pid = recordWith pid None false 0 (λ k. 0)
 
 -- "the record and all lent room unaltered"
 abbrev pub unaltered : Record → List ℕ → List ℕ → Reply → Outcome
 unaltered r hold out said = record { rec = r; hold = hold; out = out; said = said }
 
--- "the counter then becomes the last"; "five 32-bit counters that run round past 4,294,967,295 to 0"
+-- "Control 10: taken, no payload, nothing changes", as amended: an adaptation field with the bit set sets the mark, and nothing else changes
+abbrev pub markedBy : Bool → Record → Record
+markedBy splice r = recordWith (r .pid) (r .last) (markWith (beforeOf r) splice) (r .in_hand) (λ k. bytesCounted (done k) r)
+
+-- "the counter then becomes the last"; the mark is cleared; "five 32-bit counters that run round past 4,294,967,295 to 0"
 abbrev pub recordAfter : Record → ℕ → Story ℕ → Record
 recordAfter r counter s =
-    recordWith (r .pid) (Counter counter) (length (handOf s))
+    recordWith (r .pid) (Counter counter) false (length (handOf s))
     (λ k. (bytesCounted (done k) r + countOf (done k) (s .marks)) % 2 ^ 32)
 
 -- the sections that are delivered
@@ -65,8 +71,9 @@ outcomeAfter r hold out counter s = record {
 abbrev pub outcomeOf : Record → List ℕ → List ℕ → Ruling → Outcome
 outcomeOf r hold out (refuses n) = unaltered r hold out (Answer.refusedWith n)
 outcomeOf r hold out repeated = unaltered r hold out Answer.repeated
-outcomeOf r hold out bare = unaltered r hold out (Answer.taken 0 0)
-outcomeOf r hold out (takes q) = outcomeAfter r hold out (q .counter) (storyAfter delivers plain (beforeOf r) (holding (take (r .in_hand) hold)) q)
+outcomeOf r hold out (bare splice) = unaltered (markedBy splice r) hold out (Answer.taken 0 0)
+outcomeOf r hold out (takes q) =
+    outcomeAfter r hold out (q .counter) (storyAfter delivers plain (beforeOf r .last) (holding (take (r .in_hand) hold)) q)
 
 abbrev pub collected : Record → List ℕ → List ℕ → List ℕ → Outcome
 collected r hold out packet = outcomeOf r hold out (ruling (tooSmall (length hold) (length out)) (cannotStand r hold) (r .pid) (beforeOf r) packet)

@@ -15,12 +15,9 @@ abbrev pub lastOf : Last → Option ℕ
 lastOf None = none
 lastOf (Counter c) = some c
 
--- what a record with this last counter, or none, tells of the packets before
-abbrev pub lastBefore : Last → Before
-lastBefore last = record { last = lastOf last }
-
+-- what a record tells of the packets before
 abbrev pub beforeOf : Record → Before
-beforeOf r = lastBefore (r .last)
+beforeOf r = record { last = lastOf (r .last); mark = r .mark }
 
 -- 42, "hold under 4,096 or out under 4,280": of the rooms their sizes alone count
 abbrev pub tooSmall : ℕ → ℕ → Bool

@@ -3,12 +3,13 @@
 -- thing that has a value; a run of calls takes bytes that know their packet, and one call takes bare numbers.
 use mathlib.Core.Bool.{Bool, true, false}
 use mathlib.Core.List.{List, [], _∷_, _++_, map}
+use mathlib.Core.Option.{Option}
 use Prim.Native.Nat.{ℕ, _+_}
 use lib.ListN.{length, take, drop}
 use lib.Dec.{ltb, eqb}
 use Rattle.wire.specs.If.{if_then_else_}
 use Rattle.wire.specs.Sections.{totalOf}
-use Rattle.packet.specs.Ruling.{Before, follows, Carried}
+use Rattle.packet.specs.Ruling.{joins, Carried}
 
 -- "one fate ..: pointer, delivered, broken off, filler, skipped, or in hand": of what kind a byte is once it is done with
 pub data Kind : Type 0 where
@@ -209,9 +210,9 @@ module _ (comes : List ℕ → Kind) {A : Type 0} (value : A → ℕ) where
   payload true s bs = started s bs
   payload false s bs = goesOn s bs
 
-  -- a packet that is taken, after what counts of the packets before and the story so far
-  abbrev pub storyAfter : Before → Story A → Carried A → Story A
-  storyAfter before s q = payload (q .start) (joined (follows before (q .counter)) s) (q .bytes)
+  -- a packet that is taken, after the last counter or none and the story so far
+  abbrev pub storyAfter : Option ℕ → Story A → Carried A → Story A
+  storyAfter last s q = payload (q .start) (joined (joins last (q .spliced) (q .counter)) s) (q .bytes)
 
 -- ---- what a whole section comes to
 

@@ -17,7 +17,8 @@ pub enum Last {
     Counter(u8),
 }
 
-// "It has the PID, the last counter or none, the bytes in hand, five 32-bit counters". The bytes in hand stand at the start of the hold.
+// "It has the PID, the last counter or none, the bytes in hand, five 32-bit counters", and the mark of a splice. The bytes in hand stand at the
+// start of the hold.
 pub struct Record {
     pub pid: u16,
     pub last: Last,
@@ -27,6 +28,7 @@ pub struct Record {
     pub broken: u32,
     pub filler: u32,
     pub skipped: u32,
+    pub mark: bool,
 }
 
 // What a call answers. Taken: "the finished sections end to end, the answer their number and bytes".
@@ -55,6 +57,7 @@ pub fn fresh(pid: u16) -> Record
         broken: 0,
         filler: 0,
         skipped: 0,
+        mark: false,
     }
 }
 
@@ -69,8 +72,8 @@ pub fn step(rec: Record, hold: &mut [u8], out: &mut [u8], packet: &[u8]) -> Step
             record: rec,
             answer: Answer::Refused(refusal),
         },
-        Judgement::Bare => Stepped {
-            record: rec,
+        Judgement::Bare { splice } => Stepped {
+            record: taking::marked(rec, splice),
             answer: Answer::Taken {
                 sections: 0,
                 bytes: 0,
@@ -80,7 +83,8 @@ pub fn step(rec: Record, hold: &mut [u8], out: &mut [u8], packet: &[u8]) -> Step
             from,
             start,
             counter,
-        } => taking::carried(rec, hold, out, packet, from, start, counter),
+            splice,
+        } => taking::carried(rec, hold, out, packet, from, start, counter, splice),
     }
 }
 

@@ -1,4 +1,4 @@
-// What a packet with payload makes of the record and the rooms.
+// What a packet that is not refused makes of the record and the rooms.
 use crate::Answer;
 use crate::Last;
 use crate::Record;
@@ -6,34 +6,66 @@ use crate::Stepped;
 use crate::payload;
 use crate::stretch::Gain;
 ghost use mathlib.Core.Path.{_≡_};
+ghost use mathlib.Core.Bool.{_||_};
 ghost use Prim.Native.Nat.{_<_};
 ghost use lib.ListN.{take, drop};
-ghost use Rattle.packet.specs.Ruling.{follows, repeats, loadOf, ruledOn};
+ghost use Rattle.packet.specs.Ruling.{markWith, joins, repeats, loadOf, ruledOn};
 ghost use Rattle.collector.specs.Rules.{holding, joined, plain, payload, delivers};
-ghost use Rattle.collector.specs.Refusals.{lastBefore, beforeOf};
+ghost use Rattle.collector.specs.Refusals.{lastOf, beforeOf};
 ghost use Rattle.collector.specs.Answer.{came};
-ghost use Rattle.collector.specs.Collected.{outcomeAfter, outcomeOf};
+ghost use Rattle.collector.specs.Collected.{markedBy, outcomeAfter, outcomeOf};
 ghost use Rattle.collector.specs.Inner.Stretch.{Small};
 ghost use Rattle.collector.specs.Inner.Payload.{Fit};
 ghost use Rattle.collector.specs.Inner.Taking.{keptOf, pointCount, countedOf};
 
-// "a counter equal to the last"
-fn is_repeat(last: Last, counter: u8) -> bool
-    ensures { λ r. ⌜ r ≡ repeats (lastBefore last) counter ⌝ }
+// The mark, once a packet with this bit has come: it was set, or the bit sets it.
+fn is_set(mark: bool, splice: bool) -> bool
+    ensures { λ r. ⌜ r ≡ (mark || splice) ⌝ }
 {
+    if mark { true } else { splice }
+}
+
+// "a counter equal to the last"; behind a mark a packet "is never "repeated""
+fn is_repeat(last: Last, spliced: bool, counter: u8) -> bool
+    ensures { λ r. ⌜ r ≡ repeats (lastOf last) spliced counter ⌝ }
+{
+    if spliced {
+        return false;
+    }
     match last {
         Last::None => false,
         Last::Counter(c) => counter == c,
     }
 }
 
-// "the last plus 1 modulo 16"
-fn is_next(last: Last, counter: u8) -> bool
-    ensures { λ r. ⌜ r ≡ follows (lastBefore last) counter ⌝ }
+// "the last plus 1 modulo 16", and no mark
+fn is_joined(last: Last, spliced: bool, counter: u8) -> bool
+    ensures { λ r. ⌜ r ≡ joins (lastOf last) spliced counter ⌝ }
 {
+    if spliced {
+        return false;
+    }
     match last {
         Last::None => true,
         Last::Counter(c) => wire::wide(counter) == (wire::wide(c) + 1) % 16,
+    }
+}
+
+// A packet without payload changes the mark alone.
+pub fn marked(rec: Record, splice: bool) -> Record
+    ensures { λ r. ⌜ r ≡ markedBy splice rec ⌝ }
+{
+    let last = rec.last;
+    Record {
+        pid: rec.pid,
+        last,
+        in_hand: rec.in_hand,
+        pointer: rec.pointer,
+        delivered: rec.delivered,
+        broken: rec.broken,
+        filler: rec.filler,
+        skipped: rec.skipped,
+        mark: is_set(rec.mark, splice),
     }
 }
 
@@ -43,7 +75,8 @@ fn point_count(start: bool) -> u32
     if start { 1 } else { 0 }
 }
 
-// The record after a packet that is taken; broken bytes were in hand and are broken off by a break in the counter.
+// The record after a packet that is taken with payload, which ".. clears" the mark; broken bytes were in hand and are broken off by a break in the
+// counter or by the mark.
 fn counted(rec: Record, counter: u8, e: Gain, broken: usize, start: bool) -> Record
     requires { ⌜ Small e × (broken < 4096) ⌝ }
     ensures { λ r. ⌜ r ≡ countedOf rec counter e broken start ⌝ }
@@ -62,17 +95,18 @@ fn counted(rec: Record, counter: u8, e: Gain, broken: usize, start: bool) -> Rec
         broken: std::num::wrapping_add_u32(rec.broken, lost),
         filler: std::num::wrapping_add_u32(rec.filler, filler),
         skipped: std::num::wrapping_add_u32(rec.skipped, skipped),
+        mark: false,
     }
 }
 
-// The bytes that stay in hand of those held: "If the counter isn't the last plus 1 modulo 16, what is in hand is broken off".
+// The bytes that stay in hand of those held.
 fn kept(next: bool, held: usize) -> usize
     ensures { λ r. ⌜ r ≡ keptOf next held ⌝ }
 {
     if next { held } else { 0 }
 }
 
-// A packet that is taken and has payload, packet[from..]; next says that its counter follows the last one.
+// A packet that is taken and has payload, packet[from..]; next says that what is in hand goes on in it.
 fn taken(
     rec: Record,
     hold: &mut [u8],
@@ -112,19 +146,21 @@ pub fn carried(
     from: usize,
     start: bool,
     counter: u8,
+    splice: bool,
 ) -> Stepped
     requires { ⌜ Fit (rec .in_hand) (now hold) (now out) (now packet) from start ⌝ }
     ensures { λ r. ⌜ came (r .record) (now (hold .exit)) (now (out .exit)) (r .answer)
         ≡ outcomeOf rec (now (hold .entry)) (now (out .entry))
-        (ruledOn (beforeOf rec) (loadOf (now (packet .entry)) from start counter)) ⌝ }
+        (ruledOn (beforeOf rec) (loadOf (markWith (beforeOf rec) splice) (now (packet .entry)) from start counter)) ⌝ }
 {
     let last = rec.last;
-    if is_repeat(last, counter) {
+    let spliced = is_set(rec.mark, splice);
+    if is_repeat(last, spliced, counter) {
         return Stepped {
             record: rec,
             answer: Answer::Repeated,
         };
     }
-    let next = is_next(last, counter);
+    let next = is_joined(last, spliced, counter);
     taken(rec, hold, out, packet, from, start, counter, next)
 }

@@ -3,6 +3,7 @@
 use mathlib.Core.Path.{_≡_, refl, sym, ap, _∙_, subst}
 use mathlib.Core.Bool.{Bool, true, false, _||_}
 use mathlib.Core.List.{List, [], _∷_, _++_, append-assoc, append-nil, map, map-id, flatten}
+use mathlib.Core.Option.{Option}
 use Prim.Native.Nat.{ℕ, suc, _+_, _%_, _^_, _≤_}
 use native.Mathlib.Nat.{add-zero, mod-add-mod}
 use native.Mathlib.Omega.{arith}
@@ -14,14 +15,14 @@ use Rattle.wire.specs.If.{if_then_else_}
 use Rattle.wire.specs.Each.{Each}
 use Rattle.wire.specs.Sections.{totalOf, WholeSection}
 use Rattle.copy.specs.Laid.{over}
-use Rattle.packet.specs.Ruling.{Before, Carried, repeats, Ruling, repeated, takes, loadOf, ruledBy, ruling}
+use Rattle.packet.specs.Ruling.{Before, noneBefore, markWith, repeats, Carried, handsOn, Ruling, repeated, takes, loadOf, ruledBy, ruling}
 use Rattle.collector.specs.Rules.{Kind, Fate, in-hand, done, Story, sameFate, countOf, handOf, marked, holding, plain, storyAfter, delivered, sectionsOf, delivers}
 use Rattle.packet.specs.Refusals.{Judged, refuse, has-payload, judged}
 use Rattle.collector.specs.Refusals.{beforeOf, cannotStand, tooSmall}
 use Rattle.packet.specs.Refusals as Refusals
 use Rattle.packet.specs.Ruling as Ruled
 use Rattle.collector.specs.Answer.{Outcome}
-use Rattle.collector.specs.Collected.{bytesCounted, freshRecord, recordAfter, outcomeAfter, outcomeOf, deliveredOf}
+use Rattle.collector.specs.Collected.{bytesCounted, freshRecord, markedBy, recordAfter, outcomeAfter, outcomeOf, deliveredOf}
 use Rattle.collector.specs.declared.Record.{Record}
 use Rattle.collector.specs.declared.Last.the-variants.{None, Counter}
 use Rattle.collector.proofs.Counters.{counts-with}
@@ -33,7 +34,7 @@ use Rattle.collector.proofs.StoryLaws.{Any, AllWhole, keeps-whole, sections-mor
 use Rattle.collector.proofs.PayloadLaws.{any}
 use Rattle.packet.proofs.Table.{or-false, payload-of}
 use Rattle.history.specs.History.{Byte, valueOf, numbered, History, unbegun, numberedIn, historyAfter, historyFrom}
-use Rattle.history.specs.Run.{Promised, Call, Run, no-call, one-call, fareOf, ruledFare, lentOf, rulingOn, beforeAfter, ruledIn, faresFrom, ruledTaken, cut, handedBy, handed, bytesBy, toldBy}
+use Rattle.history.specs.Run.{Promised, Call, Run, no-call, one-call, fareOf, ruledFare, lentOf, rulingOn, beforeAfter, ruledIn, faresFrom, ruledTaken, beforeFrom, cut, handedBy, handed, bytesBy, toldBy}
 use Rattle.history.specs.Demand3.{Counted, deliveredIn}
 use Rattle.history.proofs.LeftInHand.{Standing, standing-none, stands-taken, few-standing, stands-after}
 
@@ -56,11 +57,11 @@ plain-whole [] x = tt
 plain-whole (s ∷ secs) x = (subst WholeSection (map-id s) (x .0), plain-whole secs (x .1))
 
 -- the sections that a packet finishes are whole
-pub whole-taken : (comes : List ℕ → Kind) (before : Before) (h : List ℕ) (q : Carried ℕ)
-    → Each WholeSection (storyAfter comes plain before (holding h) q .sections)
-whole-taken comes before h q =
-    plain-whole (storyAfter comes plain before (holding h) q .sections)
-    (keep-taken comes plain Any (AllWhole comes plain) (keeps-whole comes plain) (λ b l s r x. x) before h (holding h) q
+pub whole-taken : (comes : List ℕ → Kind) (last : Option ℕ) (h : List ℕ) (q : Carried ℕ)
+    → Each WholeSection (storyAfter comes plain last (holding h) q .sections)
+whole-taken comes last h q =
+    plain-whole (storyAfter comes plain last (holding h) q .sections)
+    (keep-taken comes plain Any (AllWhole comes plain) (keeps-whole comes plain) (λ b l s r x. x) last h (holding h) q
     (any (q .bytes)) tt)
 
 -- ---- what a ruling tells of a packet that is taken with payload
@@ -72,7 +73,7 @@ or-none false = refl
 abbrev Taking : ℕ → Ruling → Type 0
 Taking size (Ruled.refuses n) = Unit {0}
 Taking size repeated = Unit {0}
-Taking size Ruled.bare = Unit {0}
+Taking size (Ruled.bare splice) = Unit {0}
 Taking size (takes q) = (q .counter ≤ 15) × (4096 ≤ size)
 
 taking-if : (size : ℕ) (q : Carried ℕ) (t : Bool) → (q .counter ≤ 15) × (4096 ≤ size)
@@ -83,36 +84,38 @@ taking-if size q false x = x
 taking-at : (unfit : Bool) (pid size out : ℕ) (before : Before) (p : List ℕ) (j : Judged)
     → judged (tooSmall size out) unfit pid p ≡ j → Taking size (ruledBy before p j)
 taking-at unfit pid size out before p (refuse n) e = tt
-taking-at unfit pid size out before p Refusals.bare e = tt
-taking-at unfit pid size out before p (has-payload from start c) e =
-    let x = payload-of (tooSmall size out) unfit pid p from start c e in
+taking-at unfit pid size out before p (Refusals.bare splice) e = tt
+taking-at unfit pid size out before p (has-payload from start c splice) e =
+    let x = payload-of (tooSmall size out) unfit pid p from start c splice e in
     let few : c ≤ 15 = omega (arith, x .count) in
-    taking-if size (loadOf p from start c) (repeats before c)
+    taking-if size (loadOf (markWith before splice) p from start c) (repeats (before .last) (markWith before splice) c)
     (few, ltb-false _ _ (or-false (ltb size 4096) _ (x .passed .1 .0) .0))
 
 taking-of : (unfit : Bool) (pid size out : ℕ) (before : Before) (p : List ℕ)
     → Taking size (ruling (tooSmall size out) unfit pid before p)
 taking-of unfit pid size out before p = taking-at unfit pid size out before p (judged (tooSmall size out) unfit pid p) refl
 
--- ---- the record agrees with a history
+-- ---- the record agrees with a history, and with what counts of the packets before
 
-pub record Agrees (pid size : ℕ) (r : Record) (hold : List ℕ) (h : History) : Type 0 where
+pub record Agrees (pid size : ℕ) (r : Record) (hold : List ℕ) (before : Before) (h : History) : Type 0 where
   pub pid-is : r .pid ≡ pid
   pub size-is : length hold ≡ size
-  pub before-is : beforeOf r ≡ h .before
+  pub before-is : beforeOf r ≡ before
+  pub last-is : before .last ≡ h .last
   pub stand-is : cannotStand r hold ≡ ltb 8191 pid
   pub counted : Counted r hold (h .story)
   pub standing : Standing (map valueOf (handOf (h .story)))
 
-pub agrees-fresh : (pid : ℕ) (hold : List ℕ) → Agrees pid (length hold) (freshRecord pid) hold unbegun
+pub agrees-fresh : (pid : ℕ) (hold : List ℕ) → Agrees pid (length hold) (freshRecord pid) hold noneBefore unbegun
 unfolding cannotStand
 agrees-fresh pid hold = record {
   pid-is = refl;
   size-is = refl;
   before-is = refl;
+  last-is = refl;
   stand-is = or-none (ltb 8191 pid);
   counted = record {
-    counters-are = counts-with pid None 0 (λ k. 0);
+    counters-are = counts-with pid None false 0 (λ k. 0);
     in-hand-is = refl;
     hold-is = refl;
   };
@@ -132,7 +135,13 @@ map-long : (l : List Byte) → length (map valueOf l) ≡ length l
 map-long [] = refl
 map-long (b ∷ l) = ap suc (map-long l)
 
-module _ {pid size : ℕ} {r : Record} {hold : List ℕ} {h : History} (g : Agrees pid size r hold h) where
+-- 43 has no case for the mark
+stand-marked : (splice : Bool) (r : Record) (hold : List ℕ) → cannotStand (markedBy splice r) hold ≡ cannotStand r hold
+unfolding cannotStand
+stand-marked splice r hold = refl
+
+module _ {pid size : ℕ} {r : Record} {hold : List ℕ} {before : Before} {h : History}
+    (g : Agrees pid size r hold before h) where
   abbrev hand : List ℕ
   hand = take (r .in_hand) hold
 
@@ -156,23 +165,23 @@ module _ {pid size : ℕ} {r : Record} {hold : List ℕ} {h : History} (g : Agre
   -- a packet that is taken with payload, whatever a whole section comes to
   module _ (comes : List ℕ → Kind) (q : Carried ℕ) where
     abbrev s : Story ℕ
-    s = storyAfter comes plain (h .before) (holding hand) q
+    s = storyAfter comes plain (h .last) (holding hand) q
 
     -- the packet's own story stands beside the history that goes on
     beside-after : Beside valueOf base secs s (historyAfter comes h q .story)
     beside-after =
         subst
         (λ (bs : List ℕ). Beside valueOf base secs
-        (storyAfter comes plain (h .before) (holding hand) (record { counter = q .counter; start = q .start; bytes = bs }))
+        (storyAfter comes plain (h .last) (holding hand) (record { counter = q .counter; start = q .start; spliced = q .spliced; bytes = bs }))
         (historyAfter comes h q .story))
         (values-of (h .packets) (q .bytes))
-        (beside-taken comes valueOf base secs (h .before) (holding hand) (h .story) (numberedIn (h .packets) q) beside)
+        (beside-taken comes valueOf base secs (h .last) (holding hand) (h .story) (numberedIn (h .packets) q) beside)
 
     standing-after : Standing (handOf s)
-    standing-after = stands-taken comes (h .before) hand q (subst Standing (sym (g .counted .hold-is)) (g .standing))
+    standing-after = stands-taken comes (h .last) hand q (subst Standing (sym (g .counted .hold-is)) (g .standing))
 
     agrees-taken : (q .counter ≤ 15) × (4096 ≤ size)
-        → Agrees pid size (recordAfter r (q .counter) s) (over (handOf s) hold) (historyAfter comes h q)
+        → Agrees pid size (recordAfter r (q .counter) s) (over (handOf s) hold) (handsOn q) (historyAfter comes h q)
     agrees-taken x =
         let b = beside-after in
         let few = few-standing (handOf s) standing-after in
@@ -187,13 +196,14 @@ module _ {pid size : ℕ} {r : Record} {hold : List ℕ} {h : History} (g : Agre
                 x .1,
               );
           before-is = refl;
+          last-is = refl;
           stand-is =
               stands-after (recordAfter r (q .counter) s) (q .counter) refl (x .0) (handOf s) standing-after refl
               (drop (length (handOf s)) hold)
               ∙ ap (ltb 8191) (g .pid-is);
           counted = record {
             counters-are = λ k.
-                counts-with (r .pid) (Counter (q .counter)) (length (handOf s))
+                counts-with (r .pid) (Counter (q .counter)) false (length (handOf s))
                 (λ j. (bytesCounted (done j) r + countOf (done j) (s .marks)) % 2 ^ 32) k
                 ∙ runs-round (bytesCounted (done k) r) (base (done k)) (countOf (done k) (s .marks)) _
                 (g .counted .counters-are k) (b .counts (done k) refl);
@@ -212,21 +222,40 @@ module _ {pid size : ℕ} {r : Record} {hold : List ℕ} {h : History} (g : Agre
         ∙ ap (λ (l : List (List ℕ)). l ++ sectionsOf comes plain k (s .sections))
         (sym (sections-values comes valueOf k (h .story .sections)))
 
+  -- a packet without payload changes the mark alone
+  agrees-bare : (splice : Bool)
+      → Agrees pid size (markedBy splice r) hold (record { last = before .last; mark = markWith before splice }) h
+  agrees-bare splice = record {
+    pid-is = g .pid-is;
+    size-is = g .size-is;
+    before-is = λ i. record { last = g .before-is i .last; mark = markWith (g .before-is i) splice };
+    last-is = g .last-is;
+    stand-is = stand-marked splice r hold ∙ g .stand-is;
+    counted = record {
+      counters-are = λ k.
+          counts-with (r .pid) (r .last) (markWith (beforeOf r) splice) (r .in_hand) (λ j. bytesCounted (done j) r) k
+          ∙ g .counted .counters-are k;
+      in-hand-is = g .counted .in-hand-is;
+      hold-is = g .counted .hold-is;
+    };
+    standing = g .standing;
+  }
+
 -- ---- one call
 
 -- what a call comes to, as it is ruled on
-record Went (pid size : ℕ) (h : History) (z : Ruling) (o : Outcome) : Type 0 where
+record Went (pid size : ℕ) (before : Before) (h : History) (z : Ruling) (o : Outcome) : Type 0 where
   fare : fareOf (o .said) ≡ ruledFare z
-  agrees : Agrees pid size (o .rec) (o .hold) (historyFrom delivers h (ruledIn z))
-  before : historyFrom delivers h (ruledIn z) .before ≡ beforeAfter (h .before) z
+  agrees : Agrees pid size (o .rec) (o .hold) (beforeAfter before z) (historyFrom delivers h (ruledIn z))
   sections : map (map valueOf) (deliveredIn (historyFrom delivers h (ruledIn z) .story))
       ≡ map (map valueOf) (deliveredIn (h .story)) ++ handedBy (o .said) (o .out)
   bytes : flatten (handedBy (o .said) (o .out)) ≡ bytesBy (o .said) (o .out)
   told : length (flatten (handedBy (o .said) (o .out))) ≡ toldBy (o .said)
 
-module _ {pid size : ℕ} {r : Record} {hold : List ℕ} {h : History} (g : Agrees pid size r hold h) (out : List ℕ) where
+module _ {pid size : ℕ} {r : Record} {hold : List ℕ} {before : Before} {h : History}
+    (g : Agrees pid size r hold before h) (out : List ℕ) where
   went-taken : (q : Carried ℕ) → (q .counter ≤ 15) × (4096 ≤ size)
-      → Went pid size h (takes q) (outcomeAfter r hold out (q .counter) (s g delivers q))
+      → Went pid size before h (takes q) (outcomeAfter r hold out (q .counter) (s g delivers q))
   went-taken q x =
       let secs : List (List ℕ) = deliveredOf (s g delivers q) in
       let front : take (length (flatten secs)) (over (flatten secs) out) ≡ flatten secs =
@@ -234,60 +263,40 @@ module _ {pid size : ℕ} {r : Record} {hold : List ℕ} {h : History} (g : Agre
       let given : cut (length secs) (take (length (flatten secs)) (over (flatten secs) out)) ≡ secs =
       ap (cut (length secs)) front
       ∙ cut-whole secs (sections-each delivers plain delivered WholeSection (s g delivers q .sections)
-      (whole-taken delivers (h .before) (hand g) q)) in
+      (whole-taken delivers (h .last) (hand g) q)) in
       record {
         fare = refl;
         agrees = agrees-taken g delivers q x;
-        before = refl;
         sections =
             sections-taken g delivers q delivered ∙ ap (λ (l : List (List ℕ)). map (map valueOf) (deliveredIn (h .story)) ++ l) (sym given);
         bytes = ap flatten given ∙ sym front;
         told = ap (λ (l : List (List ℕ)). length (flatten l)) given;
       }
 
-  went-by : (z : Ruling) → Taking size z → Went pid size h z (outcomeOf r hold out z)
+  went-by : (z : Ruling) → Taking size z → Went pid size before h z (outcomeOf r hold out z)
   unfolding flatten
-  went-by (Ruled.refuses n) x = record {
-    fare = refl;
-    agrees = g;
-    before = refl;
-    sections = sym (append-nil _);
-    bytes = refl;
-    told = refl;
-  }
-  went-by repeated x = record {
-    fare = refl;
-    agrees = g;
-    before = refl;
-    sections = sym (append-nil _);
-    bytes = refl;
-    told = refl;
-  }
-  went-by Ruled.bare x = record {
-    fare = refl;
-    agrees = g;
-    before = refl;
-    sections = sym (append-nil _);
-    bytes = refl;
-    told = refl;
-  }
+  went-by (Ruled.refuses n) x =
+      record { fare = refl; agrees = g; sections = sym (append-nil _); bytes = refl; told = refl }
+  went-by repeated x = record { fare = refl; agrees = g; sections = sym (append-nil _); bytes = refl; told = refl }
+  went-by (Ruled.bare splice) x =
+      record { fare = refl; agrees = agrees-bare g splice; sections = sym (append-nil _); bytes = refl; told = refl }
   went-by (takes q) x =
       subst
-      (λ (l : Before). Went pid size h (takes q)
+      (λ (l : Option ℕ). Went pid size before h (takes q)
       (outcomeAfter r hold out (q .counter) (storyAfter delivers plain l (holding (hand g)) q)))
-      (sym (g .before-is)) (went-taken q x)
+      (sym (ap (λ (b : Before). b .last) (g .before-is) ∙ g .last-is)) (went-taken q x)
 
   -- the ruling on the packet is the one that the packets alone give
   went : (packet : List ℕ) (o : Outcome) → Promised r hold out packet o
-      → Went pid size h (rulingOn pid size (h .before) (record { packet = packet; room = length out })) o
+      → Went pid size before h (rulingOn pid size before (record { packet = packet; room = length out })) o
   went packet o e =
       let z : Ruling = ruling (tooSmall (length hold) (length out)) (cannotStand r hold) (r .pid) (beforeOf r) packet in
-      let same : z ≡ rulingOn pid size (h .before) (record { packet = packet; room = length out }) =
+      let same : z ≡ rulingOn pid size before (record { packet = packet; room = length out }) =
       λ i. ruling (tooSmall (g .size-is i) (length out)) (g .stand-is i) (g .pid-is i) (g .before-is i) packet in
       let taking : Taking size z =
       subst (λ (n : ℕ). Taking n z) (g .size-is)
       (taking-of (cannotStand r hold) (r .pid) (length hold) (length out) (beforeOf r) packet) in
-      subst (λ (y : Ruling). Went pid size h y o) same (subst (Went pid size h z) (sym e) (went-by z taking))
+      subst (λ (y : Ruling). Went pid size before h y o) same (subst (Went pid size before h z) (sym e) (went-by z taking))
 
 -- ---- a run of calls
 
@@ -296,30 +305,30 @@ history-append : (comes : List ℕ → Kind) (h : History) (a c : List (Carried 
 history-append comes h [] c = refl
 history-append comes h (q ∷ a) c = history-append comes (historyAfter comes h q) a c
 
-pub record Ran (pid size : ℕ) (h : History) (ks : List Call) (r′ : Record) (hold′ : List ℕ) : Type 0 where
-  pub fares : map (λ k. fareOf (k .said)) ks ≡ faresFrom pid size (h .before) (map lentOf ks)
-  pub agrees : Agrees pid size r′ hold′ (historyFrom delivers h (ruledTaken pid size (h .before) (map lentOf ks)))
-  pub sections : map (map valueOf) (deliveredIn (historyFrom delivers h (ruledTaken pid size (h .before) (map lentOf ks)) .story))
+pub record Ran (pid size : ℕ) (before : Before) (h : History) (ks : List Call) (r′ : Record) (hold′ : List ℕ) : Type 0 where
+  pub fares : map (λ k. fareOf (k .said)) ks ≡ faresFrom pid size before (map lentOf ks)
+  pub agrees : Agrees pid size r′ hold′ (beforeFrom pid size before (map lentOf ks))
+      (historyFrom delivers h (ruledTaken pid size before (map lentOf ks)))
+  pub sections : map (map valueOf) (deliveredIn (historyFrom delivers h (ruledTaken pid size before (map lentOf ks)) .story))
       ≡ map (map valueOf) (deliveredIn (h .story)) ++ handed ks
   pub bytes : Each (λ k. flatten (handedBy (k .said) (k .out′)) ≡ bytesBy (k .said) (k .out′)) ks
   pub told : Each (λ k. length (flatten (handedBy (k .said) (k .out′))) ≡ toldBy (k .said)) ks
 
 pub ran : {pid size : ℕ} {r r′ : Record} {hold hold′ : List ℕ} {ks : List Call} → Run Promised r hold ks r′ hold′
-    → (h : History) → Agrees pid size r hold h → Ran pid size h ks r′ hold′
-ran no-call h g = record { fares = refl; agrees = g; sections = sym (append-nil _); bytes = tt; told = tt }
-ran {pid} {size} {r′ = r′} {hold′ = hold′} (one-call {k = k} {ks = ks} c rest) h g =
+    → (before : Before) (h : History) → Agrees pid size r hold before h → Ran pid size before h ks r′ hold′
+ran no-call before h g = record { fares = refl; agrees = g; sections = sym (append-nil _); bytes = tt; told = tt }
+ran {pid} {size} {r′ = r′} {hold′ = hold′} (one-call {k = k} {ks = ks} c rest) before h g =
     let w = went g (k .out) (k .packet) _ c in
-    let z : Ruling = rulingOn pid size (h .before) (lentOf k) in
+    let z : Ruling = rulingOn pid size before (lentOf k) in
     let h₁ : History = historyFrom delivers h (ruledIn z) in
-    let x = ran rest h₁ (w .agrees) in
-    let from : historyFrom delivers h₁ (ruledTaken pid size (h₁ .before) (map lentOf ks))
-    ≡ historyFrom delivers h (ruledIn z ++ ruledTaken pid size (beforeAfter (h .before) z) (map lentOf ks)) =
-    ap (λ (l : Before). historyFrom delivers h₁ (ruledTaken pid size l (map lentOf ks))) (w .before)
-    ∙ sym (history-append delivers h (ruledIn z) (ruledTaken pid size (beforeAfter (h .before) z) (map lentOf ks))) in
+    let next : Before = beforeAfter before z in
+    let x = ran rest next h₁ (w .agrees) in
+    let from : historyFrom delivers h₁ (ruledTaken pid size next (map lentOf ks))
+    ≡ historyFrom delivers h (ruledIn z ++ ruledTaken pid size next (map lentOf ks)) =
+    sym (history-append delivers h (ruledIn z) (ruledTaken pid size next (map lentOf ks))) in
     record {
-      fares = (λ i. w .fare i ∷ x .fares i)
-          ∙ ap (λ (l : Before). ruledFare z ∷ faresFrom pid size l (map lentOf ks)) (w .before);
-      agrees = subst (Agrees pid size r′ hold′) from (x .agrees);
+      fares = λ i. w .fare i ∷ x .fares i;
+      agrees = subst (Agrees pid size r′ hold′ (beforeFrom pid size next (map lentOf ks))) from (x .agrees);
       sections =
           ap (λ (y : History). map (map valueOf) (deliveredIn (y .story))) (sym from)
           ∙ x .sections

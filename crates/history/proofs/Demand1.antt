@@ -19,7 +19,7 @@ use Rattle.history.proofs.FaresByTable.{fareNumber, refused-exactly-if}
 pub fare-is : (r : Record) (hold out : List ℕ) (z : Ruling) → fareOf (outcomeOf r hold out z .said) ≡ ruledFare z
 fare-is r hold out (Ruled.refuses n) = refl
 fare-is r hold out Ruled.repeated = refl
-fare-is r hold out Ruled.bare = refl
+fare-is r hold out (Ruled.bare splice) = refl
 fare-is r hold out (takes q) = refl
 
 -- an answer is a refusal exactly if that is how its packet fares
@@ -44,7 +44,7 @@ unaltered-by : (r : Record) (hold out : List ℕ) (z : Ruling) (n : ℕ)
 unaltered-by r hold out (Ruled.refuses m) n e =
     let same : m ≡ n = cc in ap (λ (k : ℕ). unaltered r hold out (refusedWith k)) same
 unaltered-by r hold out Ruled.repeated n e = let z : _≡_ {A = ℕ} 1 0 = ap fareNumber e in absurd (omega arith)
-unaltered-by r hold out Ruled.bare n e = let z : _≡_ {A = ℕ} 2 0 = ap fareNumber e in absurd (omega arith)
+unaltered-by r hold out (Ruled.bare splice) n e = let z : _≡_ {A = ℕ} 2 0 = ap fareNumber e in absurd (omega arith)
 unaltered-by r hold out (takes q) n e = let z : _≡_ {A = ℕ} 2 0 = ap fareNumber e in absurd (omega arith)
 
 pub refused-unaltered : RefusedUnaltered Promised

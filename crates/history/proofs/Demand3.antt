@@ -21,15 +21,16 @@ use Rattle.collector.specs.declared.Record.{Record}
 use Rattle.wire.proofs.EachLaws.{each-of}
 use Rattle.collector.proofs.Invariants.{keep-taken}
 use Rattle.collector.proofs.StoryLaws.{Any, Kept, keeps-kept, points-kept, kept-holding, counts-in, sections-each, delivered-by-end}
-use Rattle.history.specs.History.{Byte, valueOf, numbered, History, unbegun, numberedIn, historyAfter, historyFrom, historyOf, payloadsFrom, Unbroken, Among, none-left, left-out, had}
-use Rattle.history.specs.Run.{Promised, Call, Run, Fare, taken, fareOf, saidTaken, lentOf, rulingOn, beforeAfter, faresFrom, NotRefused, NotRepeated, handed}
+use Rattle.history.specs.History.{Byte, valueOf, numbered, History, unbegun, numberedIn, historyAfter, historyFrom, historyOf, payloadsFrom, Unbroken, Unmarked, Among, none-left, left-out, had}
+use Rattle.history.specs.Run.{Promised, Call, Run, Fare, taken, fareOf, saidTaken, splicesFrom, lentOf, rulingOn, beforeAfter, faresFrom, NotRefused, NotRepeated, handed}
 use Rattle.history.specs.Demand1.{First}
 use Rattle.history.specs.Demand3.{TakenCallByCall, RefusedIf, takenByRule, storyBy, Counted, deliveredIn, MadeUnbroken, RefusedExactlyIf, TakenExactlyIf, ByPacketsAlone, NeverUnfit, OneFateEach, CountersAreFates, CountersMakeUp, DeliveredInOrder, NoSectionSpans}
 use Rattle.history.proofs.Agrees.{Ran, ran, agrees-fresh}
 use Rattle.history.proofs.FaresByTable.{Never, never-first, fares-cut, taken-alike}
 use Rattle.history.proofs.FaresByTable as fares
 use Rattle.history.proofs.Demand1.{said-refused}
-use Rattle.history.proofs.NoSpan.{sections-unbroken}
+use Rattle.history.proofs.NoSpan.{sections-unbroken, sections-unmarked}
+use Rattle.history.proofs.Marks.{splices-marked}
 
 -- ---- the fates themselves
 
@@ -41,7 +42,7 @@ module _ (comes : List ℕ → Kind) where
       subst (λ (z : List Byte). Kept comes valueOf z (historyFrom comes (historyAfter comes h q) qs .story))
       (append-assoc l (numbered (h .packets) (q .bytes)) (payloadsFrom (h .packets + 1) qs))
       (kept-from (historyAfter comes h q) (l ++ numbered (h .packets) (q .bytes)) qs
-      (keep-taken comes valueOf Any (Kept comes valueOf) (keeps-kept comes valueOf) (points-kept comes valueOf) (h .before) l
+      (keep-taken comes valueOf Any (Kept comes valueOf) (keeps-kept comes valueOf) (points-kept comes valueOf) (h .last) l
       (h .story) (numberedIn (h .packets) q) (each-of Any (λ b. tt) (numbered (h .packets) (q .bytes))) x))
 
   pub kept-history : (qs : List (Carried ℕ)) → Kept comes valueOf (payloadsFrom 0 qs) (historyOf comes qs .story)
@@ -51,8 +52,8 @@ module _ (comes : List ℕ → Kind) where
 
 module _ (pid : ℕ) (hold : List ℕ) (calls : List Call) (r : Record) (hold′ : List ℕ)
     (x : Run Promised (freshRecord pid) hold calls r hold′) where
-  whole-run : Ran pid (length hold) unbegun calls r hold′
-  whole-run = ran x unbegun (agrees-fresh pid hold)
+  whole-run : Ran pid (length hold) noneBefore unbegun calls r hold′
+  whole-run = ran x noneBefore unbegun (agrees-fresh pid hold)
 
   counted : Counted r hold′ (storyBy pid hold calls)
   counted = whole-run .agrees .counted
@@ -65,7 +66,7 @@ by-packets-alone pid hold calls r hold′ x = whole-run pid hold calls r hold′
 
 -- the packets that the answers call taken are those that are taken by the packets alone
 pub taken-by : (pid : ℕ) (hold : List ℕ) (calls : List Call) (r : Record) (hold′ : List ℕ)
-    → Run Promised (freshRecord pid) hold calls r hold′ → saidTaken calls ≡ takenByRule pid hold calls
+    → Run Promised (freshRecord pid) hold calls r hold′ → saidTaken false calls ≡ takenByRule pid hold calls
 taken-by pid hold calls r hold′ x = taken-alike pid (length hold) noneBefore calls (by-packets-alone pid hold calls r hold′ x)
 
 pub counters-are-fates : CountersAreFates Promised
@@ -123,7 +124,7 @@ one-fate-each pid hold calls r hold′ x =
       held-are = counted pid hold calls r hold′ x .hold-is;
     }
 
--- ---- no delivered section spans a break
+-- ---- no delivered section spans a break or a mark
 
 among-if : (t : Bool) (b : Byte) (part whole : List Byte) → Among part whole
     → Among (if t then b ∷ part else part) (b ∷ whole)
@@ -144,12 +145,16 @@ no-section-spans pid hold calls r hold′ x =
     let among : Among (flatten (deliveredIn s)) (payloadsFrom 0 qs) =
     subst (λ (l : List Byte). Among l (payloadsFrom 0 qs)) (out .delivered-are)
     (subst (Among (bytesOf (done delivered) (s .marks))) (kept-history delivers qs .seen) (fate-among (done delivered) (s .marks))) in
-    subst (λ (z : List (Carried ℕ)). MadeUnbroken z (handed calls)) (sym (taken-by pid hold calls r hold′ x))
+    subst (λ (z : List (Carried ℕ)). MadeUnbroken z (splicesFrom 0 calls) (handed calls))
+    (sym (taken-by pid hold calls r hold′ x))
     (record {
       made-of = deliveredIn s;
       values-are = sym (out .sections-are);
       once-in-order = among;
       unbroken = sections-each delivers valueOf delivered (Unbroken qs) (s .sections) (sections-unbroken delivers qs);
+      unmarked = sections-each delivers valueOf delivered (Unmarked (splicesFrom 0 calls)) (s .sections)
+          (sections-unmarked delivers qs (splicesFrom 0 calls)
+          (splices-marked pid (length hold) noneBefore calls (by-packets-alone pid hold calls r hold′ x)));
     })
 
 -- ---- taken exactly if neither refused nor repeated, and refused exactly with the first row that applies

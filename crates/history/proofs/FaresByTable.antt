@@ -1,10 +1,10 @@
 -- How a packet fares by document 01's table: taken exactly if no row applies and it is not repeated, refused exactly
 -- with the first row that applies; and the packets that the answers call taken are those that are taken by the packets
 -- alone.
-use mathlib.Core.Path.{_≡_, refl, ap, _∙_}
-use mathlib.Core.Bool.{Bool, true, false}
+use mathlib.Core.Path.{_≡_, refl, sym, ap, _∙_}
+use mathlib.Core.Bool.{Bool, true, false, not, _&&_, _||_}
 use mathlib.Core.List.{List, [], _∷_, _++_, map}
-use mathlib.Core.Logic.{_↔_, inl, inr, ⊎-elim}
+use mathlib.Core.Logic.{_⊎_, _↔_, inl, inr, ⊎-elim}
 use mathlib.Core.Option.{Option, none, some}
 use Prim.Native.Nat.{ℕ}
 use native.Mathlib.Omega.{arith}
@@ -12,14 +12,15 @@ use lib.Dec.{ltb, eqb}
 use borrow.Author.Tests.{eqb-true, eqb-false}
 use Rattle.wire.specs.If.{if_then_else_}
 use Rattle.wire.specs.Each.{Each}
-use Rattle.packet.specs.Header.{startFlag, control, counterOf, payloadFrom}
-use Rattle.packet.specs.Ruling.{Before, Carried, repeats, Ruling, takes, loadOf, ruledBy, ruling}
+use Rattle.wire.proofs.IfLaws.{true-not-false}
+use Rattle.packet.specs.Header.{startFlag, control, counterOf, discontinuity, payloadFrom}
+use Rattle.packet.specs.Ruling.{Before, markWith, equalTo, repeats, Carried, Ruling, takes, loadOf, ruledBy, ruling}
 use Rattle.packet.specs.Refusals.{Row, refusals, firstOf, has-payload, judgedBy, judged}
 use Rattle.packet.specs.Refusals as Refusals
 use Rattle.packet.specs.Ruling as Ruled
 use Rattle.collector.specs.Refusals.{tooSmall}
 use Rattle.packet.proofs.Table.{none-of, all-passed}
-use Rattle.history.specs.Run.{Call, Fare, taken, fareOf, ruledFare, ifSaidTaken, saidTaken, lentOf, rulingOn, beforeAfter, ruledIn, faresFrom, ruledTaken, NotRepeated}
+use Rattle.history.specs.Run.{Call, Fare, taken, fareOf, ruledFare, ifSaidTaken, saidMark, saidTaken, lentOf, rulingOn, beforeAfter, ruledIn, faresFrom, ruledTaken, NotRepeated}
 use Rattle.history.specs.Run as R
 use Rattle.history.specs.Demand1.{First}
 
@@ -72,28 +73,38 @@ new-taken q true = (
 )
 new-taken q false = (λ w. refl, λ w. refl)
 
-new-carried : (p : List ℕ) (q : Carried ℕ) (t : Bool) → ifSaidTaken taken p ≡ q ∷ []
-    → ifSaidTaken (ruledFare (if t then Ruled.repeated else takes q)) p
-    ≡ ruledIn (if t then Ruled.repeated else takes q)
-new-carried p q true e = refl
-new-carried p q false e = e
+-- "never "repeated"": not repeated exactly if the mark is set, by a packet before or by this one, or another counter comes
+not-repeated : (mark splice again : Bool)
+    → ((not (mark || splice) && again) ≡ false) ↔ (((mark ≡ true) ⊎ (splice ≡ true)) ⊎ (again ≡ false))
+not-repeated true splice again = (λ e. inl (inl refl), λ v. refl)
+not-repeated false true again = (λ e. inl (inr refl), λ v. refl)
+not-repeated false false again = (
+  λ e. inr e,
+  λ v. ⊎-elim (λ u. ⊎-elim (λ w. absurd (true-not-false (sym w))) (λ w. absurd (true-not-false (sym w))) u) (λ u. u) v,
+)
 
 module _ (small unfit : Bool) (pid : ℕ) (before : Before) (p : List ℕ) where
   abbrev rows : List Row
   rows = refusals small unfit pid p
 
-  abbrev here : Carried ℕ
-  here = loadOf p (payloadFrom p) (startFlag p) (counterOf p)
+  abbrev pub here : Carried ℕ
+  here = loadOf (markWith before (discontinuity p)) p (payloadFrom p) (startFlag p) (counterOf p)
+
+  abbrev pub again : Bool
+  again = repeats (before .last) (markWith before (discontinuity p)) (counterOf p)
 
   -- what no row refuses, by its adaptation control
-  abbrev passedOn : Bool → Ruling
-  passedOn t = ruledBy before p (if t then Refusals.bare else has-payload (payloadFrom p) (startFlag p) (counterOf p))
+  abbrev pub passedOn : Bool → Ruling
+  passedOn t =
+      ruledBy before p
+      (if t then Refusals.bare (discontinuity p)
+      else has-payload (payloadFrom p) (startFlag p) (counterOf p) (discontinuity p))
 
   -- ---- refused exactly with the first row that applies
 
   unrefused : (n : ℕ) (t : Bool) → ruledFare (passedOn t) ≡ R.refusedBy n → ⊥
   unrefused n true e = let z : _≡_ {A = ℕ} 2 0 = ap fareNumber e in omega arith
-  unrefused n false e = new-unrefused n here (repeats before (counterOf p)) e
+  unrefused n false e = new-unrefused n here again e
 
   refused-at : (n : ℕ) (o : Option ℕ) → (ruledFare (ruledBy before p (judgedBy o p)) ≡ R.refusedBy n) ↔ (o ≡ some n)
   refused-at n (some m) = (λ e. ap some (ap numberIn e), λ e. let same : m ≡ n = cc in ap R.refusedBy same)
@@ -116,10 +127,12 @@ module _ (small unfit : Bool) (pid : ℕ) (before : Before) (p : List ℕ) where
       ↔ (Each (λ row. row .applies ≡ false) rows × NotRepeated before p)
 
   passed-if : (t : Bool) → eqb (control p) 2 ≡ t → Each (λ row. row .applies ≡ false) rows → Is (passedOn t)
+  unfolding repeats
   passed-if true e w = (λ v. (w, inl (eqb-true _ _ e)), λ v. refl)
   passed-if false e w =
-      let f = new-taken here (repeats before (counterOf p)) in
-      (λ v. (w, inr (f .0 v)), λ v. ⊎-elim (λ u. absurd (eqb-false _ _ e u)) (λ u. f .1 u) (v .1))
+      let f = new-taken here again in
+      let g = not-repeated (before .mark) (discontinuity p) (equalTo (before .last) (counterOf p)) in
+      (λ v. (w, inr (g .0 (f .0 v))), λ v. ⊎-elim (λ u. absurd (eqb-false _ _ e u)) (λ u. f .1 (g .1 u)) (v .1))
 
   taken-at : (o : Option ℕ) → firstOf rows ≡ o → Is (ruledBy before p (judgedBy o p))
   taken-at (some n) e = (
@@ -132,22 +145,33 @@ module _ (small unfit : Bool) (pid : ℕ) (before : Before) (p : List ℕ) where
   unfolding judged
   taken-exactly-if = taken-at (firstOf rows) refl
 
-  -- ---- what the answer calls taken is what is taken
+  -- ---- what the answer calls taken is what is taken, and the mark behind it is the mark behind it
 
-  carried-passed : (t : Bool) → eqb (control p) 2 ≡ t → ifSaidTaken (ruledFare (passedOn t)) p ≡ ruledIn (passedOn t)
-  carried-passed true e = ap (λ (t : Bool). if t then [] else here ∷ []) e
-  carried-passed false e =
-      new-carried p here (repeats before (counterOf p)) (ap (λ (t : Bool). if t then [] else here ∷ []) e)
+  pub record Alike (z : Ruling) : Type 0 where
+    pub carried : ifSaidTaken (before .mark) (ruledFare z) p ≡ ruledIn z
+    pub mark : saidMark (before .mark) (ruledFare z) p ≡ beforeAfter before z .mark
 
-  carried-at : (o : Option ℕ)
-      → ifSaidTaken (ruledFare (ruledBy before p (judgedBy o p))) p ≡ ruledIn (ruledBy before p (judgedBy o p))
-  carried-at (some n) = refl
-  carried-at none = carried-passed (eqb (control p) 2) refl
+  new-alike : (t : Bool) → eqb (control p) 2 ≡ false → Alike (if t then Ruled.repeated else takes here)
+  new-alike true e = record { carried = refl; mark = refl }
+  new-alike false e = record {
+    carried = ap (λ (t : Bool). if t then [] else here ∷ []) e;
+    mark = ap (λ (t : Bool). if t then markWith before (discontinuity p) else false) e;
+  }
 
-  pub ruled-in-alike : ifSaidTaken (ruledFare (ruling small unfit pid before p)) p
-      ≡ ruledIn (ruling small unfit pid before p)
+  alike-passed : (t : Bool) → eqb (control p) 2 ≡ t → Alike (passedOn t)
+  alike-passed true e = record {
+    carried = ap (λ (t : Bool). if t then [] else here ∷ []) e;
+    mark = ap (λ (t : Bool). if t then markWith before (discontinuity p) else false) e;
+  }
+  alike-passed false e = new-alike again e
+
+  alike-at : (o : Option ℕ) → Alike (ruledBy before p (judgedBy o p))
+  alike-at (some n) = record { carried = refl; mark = refl }
+  alike-at none = alike-passed (eqb (control p) 2) refl
+
+  pub ruled-alike : Alike (ruling small unfit pid before p)
   unfolding judged
-  ruled-in-alike = carried-at (firstOf rows)
+  ruled-alike = alike-at (firstOf rows)
 
 -- ---- over the calls of a run
 
@@ -161,11 +185,12 @@ fares-cut pid size before k ks e = (cc, cc)
 
 pub taken-alike : (pid size : ℕ) (before : Before) (ks : List Call)
     → map (λ k. fareOf (k .said)) ks ≡ faresFrom pid size before (map lentOf ks)
-    → saidTaken ks ≡ ruledTaken pid size before (map lentOf ks)
+    → saidTaken (before .mark) ks ≡ ruledTaken pid size before (map lentOf ks)
 taken-alike pid size before [] e = refl
 taken-alike pid size before (k ∷ ks) e =
     let w = fares-cut pid size before k ks e in
-    let one : ifSaidTaken (fareOf (k .said)) (k .packet) ≡ ruledIn (rulingOn pid size before (lentOf k)) =
-    ap (λ (f : Fare). ifSaidTaken f (k .packet)) (w .0)
-    ∙ ruled-in-alike (tooSmall size (lentOf k .room)) (ltb 8191 pid) pid before (k .packet) in
-    λ i. one i ++ taken-alike pid size (beforeAfter before (rulingOn pid size before (lentOf k))) ks (w .1) i
+    let z = rulingOn pid size before (lentOf k) in
+    let one = ruled-alike (tooSmall size (lentOf k .room)) (ltb 8191 pid) pid before (k .packet) in
+    ap (λ (f : Fare). ifSaidTaken (before .mark) f (k .packet) ++ saidTaken (saidMark (before .mark) f (k .packet)) ks) (w .0)
+    ∙ ap (λ (m : Bool). ifSaidTaken (before .mark) (ruledFare z) (k .packet) ++ saidTaken m ks) (one .mark)
+    ∙ (λ i. one .carried i ++ taken-alike pid size (beforeAfter before z) ks (w .1) i)

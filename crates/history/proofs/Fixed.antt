@@ -21,7 +21,7 @@ use Rattle.collector.specs.declared.Record.{Record}
 use Rattle.collector.specs.declared.Last.{Last}
 use Rattle.collector.specs.declared.Last.the-variants.{None, Counter}
 use Rattle.history.specs.History.{valueOf, History, historyOf}
-use Rattle.history.specs.Run.{Collector, Promised, Call, Input, inputOf, Run, no-call, one-call, Fare, fareOf, ruledFare, Lent, lentOf, rulingOn, beforeAfter, faresFrom, ruledTaken, cut, handedBy, handed, bytesBy, toldBy}
+use Rattle.history.specs.Run.{Collector, Promised, Call, Input, inputOf, Run, no-call, one-call, Fare, fareOf, ruledFare, Lent, lentOf, rulingOn, beforeAfter, faresFrom, ruledTaken, beforeFrom, cut, handedBy, handed, bytesBy, toldBy}
 use Rattle.history.specs.Run as R
 use Rattle.history.specs.Demand3.{TakenCallByCall, RefusedIf, deliveredIn}
 use Rattle.history.specs.Fixed.{RecordTells, BeyondStays, Asked, OnlyAsPromised, Agree}
@@ -68,16 +68,18 @@ last-in : (l : Last) → lastIn (lastOf l) ≡ l
 last-in None = refl
 last-in (Counter c) = refl
 
-abbrev recordIn : ℕ → History → Record
-recordIn pid h =
-    recordWith pid (lastIn (h .before .last)) (countOf in-hand (h .story .marks))
+abbrev recordIn : ℕ → Before → History → Record
+recordIn pid before h =
+    recordWith pid (lastIn (before .last)) (before .mark) (countOf in-hand (h .story .marks))
     (λ k. countOf (done k) (h .story .marks) % 2 ^ 32)
 
 record Shown (pid : ℕ) (hold : List ℕ) (xs : List Lent) (ks : List Call) (r : Record) (hold′ : List ℕ) : Type 0 where
   fares-are : map (λ k. fareOf (k .said)) ks ≡ faresFrom pid (length hold) noneBefore xs
   sections-are : handed ks
       ≡ map (map valueOf) (deliveredIn (historyOf delivers (ruledTaken pid (length hold) noneBefore xs) .story))
-  record-is : r ≡ recordIn pid (historyOf delivers (ruledTaken pid (length hold) noneBefore xs))
+  record-is : r
+      ≡ recordIn pid (beforeFrom pid (length hold) noneBefore xs)
+      (historyOf delivers (ruledTaken pid (length hold) noneBefore xs))
   hand-is : take (r .in_hand) hold′ ≡ map valueOf (handOf (historyOf delivers (ruledTaken pid (length hold) noneBefore xs) .story))
 
 shown : (C : Collector) → Asked C → (pid : ℕ) (hold : List ℕ) (ks : List Call) (r : Record) (hold′ : List ℕ)
@@ -85,13 +87,13 @@ shown : (C : Collector) → Asked C → (pid : ℕ) (hold : List ℕ) (ks : List
 shown C a pid hold ks r hold′ x =
     let c = a .counters pid hold ks r hold′ x in
     let t = a .record-tells pid hold ks r hold′ x in
-    let last : r .last ≡ lastIn (historyOf delivers (ruledTaken pid (length hold) noneBefore (map lentOf ks)) .before .last) =
+    let last : r .last ≡ lastIn (beforeFrom pid (length hold) noneBefore (map lentOf ks) .last) =
     sym (last-in (r .last)) ∙ ap (λ (b : Before). lastIn (b .last)) (t .1) in
     record {
       fares-are =
           fares-by pid (length hold) noneBefore ks (a .refused-if pid hold ks r hold′ x) (a .taken-if pid hold ks r hold′ x);
       sections-are = a .delivered pid hold ks r hold′ x .sections-are;
-      record-is = λ i. recordWith (t .0 i) (last i) (c .in-hand-is i) (λ k. c .counters-are k i);
+      record-is = λ i. recordWith (t .0 i) (last i) (t .1 i .mark) (c .in-hand-is i) (λ k. c .counters-are k i);
       hand-is = c .hold-is;
     }
 
@@ -105,9 +107,9 @@ stays-by : (r : Record) (hold out : List ℕ) (z : Ruling) → let o : Outcome =
     × (drop (o .rec .in_hand) (o .hold) ≡ drop (o .rec .in_hand) hold)
 stays-by r hold out (Ruled.refuses n) = (refl, refl)
 stays-by r hold out Ruled.repeated = (refl, refl)
-stays-by r hold out Ruled.bare = (refl, refl)
+stays-by r hold out (Ruled.bare splice) = (refl, refl)
 stays-by r hold out (takes q) =
-    let s : Story ℕ = storyAfter delivers plain (beforeOf r) (holding (take (r .in_hand) hold)) q in
+    let s : Story ℕ = storyAfter delivers plain (beforeOf r .last) (holding (take (r .in_hand) hold)) q in
     (behind-over (flatten (deliveredOf s)) out, behind-over (handOf s) hold)
 
 pub beyond-stays : BeyondStays Promised
@@ -117,7 +119,7 @@ beyond-stays r hold out packet o x =
     (stays-by r hold out (ruling (tooSmall (length hold) (length out)) (cannotStand r hold) (r .pid) (beforeOf r) packet))
 
 pub record-tells : RecordTells Promised
-record-tells pid hold calls r hold′ x = let g = ran x _ (agrees-fresh pid hold) .agrees in (g .pid-is, g .before-is)
+record-tells pid hold calls r hold′ x = let g = ran x noneBefore _ (agrees-fresh pid hold) .agrees in (g .pid-is, g .before-is)
 
 pub promise-keeps : Asked Promised
 promise-keeps = record {

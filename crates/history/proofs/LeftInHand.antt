@@ -4,6 +4,7 @@ use mathlib.Core.Path.{_≡_, refl, sym, ap, _∙_, subst}
 use mathlib.Core.Bool.{Bool, true, false, _&&_, _||_}
 use mathlib.Core.List.{List, [], _∷_, _++_, map, map-id}
 use mathlib.Core.Logic.{⊎-elim}
+use mathlib.Core.Option.{Option}
 use Prim.Native.Nat.{ℕ, _+_, _≤_, _<_}
 use native.Mathlib.Omega.{arith}
 use lib.ListN.{length, take, drop, getD, length-append, List·getD-append}
@@ -11,7 +12,7 @@ use lib.Dec.{ltb, leb, eqb}
 use borrow.Author.Tests.{ltb-true, ltb-false, leb-true, eqb-false, lt-ltb, le-ltb, lt-leb, ne-eqb}
 use Rattle.wire.specs.If.{if_then_else_}
 use Rattle.wire.specs.Sections.{totalOf, Unfinished}
-use Rattle.packet.specs.Ruling.{Before, follows, Carried}
+use Rattle.packet.specs.Ruling.{joins, Carried}
 use Rattle.collector.specs.Rules.{Kind, Fate, pointer, broken, filler, done, in-hand, Story, sameFate, handOf, given, brokenOff, finished, holding, kindOf, Mode, begin, inside, outside, filling, Next, Size, going, whole, too-long, sizeOf, plain, begun, grown, resumed, joined, byteIn, stretch, goesOn, sectionsIn, payload, storyAfter}
 use Rattle.collector.specs.Refusals.{isNone, counterPast, heldUnfit, cannotStand}
 use Rattle.collector.specs.declared.Record.{Record}
@@ -145,11 +146,11 @@ module _ (comes : List ℕ → Kind) where
   stands-joined true s x = x
   stands-joined false s x = subst Standing (sym (settled-hand (done broken) refl (s .marks))) standing-none
 
-  pub stands-taken : (before : Before) (h : List ℕ) (q : Carried ℕ) → Standing h
-      → Standing (handOf (storyAfter comes plain before (holding h) q))
-  stands-taken before h q x =
-      stands-payload (q .start) (joined (follows before (q .counter)) (holding h)) (q .bytes)
-      (stands-joined (follows before (q .counter)) (holding h) (subst Standing (sym (bytesOf-marked in-hand in-hand h)) x))
+  pub stands-taken : (last : Option ℕ) (h : List ℕ) (q : Carried ℕ) → Standing h
+      → Standing (handOf (storyAfter comes plain last (holding h) q))
+  stands-taken last h q x =
+      stands-payload (q .start) (joined (joins last (q .spliced) (q .counter)) (holding h)) (q .bytes)
+      (stands-joined (joins last (q .spliced) (q .counter)) (holding h) (subst Standing (sym (bytesOf-marked in-hand in-hand h)) x))
 
 -- ---- the record
 

@@ -4,6 +4,8 @@ pub mod LeftInHand
 pub mod Agrees
 pub mod NoSpan
 pub mod FaresByTable
+pub mod Marks
+pub mod Splices
 pub mod Demand1
 pub mod Demand3
 pub mod WrongCollectors

@@ -1,46 +1,62 @@
--- No section that comes whole spans a break in the counter, whatever it comes to: what is in hand is joined, packet by
--- packet without a break, to the packet that comes next, and a break takes it.
+-- No section that comes whole spans a break in the counter or a mark, whatever it comes to: what is in hand is joined,
+-- packet by packet, to the packet that comes next, and a packet that is not joined to the one before takes it.
 use mathlib.Core.Path.{_≡_, refl, sym, ap, _∙_, subst}
-use mathlib.Core.Bool.{Bool, true, false}
+use mathlib.Core.Bool.{Bool, true, false, not, _&&_}
 use mathlib.Core.List.{List, [], _∷_, _++_, append-assoc, map, map-append}
 use mathlib.Core.Logic.{⊎-elim}
 use mathlib.Core.Option.{Option, some}
-use Prim.Native.Nat.{ℕ, suc, _+_, _≤_, _<_}
+use Prim.Native.Nat.{ℕ, zero, suc, _+_, _≤_, _<_}
 use native.Mathlib.Omega.{arith}
 use lib.ListN.{length, getD, length-append}
 use lib.Seq.{getD-at}
-use borrow.Author.Tests.{eqb-true}
+use borrow.Author.Tests.{ne-eqb}
 use Rattle.wire.specs.If.{if_then_else_}
 use Rattle.wire.specs.Each.{Each}
-use Rattle.packet.specs.Ruling.{Before, nextTo, follows, Carried}
+use Rattle.wire.proofs.IfLaws.{true-not-false}
+use Rattle.packet.specs.Ruling.{joins, Carried}
 use Rattle.collector.specs.Rules.{Kind, Fate, pointer, broken, done, in-hand, Story, sameFate, handOf, given, settled, joined}
 use Rattle.collector.proofs.MarkLaws.{bytesOf-more, settled-hand}
 use Rattle.collector.proofs.ByteRuns.{lt-or-ge}
 use Rattle.wire.proofs.EachLaws.{each-append, each-map}
 use Rattle.collector.proofs.Invariants.{Keeps, keep-payload}
-use Rattle.history.specs.History.{Byte, valueOf, numbered, History, unbegun, historyAfter, historyFrom, historyOf, counterAt, BreakAfter, Spans, Unbroken}
+use Rattle.history.specs.History.{Byte, valueOf, numbered, History, unbegun, historyAfter, historyFrom, historyOf, counterAt, BreakAfter, Spans, Unbroken, Unmarked}
+
+-- is packet number k behind a mark; beyond the packets that came, it counts as behind one
+abbrev pub splicedAt : List (Carried ℕ) → ℕ → Bool
+splicedAt qs k = getD (map (λ q. q .spliced) qs) k true
+
+-- packet number k + 1 is not joined to the one before it
+abbrev Apart : List (Carried ℕ) → ℕ → Type 0
+Apart qs k = joins (some (counterAt qs k)) (splicedAt qs (k + 1)) (counterAt qs (k + 1)) ≡ false
+
+-- two bytes with no such packet between them
+abbrev Joined : List (Carried ℕ) → Byte → Byte → Type 0
+Joined qs x y = (k : ℕ) → x .packet ≤ k → k < y .packet → Apart qs k → ⊥
+
+abbrev pub Whole : List (Carried ℕ) → List Byte → Type 0
+Whole qs section = Each (λ x. Each (Joined qs x) section) section
 
 module _ (comes : List ℕ → Kind) (qs : List (Carried ℕ)) where
-  -- a byte of one of the first n packets, from which no break leads to the last of them
+  -- a byte of one of the first n packets, joined to the last of them
   record Linked (n : ℕ) (x : Byte) : Type 0 where
     within : x .packet < n
-    unbroken : (k : ℕ) → x .packet ≤ k → k + 1 < n → BreakAfter qs k → ⊥
+    on : (k : ℕ) → x .packet ≤ k → k + 1 < n → Apart qs k → ⊥
 
-  -- bytes that are all linked to one packet span no break
-  linked-pair : (n : ℕ) (x y : Byte) → Linked n x → Linked n y → Spans qs x y → ⊥
-  linked-pair n x y a b w = a .unbroken (w .at) (w .before) (omega (arith, w .behind, b .within)) (w .broken)
+  -- bytes that are all linked to one packet are joined to each other
+  linked-pair : (n : ℕ) (x y : Byte) → Linked n x → Linked n y → Joined qs x y
+  linked-pair n x y a b k v w = a .on k v (omega (arith, w, b .within))
 
-  linked-with : (n : ℕ) (x : Byte) (l : List Byte) → Linked n x → Each (Linked n) l → Each (λ y. Spans qs x y → ⊥) l
-  linked-with n x l a b = each-map (Linked n) (λ y. Spans qs x y → ⊥) (λ y c. linked-pair n x y a c) l b
+  linked-with : (n : ℕ) (x : Byte) (l : List Byte) → Linked n x → Each (Linked n) l → Each (Joined qs x) l
+  linked-with n x l a b = each-map (Linked n) (Joined qs x) (λ y c. linked-pair n x y a c) l b
 
-  linked-section : (n : ℕ) (l : List Byte) → Each (Linked n) l → Unbroken qs l
-  linked-section n l a = each-map (Linked n) (λ x. Each (λ y. Spans qs x y → ⊥) l) (λ x b. linked-with n x l b a) l a
+  linked-section : (n : ℕ) (l : List Byte) → Each (Linked n) l → Whole qs l
+  linked-section n l a = each-map (Linked n) (λ x. Each (Joined qs x) l) (λ x b. linked-with n x l b a) l a
 
   -- ---- within one packet
 
   record Linking (n : ℕ) (l : List Byte) (s : Story Byte) : Type 0 where
     hand : Each (Linked n) (handOf s)
-    sections : Each (Unbroken qs) (s .sections)
+    sections : Each (Whole qs) (s .sections)
 
   each-if : (n : ℕ) (t : Bool) (b : Byte) → Linked n b → Each (Linked n) (if t then b ∷ [] else [])
   each-if n true b r = (r, tt)
@@ -67,7 +83,7 @@ module _ (comes : List ℕ → Kind) (qs : List (Carried ℕ)) where
         let y = linking-given n in-hand b l s r x in
         record {
           hand = no-hand n (done (comes (map valueOf (handOf s ++ (b ∷ []))))) refl (given in-hand b s);
-          sections = each-append (Unbroken qs) (s .sections) (handOf (given in-hand b s) ∷ []) (x .sections)
+          sections = each-append (Whole qs) (s .sections) (handOf (given in-hand b s) ∷ []) (x .sections)
               (linked-section n (handOf (given in-hand b s)) (y .hand), tt);
         };
     breaks = λ l s x. record { hand = no-hand n (done broken) refl s; sections = x .sections };
@@ -77,34 +93,39 @@ module _ (comes : List ℕ → Kind) (qs : List (Carried ℕ)) where
 
   -- the last counter is that of the last packet
   abbrev LastIs : History → Type 0
-  LastIs h = (m : ℕ) → h .packets ≡ m + 1 → h .before .last ≡ some (counterAt qs m)
+  LastIs h = (m : ℕ) → h .packets ≡ m + 1 → h .last ≡ some (counterAt qs m)
 
-  -- a counter that follows the last one is no break
-  follows-on : (before : Before) (m c : ℕ) → before .last ≡ some (counterAt qs m) → c ≡ counterAt qs (m + 1)
-      → follows before c ≡ true → BreakAfter qs m → ⊥
-  unfolding follows
-  follows-on before m c l e f b =
-      let g : nextTo (some (counterAt qs m)) c ≡ true = ap (λ (z : Option ℕ). nextTo z c) (sym l) ∙ f in
-      b .break (sym e ∙ eqb-true c _ g)
+  -- the packet that comes next
+  record Here (n : ℕ) (q : Carried ℕ) : Type 0 where
+    counter : q .counter ≡ counterAt qs n
+    spliced : q .spliced ≡ splicedAt qs n
 
-  linked-on : (h : History) (c : ℕ) → LastIs h → c ≡ counterAt qs (h .packets) → follows (h .before) c ≡ true → (x : Byte)
+  -- one that is joined is not apart
+  joined-on : (last : Option ℕ) (m : ℕ) (q : Carried ℕ) → last ≡ some (counterAt qs m) → Here (m + 1) q
+      → joins last (q .spliced) (q .counter) ≡ true → Apart qs m → ⊥
+  joined-on last m q l e f b =
+      true-not-false (sym f ∙ (λ i. joins (l i) (e .spliced i) (e .counter i)) ∙ b)
+
+  linked-on : (h : History) (q : Carried ℕ) → LastIs h → Here (h .packets) q
+      → joins (h .last) (q .spliced) (q .counter) ≡ true → (x : Byte)
       → Linked (h .packets) x → Linked (h .packets + 1) x
-  linked-on h c l e f x a = record {
+  linked-on h q l e f x a = record {
     within = omega (arith, a .within);
-    unbroken = λ k w v b. ⊎-elim (λ u. a .unbroken k w u b)
+    on = λ k w v b. ⊎-elim (λ u. a .on k w u b)
         (λ u.
         let at : h .packets ≡ k + 1 = omega arith in
-        follows-on (h .before) k c (l k at) (e ∙ ap (counterAt qs) at) f b) (lt-or-ge (k + 1) (h .packets));
+        joined-on (h .last) k q (l k at) (subst (λ (n : ℕ). Here n q) at e) f b) (lt-or-ge (k + 1) (h .packets));
   }
 
-  linked-joined : (t : Bool) (h : History) (c : ℕ) (l : List Byte) → LastIs h → c ≡ counterAt qs (h .packets)
-      → follows (h .before) c ≡ t → Linking (h .packets) l (h .story) → Linking (h .packets + 1) l (joined t (h .story))
-  linked-joined true h c l k e f x = record {
+  linked-joined : (t : Bool) (h : History) (q : Carried ℕ) (l : List Byte) → LastIs h → Here (h .packets) q
+      → joins (h .last) (q .spliced) (q .counter) ≡ t
+      → Linking (h .packets) l (h .story) → Linking (h .packets + 1) l (joined t (h .story))
+  linked-joined true h q l k e f x = record {
     hand = each-map (Linked (h .packets)) (Linked (h .packets + 1))
-        (linked-on h c k e f) (handOf (h .story)) (x .hand);
+        (linked-on h q k e f) (handOf (h .story)) (x .hand);
     sections = x .sections;
   }
-  linked-joined false h c l k e f x = record {
+  linked-joined false h q l k e f x = record {
     hand = no-hand (h .packets + 1) (done broken) refl (h .story);
     sections = x .sections;
   }
@@ -112,48 +133,102 @@ module _ (comes : List ℕ → Kind) (qs : List (Carried ℕ)) where
   -- the packet's own bytes
   linked-new : (n : ℕ) (bs : List ℕ) → Each (Linked (n + 1)) (numbered n bs)
   linked-new n [] = tt
-  linked-new n (b ∷ bs) = (record { within = omega arith; unbroken = λ k w v c. omega arith }, linked-new n bs)
+  linked-new n (b ∷ bs) = (record { within = omega arith; on = λ k w v c. omega arith }, linked-new n bs)
 
-  linked-after : (h : History) (q : Carried ℕ) (l : List Byte) → LastIs h → q .counter ≡ counterAt qs (h .packets)
+  linked-after : (h : History) (q : Carried ℕ) (l : List Byte) → LastIs h → Here (h .packets) q
       → Linking (h .packets) l (h .story)
       → Linking (h .packets + 1) (l ++ numbered (h .packets) (q .bytes)) (historyAfter comes h q .story)
   linked-after h q l k e x =
+      let t = joins (h .last) (q .spliced) (q .counter) in
       keep-payload comes valueOf (Linked (h .packets + 1)) (Linking (h .packets + 1)) (keeps-linking (h .packets + 1))
       (λ b m s r y. linking-given (h .packets + 1) (done pointer) b m s r y) (q .start) l
-      (joined (follows (h .before) (q .counter)) (h .story)) (numbered (h .packets) (q .bytes))
-      (linked-new (h .packets) (q .bytes))
-      (linked-joined (follows (h .before) (q .counter)) h (q .counter) l k e refl x)
+      (joined t (h .story)) (numbered (h .packets) (q .bytes))
+      (linked-new (h .packets) (q .bytes)) (linked-joined t h q l k e refl x)
 
-  last-after : (h : History) (q : Carried ℕ) → q .counter ≡ counterAt qs (h .packets) → LastIs (historyAfter comes h q)
+  last-after : (h : History) (q : Carried ℕ) → Here (h .packets) q → LastIs (historyAfter comes h q)
   last-after h q e m w =
       let same : h .packets ≡ m = omega arith in
-      ap some (e ∙ ap (counterAt qs) same)
+      ap some (e .counter ∙ ap (counterAt qs) same)
 
 -- the packet after some packets
-counter-here : (before : List (Carried ℕ)) (q : Carried ℕ) (rest : List (Carried ℕ))
-    → counterAt (before ++ (q ∷ rest)) (length before) ≡ q .counter
-counter-here before q rest =
-    ap (λ (l : List ℕ). getD l (length before) 0) (map-append (λ p. p .counter) before (q ∷ rest))
-    ∙ getD-at (map (λ p. p .counter) before) (q .counter) (map (λ p. p .counter) rest) 0 (length before) (long before)
+pub at-here : {B : Type 0} (f : Carried ℕ → B) (d : B) (before : List (Carried ℕ)) (q : Carried ℕ) (rest : List (Carried ℕ))
+    → getD (map f (before ++ (q ∷ rest))) (length before) d ≡ f q
+at-here f d before q rest =
+    ap (λ l. getD l (length before) d) (map-append f before (q ∷ rest))
+    ∙ getD-at (map f before) (f q) (map f rest) d (length before) (long before)
   where
-    long : (l : List (Carried ℕ)) → length (map (λ p. p .counter) l) ≡ length l
+    long : (l : List (Carried ℕ)) → length (map f l) ≡ length l
     long [] = refl
     long (p ∷ l) = ap suc (long l)
 
 linked-run : (comes : List ℕ → Kind) (qs before rest : List (Carried ℕ)) (h : History) (l : List Byte) → qs ≡ before ++ rest
     → h .packets ≡ length before → LastIs comes qs h → Linking comes qs (h .packets) l (h .story)
-    → Each (Unbroken qs) (historyFrom comes h rest .story .sections)
+    → Each (Whole qs) (historyFrom comes h rest .story .sections)
 linked-run comes qs before [] h l e n k x = x .sections
 linked-run comes qs before (q ∷ rest) h l e n k x =
-    let here : q .counter ≡ counterAt qs (h .packets) =
-    sym (counter-here before q rest)
-    ∙ ap (λ (z : List (Carried ℕ)). counterAt z (length before)) (sym e)
-    ∙ ap (counterAt qs) (sym n) in
+    let here : Here comes qs (h .packets) q =
+    subst (λ (m : ℕ). Here comes qs m q) (sym n)
+    (subst (λ (z : List (Carried ℕ)). Here comes z (length before) q) (sym e)
+    (record {
+      counter = sym (at-here (λ p. p .counter) 0 before q rest);
+      spliced = sym (at-here (λ p. p .spliced) true before q rest);
+    })) in
     linked-run comes qs (before ++ (q ∷ [])) rest (historyAfter comes h q) (l ++ numbered (h .packets) (q .bytes))
     (e ∙ sym (append-assoc before (q ∷ []) rest)) (omega (arith, n, length-append before (q ∷ [])))
     (last-after comes qs h q here) (linked-after comes qs h q l k here x)
 
--- whatever the packets, no section that comes whole spans a break
+-- whatever the packets, no section that comes whole has bytes of packets that are not joined
+pub sections-whole : (comes : List ℕ → Kind) (qs : List (Carried ℕ)) → Each (Whole qs) (historyOf comes qs .story .sections)
+sections-whole comes qs =
+    linked-run comes qs [] qs unbegun [] refl refl (λ m e. absurd (omega arith)) (record { hand = tt; sections = tt })
+
+-- ---- so it spans no break
+
+break-apart : (qs : List (Carried ℕ)) (k : ℕ) → BreakAfter qs k → Apart qs k
+unfolding joins
+break-apart qs k b =
+    ap (λ (t : Bool). not (splicedAt qs (k + 1)) && t) (ne-eqb _ _ (b .break)) ∙ and-none (not (splicedAt qs (k + 1)))
+  where
+    and-none : (t : Bool) → (t && false) ≡ false
+    and-none true = refl
+    and-none false = refl
+
+whole-unbroken : (qs : List (Carried ℕ)) (l : List Byte) → Whole qs l → Unbroken qs l
+whole-unbroken qs l =
+    each-map (λ x. Each (Joined qs x) l) (λ x. Each (λ y. Spans qs x y → ⊥) l)
+    (λ x. each-map (Joined qs x) (λ y. Spans qs x y → ⊥)
+    (λ y j w. j (w .at) (w .before) (w .behind) (break-apart qs (w .at) (w .broken))) l) l
+
 pub sections-unbroken : (comes : List ℕ → Kind) (qs : List (Carried ℕ)) → Each (Unbroken qs) (historyOf comes qs .story .sections)
 sections-unbroken comes qs =
-    linked-run comes qs [] qs unbegun [] refl refl (λ m e. absurd (omega arith)) (record { hand = tt; sections = tt })
+    each-map (Whole qs) (Unbroken qs) (whole-unbroken qs) (historyOf comes qs .story .sections) (sections-whole comes qs)
+
+-- ---- nor a mark
+
+splice-apart : (qs : List (Carried ℕ)) (k : ℕ) → splicedAt qs (k + 1) ≡ true → Apart qs k
+unfolding joins
+splice-apart qs k e = rw (e)
+
+spliced-pair : (qs : List (Carried ℕ)) (k : ℕ) (x y : Byte) → splicedAt qs k ≡ true → Joined qs x y
+    → x .packet < k → k ≤ y .packet → ⊥
+spliced-pair qs zero x y e j a b = omega arith
+spliced-pair qs (suc k) x y e j a b =
+    j k (omega arith) (omega arith) (splice-apart qs k (ap (splicedAt qs) at ∙ e))
+  where
+    at : k + 1 ≡ suc k
+    at = omega arith
+
+-- of packets that are behind a mark
+whole-unmarked : (qs : List (Carried ℕ)) (splices : List ℕ) → Each (λ k. splicedAt qs k ≡ true) splices → (l : List Byte)
+    → Whole qs l → Unmarked splices l
+whole-unmarked qs splices e l w =
+    each-map (λ k. splicedAt qs k ≡ true) (λ k. Each (λ x. Each (λ y. x .packet < k → k ≤ y .packet → ⊥) l) l)
+    (λ k s. each-map (λ x. Each (Joined qs x) l) (λ x. Each (λ y. x .packet < k → k ≤ y .packet → ⊥) l)
+    (λ x. each-map (Joined qs x) (λ y. x .packet < k → k ≤ y .packet → ⊥) (λ y j. spliced-pair qs k x y s j) l) l w)
+    splices e
+
+pub sections-unmarked : (comes : List ℕ → Kind) (qs : List (Carried ℕ)) (splices : List ℕ)
+    → Each (λ k. splicedAt qs k ≡ true) splices → Each (Unmarked splices) (historyOf comes qs .story .sections)
+sections-unmarked comes qs splices e =
+    each-map (Whole qs) (Unmarked splices) (whole-unmarked qs splices e) (historyOf comes qs .story .sections)
+    (sections-whole comes qs)

@@ -2,7 +2,7 @@
 use mathlib.Core.Path.{refl}
 use mathlib.Core.List.{List, flatten}
 use Prim.Native.Nat.{ℕ}
-use Rattle.packet.specs.Ruling.{follows, Carried}
+use Rattle.packet.specs.Ruling.{joins, Carried}
 use Rattle.collector.specs.Rules.{delivered, sizeOf}
 use Rattle.collector.proofs.StoryLaws.{counts-in, delivered-by-end}
 use Rattle.history.specs.History.{valueOf, payloadsFrom}
@@ -11,7 +11,7 @@ use Rattle.history.proofs.NoSpan.{sections-unbroken}
 use Rattle.history.proofs.Demand3.{kept-history}
 
 pub both-kinds : BothKinds
-unfolding sizeOf follows flatten
+unfolding sizeOf joins flatten
 both-kinds = record { fates = refl; even = refl }
 
 pub still-holds : (qs : List (Carried ℕ)) → StillHolds qs

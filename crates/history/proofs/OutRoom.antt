@@ -2,13 +2,14 @@
 use mathlib.Core.Path.{_≡_, refl, sym, ap, _∙_, subst}
 use mathlib.Core.Bool.{Bool, true, false}
 use mathlib.Core.List.{List, [], _∷_, _++_, append-nil, map, map-id, flatten}
+use mathlib.Core.Option.{Option}
 use Prim.Native.Nat.{ℕ, _≤_, _<_}
 use native.Mathlib.Omega.{arith}
 use lib.ListN.{length, take, drop, replicate, length-append, length-take, length-drop}
 use lib.Dec.{eqb}
 use Rattle.wire.specs.If.{if_then_else_}
 use Rattle.wire.specs.Each.{Each}
-use Rattle.packet.specs.Ruling.{Before, follows, Carried, repeats, repeated, takes, loadOf, ruledBy}
+use Rattle.packet.specs.Ruling.{markWith, joins, Carried, repeats, repeated, takes, loadOf, ruledBy}
 use Rattle.wire.specs.Sections.{WholeSection}
 use Rattle.collector.specs.Rules.{pointer, broken, done, in-hand, Story, bytesOf, sameKind, countOf, handOf, marked, given, brokenOff, finished, holding, Mode, begin, inside, outside, filling, Next, Size, going, whole, too-long, sizeOf, plain, begun, grown, resumed, joined, byteIn, stretch, goesOn, sectionsIn, payload, storyAfter, delivered, Kind, delivers}
 use Rattle.packet.specs.Refusals.{Judged, refuse, has-payload, judged}
@@ -109,25 +110,25 @@ whole-most (s ∷ z ∷ secs) k x = absurd (omega arith)
 
 -- ---- a packet, at today's value: what is handed out is every byte of the whole sections
 
-most-in : (before : Before) (h : List ℕ) (q : Carried ℕ) (start : Bool) (bs : List ℕ) → q .start ≡ start → q .bytes ≡ bs
+most-in : (last : Option ℕ) (h : List ℕ) (q : Carried ℕ) (start : Bool) (bs : List ℕ) → q .start ≡ start → q .bytes ≡ bs
     → length h ≤ 4095 → 0 < length bs → length bs ≤ 184
-    → length (flatten (storyAfter delivers plain before (holding h) q .sections)) ≤ 4278
-most-in before h q false bs e w few some long =
-    let one : length (storyAfter delivers plain before (holding h) q .sections) ≤ 1 =
+    → length (flatten (storyAfter delivers plain last (holding h) q .sections)) ≤ 4278
+most-in last h q false bs e w few some long =
+    let one : length (storyAfter delivers plain last (holding h) q .sections) ≤ 1 =
     rw e
-    (one-goes delivers (joined (follows before (q .counter)) (holding h)) (q .bytes)
-    (none-yet (follows before (q .counter)) h)) in
-    omega (arith, whole-most (storyAfter delivers plain before (holding h) q .sections) one (whole-taken delivers before h q))
-most-in before h q true [] e w few some long = absurd (omega arith)
-most-in before h q true (p ∷ bs) e w few some long =
-    let s : Story ℕ = storyAfter delivers plain before (holding h) q in
+    (one-goes delivers (joined (joins last (q .spliced) (q .counter)) (holding h)) (q .bytes)
+    (none-yet (joins last (q .spliced) (q .counter)) h)) in
+    omega (arith, whole-most (storyAfter delivers plain last (holding h) q .sections) one (whole-taken delivers last h q))
+most-in last h q true [] e w few some long = absurd (omega arith)
+most-in last h q true (p ∷ bs) e w few some long =
+    let s : Story ℕ = storyAfter delivers plain last (holding h) q in
     let kept = keep-taken delivers plain Any (Kept delivers plain) (keeps-kept delivers plain)
-    (points-kept delivers plain) before h (holding h) q
+    (points-kept delivers plain) last h (holding h) q
     (any (q .bytes)) (kept-holding delivers plain h) in
     let point : countOf (done pointer) (s .marks) ≡ 1 =
     rw (e, w)
-    (one-pointer delivers (λ l. refl) (joined (follows before (q .counter)) (holding h)) p bs
-    (no-pointer (follows before (q .counter)) h)) in
+    (one-pointer delivers (λ l. refl) (joined (joins last (q .spliced) (q .counter)) (holding h)) p bs
+    (no-pointer (joins last (q .spliced) (q .counter)) h)) in
     omega (
       arith,
       counts-in delivers plain (h ++ q .bytes) s kept,
@@ -138,7 +139,7 @@ most-in before h q true (p ∷ bs) e w few some long =
     )
 
 most-ruled : (r : Record) (hold out : List ℕ) (q : Carried ℕ) (t : Bool)
-    → length (flatten (storyAfter delivers plain (beforeOf r) (holding (take (r .in_hand) hold)) q .sections)) ≤ 4278
+    → length (flatten (storyAfter delivers plain (beforeOf r .last) (holding (take (r .in_hand) hold)) q .sections)) ≤ 4278
     → toldBy (outcomeOf r hold out (if t then repeated else takes q) .said) ≤ 4278
 most-ruled r hold out q true x = omega arith
 most-ruled r hold out q false x = subst (λ (l : List (List ℕ)). length (flatten l) ≤ 4278) (sym (all-delivered plain _)) x
@@ -147,13 +148,13 @@ most-judged : (r : Record) (hold out packet : List ℕ) (j : Judged)
     → judged (tooSmall (length hold) (length out)) (cannotStand r hold) (r .pid) packet ≡ j
     → toldBy (outcomeOf r hold out (ruledBy (beforeOf r) packet j) .said) ≤ 4278
 most-judged r hold out packet (refuse n) e = omega arith
-most-judged r hold out packet Refusals.bare e = omega arith
-most-judged r hold out packet (has-payload from start counter) e =
-    let fit = fit-of r hold out packet from start counter e in
-    let q : Carried ℕ = loadOf packet from start counter in
+most-judged r hold out packet (Refusals.bare splice) e = omega arith
+most-judged r hold out packet (has-payload from start counter splice) e =
+    let fit = fit-of r hold out packet from start counter splice e in
+    let q : Carried ℕ = loadOf (markWith (beforeOf r) splice) packet from start counter in
     let long : length (drop from packet) ≡ _ = length-drop from packet in
-    most-ruled r hold out q (repeats (beforeOf r) counter)
-    (most-in (beforeOf r) (take (r .in_hand) hold) q start (drop from packet) refl refl
+    most-ruled r hold out q (repeats (beforeOf r .last) (q .spliced) counter)
+    (most-in (beforeOf r .last) (take (r .in_hand) hold) q start (drop from packet) refl refl
     (omega (arith, length-take (r .in_hand) hold, fit .few)) (omega (arith, long, fit .from-within))
     (omega (arith, long, fit .from-past, fit .long)))
 
@@ -240,5 +241,5 @@ all-told =
     ∙ both-long _ _ held-long follows-it
 
 pub reached : Reaches 4278
-unfolding judged cannotStand follows repeats held behind
+unfolding judged cannotStand joins repeats held behind
 reached = ap (λ (l : List (List ℕ)). length (flatten l)) (all-delivered plain _) ∙ all-told

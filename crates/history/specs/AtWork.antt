@@ -1,6 +1,7 @@
 -- The collector at work: packets one after another, what is answered to each, and the record that they leave. That each
 -- story goes so is computed.
 use mathlib.Core.Path.{_≡_}
+use mathlib.Core.Bool.{Bool, true, false}
 use mathlib.Core.List.{List, [], _∷_, _++_, map, flatten}
 use Prim.Native.Nat.{ℕ, _+_, _-_}
 use lib.ListN.{length, replicate}
@@ -73,10 +74,10 @@ toldOf s = record { answers = map (λ t. t .answer) (s .steps); bytes = map (λ 
 
 -- ---- records and packets of PID 20
 
--- a record by its PID, last counter, bytes in hand, and the bytes of pointer, delivered, broken, filler and skipped:
--- field by field, so that a counter that stands under the name of another is seen
-abbrev pub recordOf : ℕ → Last → ℕ → ℕ → ℕ → ℕ → ℕ → ℕ → Record
-recordOf pid last in-hand pointer delivered broken filler skipped = record {
+-- a record by its PID, last counter, bytes in hand, the bytes of pointer, delivered, broken, filler and skipped, and its
+-- mark: field by field, so that a counter that stands under the name of another is seen
+abbrev pub markedOf : Bool → ℕ → Last → ℕ → ℕ → ℕ → ℕ → ℕ → ℕ → Record
+markedOf mark pid last in-hand pointer delivered broken filler skipped = record {
   pid = pid;
   last = last;
   in_hand = in-hand;
@@ -85,9 +86,15 @@ recordOf pid last in-hand pointer delivered broken filler skipped = record {
   broken = broken;
   filler = filler;
   skipped = skipped;
+  mark = mark;
 }
 
--- with this payload behind an adaptation field that fills the rest; with the start flag, and without it
+-- one without a mark
+abbrev pub recordOf : ℕ → Last → ℕ → ℕ → ℕ → ℕ → ℕ → ℕ → Record
+recordOf pid last in-hand pointer delivered broken filler skipped =
+    markedOf false pid last in-hand pointer delivered broken filler skipped
+
+-- with this payload behind an adaptation field that fills the rest, no bit of it set; with the start flag, and without it
 abbrev pub packetOf : ℕ → ℕ → List ℕ → List ℕ
 packetOf flags counter payload =
     0x47 ∷ flags ∷ 0x14 ∷ (0x30 + counter) ∷ (183 - length payload) ∷ replicate (183 - length payload) 0 ++ payload
@@ -98,6 +105,11 @@ starts counter payload = packetOf 0x40 counter payload
 abbrev pub goesOn : ℕ → List ℕ → List ℕ
 goesOn counter payload = packetOf 0x00 counter payload
 
+-- without the start flag, with discontinuity_indicator
+abbrev pub spliced : ℕ → List ℕ → List ℕ
+spliced counter payload =
+    0x47 ∷ 0x00 ∷ 0x14 ∷ (0x30 + counter) ∷ (183 - length payload) ∷ 0x80 ∷ replicate (182 - length payload) 0 ++ payload
+
 -- document 01's section, a TDT
 abbrev pub tdt : List ℕ
 tdt = 0x70 ∷ 0x70 ∷ 0x05 ∷ 0xC0 ∷ 0x79 ∷ 0x12 ∷ 0x45 ∷ 0x00 ∷ []
@@ -105,6 +117,10 @@ tdt = 0x70 ∷ 0x70 ∷ 0x05 ∷ 0xC0 ∷ 0x79 ∷ 0x12 ∷ 0x45 ∷ 0x00 ∷ []
 -- a packet by its first bytes, the others 0xFF
 abbrev pub filled : List ℕ → List ℕ
 filled bytes = bytes ++ replicate (188 - length bytes) 0xFF
+
+-- control 10, with these flags in the field's first byte
+abbrev pub bareWith : ℕ → List ℕ
+bareWith flags = filled (0x47 ∷ 0x00 ∷ 0x14 ∷ 0x29 ∷ 183 ∷ flags ∷ [])
 
 abbrev pub fromFresh : ℕ → Record → List Step → Story
 fromFresh pid left steps =
@@ -208,13 +224,14 @@ a-break =
     ∷ goesOn 0 (0xC0 ∷ 0x79 ∷ []) gives taken 0 0
     ∷ [])
 
--- "Control 10: taken, no payload, nothing changes. Else a counter equal to the last: "repeated", nothing changes."
+-- "Control 10: taken, no payload, nothing changes. Else a counter equal to the last: "repeated", nothing changes.", where
+-- no mark is set
 abbrev pub nothing-changes : Story
 nothing-changes =
     fromFresh 20 (recordOf 20 (Counter 5) 3 1 0 0 0 0)
     (starts 4 (0 ∷ 0x70 ∷ 0x70 ∷ []) gives taken 0 0
-    ∷ filled (0x47 ∷ 0x00 ∷ 0x14 ∷ 0x29 ∷ 183 ∷ []) gives taken 0 0
-    ∷ filled (0x47 ∷ 0x00 ∷ 0x14 ∷ 0x24 ∷ 183 ∷ []) gives taken 0 0
+    ∷ filled (0x47 ∷ 0x00 ∷ 0x14 ∷ 0x29 ∷ 183 ∷ 0x7F ∷ []) gives taken 0 0
+    ∷ filled (0x47 ∷ 0x00 ∷ 0x14 ∷ 0x24 ∷ 183 ∷ 0x00 ∷ []) gives taken 0 0
     ∷ goesOn 4 (0x05 ∷ []) gives repeated
     ∷ goesOn 5 (0x05 ∷ []) gives taken 0 0
     ∷ [])
@@ -263,6 +280,91 @@ counters-run-round = record {
   left = recordOf 20 (Counter 5) 0 0 0 0 0 0;
 }
 
+-- ---- splices: request (ix)
+
+-- the two packets of a section
+abbrev pub first-part : List ℕ
+first-part = starts 0 (0 ∷ 0x70 ∷ 0x70 ∷ 0x05 ∷ 0xC0 ∷ [])
+
+abbrev pub second-part : List ℕ
+second-part = 0x79 ∷ 0x12 ∷ 0x45 ∷ 0x00 ∷ []
+
+-- between them a packet without payload, with every flag but discontinuity_indicator: it is delivered
+abbrev pub no-splice-between : Story
+no-splice-between =
+    fromFresh 20 (recordOf 20 (Counter 1) 0 1 8 0 0 0)
+    (first-part gives taken 0 0
+    ∷ bareWith 0x7F gives taken 0 0
+    ∷ goesOn 1 second-part hands (tdt ∷ [])
+    ∷ [])
+
+-- with that bit: nothing is delivered, and the first bytes are broken off
+abbrev pub a-splice-between : Story
+a-splice-between =
+    fromFresh 20 (recordOf 20 (Counter 1) 0 1 0 4 0 4)
+    (first-part gives taken 0 0
+    ∷ bareWith 0x80 gives taken 0 0
+    ∷ goesOn 1 second-part gives taken 0 0
+    ∷ [])
+
+-- "sometimes the counter matches": the second packet again is repeated, and with the bit it is taken, each time it comes
+abbrev pub an-equal-counter : Story
+an-equal-counter =
+    fromFresh 20 (recordOf 20 (Counter 1) 0 1 8 0 0 8)
+    (first-part gives taken 0 0
+    ∷ goesOn 1 second-part hands (tdt ∷ [])
+    ∷ goesOn 1 second-part gives repeated
+    ∷ spliced 1 second-part gives taken 0 0
+    ∷ spliced 1 second-part gives taken 0 0
+    ∷ goesOn 1 second-part gives repeated
+    ∷ [])
+
+-- "the marked one itself if it has any .. breaks off what is in hand", though its counter follows; behind it the mark is clear
+abbrev pub its-own-bit : Story
+its-own-bit =
+    fromFresh 20 (recordOf 20 (Counter 3) 0 2 8 4 0 4)
+    (first-part gives taken 0 0
+    ∷ spliced 1 second-part gives taken 0 0
+    ∷ starts 2 (0 ∷ 0x70 ∷ 0x70 ∷ 0x05 ∷ 0xC0 ∷ []) gives taken 0 0
+    ∷ goesOn 3 second-part hands (tdt ∷ [])
+    ∷ [])
+
+-- the mark stands until a packet with payload is taken: over a refused packet, and over one without payload and without
+-- the bit; with no counter, and with bytes in hand
+abbrev pub the-mark-stands : Story
+the-mark-stands =
+    fromFresh 20 (markedOf true 20 (Counter 5) 4 1 0 0 0 0)
+    (bareWith 0x80 gives taken 0 0
+    ∷ starts 5 (0 ∷ 0x70 ∷ 0x70 ∷ 0x05 ∷ 0xC0 ∷ []) gives taken 0 0
+    ∷ bareWith 0xC0 gives taken 0 0
+    ∷ filled (0x46 ∷ []) gives refusedWith 44
+    ∷ bareWith 0x00 gives taken 0 0
+    ∷ [])
+
+-- a refused packet sets nothing, whatever its bits
+abbrev pub refused-sets-nothing : Story
+refused-sets-nothing =
+    fromFresh 20 (recordOf 20 None 0 0 0 0 0 0)
+    (filled (0x47 ∷ 0x00 ∷ 0x14 ∷ 0xA0 ∷ 183 ∷ 0x80 ∷ []) gives refusedWith 47
+    ∷ filled (0x47 ∷ 0x00 ∷ 0x14 ∷ 0x20 ∷ 182 ∷ 0x80 ∷ []) gives refusedWith 48
+    ∷ starts 0 (0x80 ∷ []) gives refusedWith 49
+    ∷ [])
+
+-- "An adaptation field of at least one byte": none, an empty one, one of one byte without the bit, and with it
+abbrev pub at-least-one-byte : Story
+at-least-one-byte = record {
+  from = recordOf 20 (Counter 1) 0 0 0 0 0 0;
+  hold = hold₀;
+  out = out₀;
+  steps =
+      filled (0x47 ∷ 0x00 ∷ 0x14 ∷ 0x11 ∷ []) gives repeated
+      ∷ filled (0x47 ∷ 0x00 ∷ 0x14 ∷ 0x31 ∷ 0 ∷ []) gives repeated
+      ∷ filled (0x47 ∷ 0x00 ∷ 0x14 ∷ 0x31 ∷ 1 ∷ 0x7F ∷ []) gives repeated
+      ∷ filled (0x47 ∷ 0x00 ∷ 0x14 ∷ 0x31 ∷ 1 ∷ 0x80 ∷ []) gives taken 0 0
+      ∷ [];
+  left = recordOf 20 (Counter 1) 0 0 0 0 0 182;
+}
+
 abbrev pub stories : List Story
 stories =
     the-worked-packet
@@ -292,6 +394,13 @@ stories =
     ∷ section-length-4093
     ∷ section-length-4094
     ∷ counters-run-round
+    ∷ no-splice-between
+    ∷ a-splice-between
+    ∷ an-equal-counter
+    ∷ its-own-bit
+    ∷ the-mark-stands
+    ∷ refused-sets-nothing
+    ∷ at-least-one-byte
     ∷ []
 
 abbrev pub AtWork : Type 0

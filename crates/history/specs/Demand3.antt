@@ -1,5 +1,6 @@
 -- Demand 3, sentence by sentence, as statements about any collector.
 use mathlib.Core.Path.{_≡_}
+use mathlib.Core.Bool.{false}
 use mathlib.Core.Logic.{_↔_}
 use mathlib.Core.List.{List, [], _∷_, map, flatten}
 use Prim.Native.Nat.{ℕ, _%_, _^_, _≤_}
@@ -13,8 +14,8 @@ use Rattle.packet.specs.Refusals.{refusals}
 use Rattle.collector.specs.Answer.{refusedWith}
 use Rattle.collector.specs.Collected.{bytesCounted, freshRecord}
 use Rattle.collector.specs.declared.Record.{Record}
-use Rattle.history.specs.History.{Byte, valueOf, historyOf, payloadsFrom, Unbroken, Among}
-use Rattle.history.specs.Run.{Collector, Call, Run, taken, fareOf, saidTaken, lentOf, rulingOn, beforeAfter, faresFrom, ruledTaken, NotRefused, NotRepeated, handedBy, handed, bytesBy, toldBy}
+use Rattle.history.specs.History.{Byte, valueOf, historyOf, payloadsFrom, Unbroken, Unmarked, Among}
+use Rattle.history.specs.Run.{Collector, Call, Run, taken, fareOf, saidTaken, splicesFrom, lentOf, rulingOn, beforeAfter, faresFrom, ruledTaken, NotRefused, NotRepeated, handedBy, handed, bytesBy, toldBy}
 use Rattle.history.specs.Demand1.{First}
 
 -- "A packet is taken exactly if it is neither refused nor, by document 01's rule, repeated." Each call is held against
@@ -47,7 +48,7 @@ pub record Counted (r : Record) (hold : List ℕ) (s : Story Byte) : Type 0 wher
 -- "every payload byte of the packets taken so far has one fate": there is one mark for each, the delivered ones are the
 -- bytes handed out, and those in hand stand in the hold
 pub record Fated (calls : List Call) (r : Record) (hold : List ℕ) (marks : List (Mark Byte)) : Type 0 where
-  pub one-each : map (λ m. m .byte) marks ≡ payloadsFrom 0 (saidTaken calls)
+  pub one-each : map (λ m. m .byte) marks ≡ payloadsFrom 0 (saidTaken false calls)
   pub handed-are : flatten (handed calls) ≡ map valueOf (bytesOf (done delivered) marks)
   pub held-are : take (r .in_hand) hold ≡ map valueOf (bytesOf in-hand marks)
 
@@ -63,13 +64,14 @@ pub record HandedOut (calls : List Call) (s : Story Byte) : Type 0 where
   pub told-are : Each (λ k. length (flatten (handedBy (k .said) (k .out′))) ≡ toldBy (k .said)) calls
   pub delivered-are : bytesOf (done delivered) (s .marks) ≡ flatten (deliveredIn s)
 
--- "no delivered section spans a break": sections that are made of payload bytes of these packets, each byte once and in
--- order, and no two bytes of one section have a break between them
-pub record MadeUnbroken (qs : List (Carried ℕ)) (sections : List (List ℕ)) : Type 0 where
+-- "no delivered section spans a break .. or a mark": sections that are made of payload bytes of these packets, each byte
+-- once and in order, and no two bytes of one section have a break or a splice between them
+pub record MadeUnbroken (qs : List (Carried ℕ)) (splices : List ℕ) (sections : List (List ℕ)) : Type 0 where
   pub made-of : List (List Byte)
   pub values-are : map (map valueOf) made-of ≡ sections
   pub once-in-order : Among (flatten made-of) (payloadsFrom 0 qs)
   pub unbroken : Each (Unbroken qs) made-of
+  pub unmarked : Each (Unmarked splices) made-of
 
 module _ (C : Collector) where
   -- "Start a fresh collector, feed it any packets, hand record and hold on untouched. .. After each packet, ..": of
@@ -106,11 +108,12 @@ module _ (C : Collector) where
   -- "and with those in hand they make up the payload taken"
   abbrev pub CountersMakeUp : Type 0
   CountersMakeUp = OverRuns (λ pid hold calls r hold′.
-      sumOf (λ f. bytesCounted f r) % 2 ^ 32 ≡ length (payloadsFrom 0 (saidTaken calls)) % 2 ^ 32)
+      sumOf (λ f. bytesCounted f r) % 2 ^ 32 ≡ length (payloadsFrom 0 (saidTaken false calls)) % 2 ^ 32)
 
   abbrev pub DeliveredInOrder : Type 0
   DeliveredInOrder = OverRuns (λ pid hold calls r hold′. HandedOut calls (storyBy pid hold calls))
 
-  -- "no delivered section spans a break in the continuity counter from one taken packet with payload to the next"
+  -- "no delivered section spans a break in the continuity counter from one taken packet with payload to the next, or a
+  -- mark"
   abbrev pub NoSectionSpans : Type 0
-  NoSectionSpans = OverRuns (λ pid hold calls r hold′. MadeUnbroken (saidTaken calls) (handed calls))
+  NoSectionSpans = OverRuns (λ pid hold calls r hold′. MadeUnbroken (saidTaken false calls) (splicesFrom 0 calls) (handed calls))

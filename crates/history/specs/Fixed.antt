@@ -3,21 +3,21 @@
 use mathlib.Core.Path.{_≡_}
 use mathlib.Core.List.{List, map}
 use Prim.Native.Nat.{ℕ}
-use lib.ListN.{drop}
-use Rattle.collector.specs.Rules.{delivers}
+use lib.ListN.{length, drop}
+use Rattle.packet.specs.Ruling.{noneBefore}
 use Rattle.collector.specs.Refusals.{beforeOf}
 use Rattle.collector.specs.Answer.{Outcome}
 use Rattle.collector.specs.Collected.{freshRecord}
 use Rattle.collector.specs.declared.Record.{Record}
-use Rattle.history.specs.History.{historyOf}
-use Rattle.history.specs.Run.{Collector, Promised, Call, inputOf, Run, toldBy}
-use Rattle.history.specs.Demand3.{takenByRule, OverRuns, RefusedExactlyIf, TakenExactlyIf, CountersAreFates, DeliveredInOrder}
+use Rattle.history.specs.Run.{Collector, Promised, Call, inputOf, Run, lentOf, beforeFrom, toldBy}
+use Rattle.history.specs.Demand3.{OverRuns, RefusedExactlyIf, TakenExactlyIf, CountersAreFates, DeliveredInOrder}
 
 module _ (C : Collector) where
-  -- "It has the PID, the last counter or none, the bytes in hand, five 32-bit counters": the first two
+  -- "It has the PID, the last counter or none, the bytes in hand, five 32-bit counters", and the mark: the PID, the
+  -- counter and the mark, by the packets and the rooms' sizes alone
   abbrev pub RecordTells : Type 0
   RecordTells = OverRuns C (λ pid hold calls r hold′.
-      (r .pid ≡ pid) × (beforeOf r ≡ historyOf delivers (takenByRule pid hold calls) .before))
+      (r .pid ≡ pid) × (beforeOf r ≡ beforeFrom pid (length hold) noneBefore (map lentOf calls)))
 
   -- "Out gets the finished sections .. Hold begins with the bytes in hand. Bytes of either beyond that stay."
   abbrev pub BeyondStays : Type 0

@@ -2,10 +2,11 @@
 -- of its packet, counted from 0 among the packets taken that have payload.
 use mathlib.Core.Path.{_≡_}
 use mathlib.Core.List.{List, [], _∷_, _++_, map}
+use mathlib.Core.Option.{Option, none, some}
 use Prim.Native.Nat.{ℕ, _+_, _%_, _≤_, _<_}
 use lib.ListN.{length, getD}
 use Rattle.wire.specs.Each.{Each}
-use Rattle.packet.specs.Ruling.{Before, noneBefore, Carried, handsOn}
+use Rattle.packet.specs.Ruling.{Carried}
 use Rattle.collector.specs.Rules.{Kind, Story, holding, storyAfter}
 
 pub record Byte : Type 0 where
@@ -19,26 +20,26 @@ valueOf b = b .value
 abbrev pub numbered : ℕ → List ℕ → List Byte
 numbered k bs = map (λ v. record { packet = k; value = v }) bs
 
--- what counts for the next packet, how many packets with payload were taken, and the story of their bytes
+-- the last counter or none, how many packets with payload were taken, and the story of their bytes
 pub record History : Type 0 where
-  pub before : Before
+  pub last : Option ℕ
   pub packets : ℕ
   pub story : Story Byte
 
 abbrev pub unbegun : History
-unbegun = record { before = noneBefore; packets = 0; story = holding [] }
+unbegun = record { last = none; packets = 0; story = holding [] }
 
 abbrev pub numberedIn : ℕ → Carried ℕ → Carried Byte
-numberedIn k q = record { counter = q .counter; start = q .start; bytes = numbered k (q .bytes) }
+numberedIn k q = record { counter = q .counter; start = q .start; spliced = q .spliced; bytes = numbered k (q .bytes) }
 
 -- whatever a whole section comes to
 module _ (comes : List ℕ → Kind) where
   -- "Fates then, as they stand after the packets so far"
   abbrev pub historyAfter : History → Carried ℕ → History
   historyAfter h q = record {
-    before = handsOn q;
+    last = some (q .counter);
     packets = h .packets + 1;
-    story = storyAfter comes valueOf (h .before) (h .story) (numberedIn (h .packets) q);
+    story = storyAfter comes valueOf (h .last) (h .story) (numberedIn (h .packets) q);
   }
 
   abbrev pub historyFrom : History → List (Carried ℕ) → History
@@ -73,6 +74,12 @@ pub record Spans (qs : List (Carried ℕ)) (x y : Byte) : Type 0 where
 -- "no delivered section spans a break": no two of its bytes do
 abbrev pub Unbroken : List (Carried ℕ) → List Byte → Type 0
 Unbroken qs section = Each (λ x. Each (λ y. Spans qs x y → ⊥) section) section
+
+-- ---- a mark
+
+-- "or a mark": splices are numbers of packets, each with a splice in front of it. No two bytes of the section have one between them.
+abbrev pub Unmarked : List ℕ → List Byte → Type 0
+Unmarked splices section = Each (λ k. Each (λ x. Each (λ y. x .packet < k → k ≤ y .packet → ⊥) section) section) splices
 
 -- the elements of a list in their order, some of them left out
 pub data Among {A : Type 0} : List A → List A → Type 0 where

@@ -4,6 +4,7 @@ pub mod History
 pub mod Run
 pub mod Demand1
 pub mod Demand3
+pub mod Splices
 pub mod Fixed
 pub mod OutRoom
 pub mod WrongCollectors

@@ -28,8 +28,8 @@ valuesOf k s = map (map valueOf) (sectionsOf evenDelivered valueOf k (s .section
 -- a section of eight bytes, one of three, and one of four that goes on in the packet behind
 abbrev pub two-packets : List (Carried ℕ)
 two-packets =
-    record { counter = 0; start = true; bytes = 0 ∷ tdt ++ (0x70 ∷ 0x70 ∷ 0x00 ∷ 0x70 ∷ 0x70 ∷ []) }
-    ∷ record { counter = 1; start = false; bytes = 0x01 ∷ 0xAA ∷ 0xFF ∷ [] }
+    record { counter = 0; start = true; spliced = false; bytes = 0 ∷ tdt ++ (0x70 ∷ 0x70 ∷ 0x00 ∷ 0x70 ∷ 0x70 ∷ []) }
+    ∷ record { counter = 1; start = false; spliced = false; bytes = 0x01 ∷ 0xAA ∷ 0xFF ∷ [] }
     ∷ []
 
 pub record BothKinds : Type 0 where

@@ -2,6 +2,7 @@
 -- payload of 184 bytes one is the pointer; without the start flag at most one section ends, and no section has more
 -- than 4,096.
 use mathlib.Core.Path.{_≡_}
+use mathlib.Core.Bool.{false}
 use mathlib.Core.List.{List, _∷_}
 use Prim.Native.Nat.{ℕ, _≤_}
 use lib.ListN.{replicate}
@@ -18,7 +19,7 @@ AtMost n C = (r : Record) (hold out packet : List ℕ) (o : Outcome) → C r hol
 -- a call that hands out so many: a section of 4,096 bytes, of which 4,095 are in hand, ends in front of the pointer's
 -- target, and one of 182 bytes fills the rest
 abbrev pub before : Record
-before = recordWith 20 (Counter 0) 4095 (λ k. 0)
+before = recordWith 20 (Counter 0) false 4095 (λ k. 0)
 
 abbrev pub full : List ℕ
 full = 0x70 ∷ 0x7F ∷ 0xFD ∷ replicate 4093 0

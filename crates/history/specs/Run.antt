@@ -2,16 +2,16 @@
 -- packets alone.
 use mathlib.Core.Path.{_≡_}
 use mathlib.Core.Logic.{_⊎_}
-use mathlib.Core.Bool.{false}
+use mathlib.Core.Bool.{Bool, true, false, _||_}
 use mathlib.Core.List.{List, [], _∷_, _++_, map}
-use Prim.Native.Nat.{ℕ, zero, suc}
+use Prim.Native.Nat.{ℕ, zero, suc, _+_}
 use lib.ListN.{length, take, drop}
 use lib.Dec.{ltb, eqb}
 use Rattle.wire.specs.If.{if_then_else_}
 use Rattle.wire.specs.Each.{Each}
-use Rattle.packet.specs.Header.{startFlag, control, counterOf, payloadFrom}
+use Rattle.packet.specs.Header.{startFlag, control, counterOf, discontinuity, payloadFrom}
 use Rattle.wire.specs.Sections.{totalOf}
-use Rattle.packet.specs.Ruling.{Before, Carried, handsOn, repeats, Ruling, loadOf, ruling}
+use Rattle.packet.specs.Ruling.{Before, markWith, equalTo, Carried, handsOn, Ruling, loadOf, ruling}
 use Rattle.packet.specs.Refusals.{refusals}
 use Rattle.packet.specs.Ruling as Ruled
 use Rattle.collector.specs.Refusals.{tooSmall}
@@ -75,20 +75,41 @@ fareOf (Answer.taken sections bytes) = taken
 abbrev pub ruledFare : Ruling → Fare
 ruledFare (Ruled.refuses n) = refusedBy n
 ruledFare Ruled.repeated = repeated
-ruledFare Ruled.bare = taken
+ruledFare (Ruled.bare splice) = taken
 ruledFare (Ruled.takes q) = taken
 
--- "the packets taken", by what the answers say: of each that has payload its counter, its start flag and its payload
-abbrev pub ifSaidTaken : Fare → List ℕ → List (Carried ℕ)
-ifSaidTaken (refusedBy n) packet = []
-ifSaidTaken repeated packet = []
-ifSaidTaken taken packet =
+-- "the packets taken", by what the answers say: of each that has payload its counter, its start flag, whether it is
+-- behind a mark, and its payload
+abbrev pub ifSaidTaken : Bool → Fare → List ℕ → List (Carried ℕ)
+ifSaidTaken mark (refusedBy n) packet = []
+ifSaidTaken mark repeated packet = []
+ifSaidTaken mark taken packet =
     if eqb (control packet) 2 then []
-    else loadOf packet (payloadFrom packet) (startFlag packet) (counterOf packet) ∷ []
+    else loadOf (mark || discontinuity packet) packet (payloadFrom packet) (startFlag packet) (counterOf packet) ∷ []
 
-abbrev pub saidTaken : List Call → List (Carried ℕ)
-saidTaken [] = []
-saidTaken (k ∷ ks) = ifSaidTaken (fareOf (k .said)) (k .packet) ++ saidTaken ks
+-- the mark after a packet, by what the answer says: set by the bit, and cleared by the next packet with payload
+abbrev pub saidMark : Bool → Fare → List ℕ → Bool
+saidMark mark (refusedBy n) packet = mark
+saidMark mark repeated packet = mark
+saidMark mark taken packet = if eqb (control packet) 2 then mark || discontinuity packet else false
+
+abbrev pub saidTaken : Bool → List Call → List (Carried ℕ)
+saidTaken mark [] = []
+saidTaken mark (k ∷ ks) =
+    ifSaidTaken mark (fareOf (k .said)) (k .packet) ++ saidTaken (saidMark mark (fareOf (k .said)) (k .packet)) ks
+
+-- the splices, by the packets that came: of each that was not refused and has the bit, with payload or without, how many
+-- packets with payload were taken before it. No mark is noted.
+abbrev pub ifSpliced : ℕ → Fare → List ℕ → List ℕ
+ifSpliced n (refusedBy m) packet = []
+ifSpliced n repeated packet = if discontinuity packet then n ∷ [] else []
+ifSpliced n taken packet = if discontinuity packet then n ∷ [] else []
+
+abbrev pub splicesFrom : ℕ → List Call → List ℕ
+splicesFrom n [] = []
+splicesFrom n (k ∷ ks) =
+    ifSpliced n (fareOf (k .said)) (k .packet)
+    ++ splicesFrom (n + length (ifSaidTaken false (fareOf (k .said)) (k .packet))) ks
 
 -- of a call, the packet and the size of the out room
 pub record Lent : Type 0 where
@@ -102,13 +123,13 @@ lentOf k = record { packet = k .packet; room = length (k .out) }
 abbrev pub beforeAfter : Before → Ruling → Before
 beforeAfter before (Ruled.refuses n) = before
 beforeAfter before Ruled.repeated = before
-beforeAfter before Ruled.bare = before
+beforeAfter before (Ruled.bare splice) = record { last = before .last; mark = markWith before splice }
 beforeAfter before (Ruled.takes q) = handsOn q
 
 abbrev pub ruledIn : Ruling → List (Carried ℕ)
 ruledIn (Ruled.refuses n) = []
 ruledIn Ruled.repeated = []
-ruledIn Ruled.bare = []
+ruledIn (Ruled.bare splice) = []
 ruledIn (Ruled.takes q) = q ∷ []
 
 module _ (pid size : ℕ) where
@@ -125,13 +146,21 @@ module _ (pid size : ℕ) where
   ruledTaken before [] = []
   ruledTaken before (x ∷ xs) = ruledIn (rulingOn before x) ++ ruledTaken (beforeAfter before (rulingOn before x)) xs
 
+  -- what counts for the packet behind them
+  abbrev pub beforeFrom : Before → List Lent → Before
+  beforeFrom before [] = before
+  beforeFrom before (x ∷ xs) = beforeFrom (beforeAfter before (rulingOn before x)) xs
+
   -- "neither refused": no row of the table applies
   abbrev pub NotRefused : Lent → Type 0
   NotRefused x = Each (λ row. row .applies ≡ false) (refusals (tooSmall size (x .room)) (ltb 8191 pid) pid (x .packet))
 
--- "nor, by document 01's rule, repeated": control 10, or another counter than the last
+-- "nor, by document 01's rule, repeated", as amended: control 10; or the mark is set, or the packet sets it; or another
+-- counter than the last
 abbrev pub NotRepeated : Before → List ℕ → Type 0
-NotRepeated before packet = (control packet ≡ 2) ⊎ (repeats before (counterOf packet) ≡ false)
+NotRepeated before packet =
+    (control packet ≡ 2)
+    ⊎ (((before .mark ≡ true) ⊎ (discontinuity packet ≡ true)) ⊎ (equalTo (before .last) (counterOf packet) ≡ false))
 
 -- ---- the sections that a call hands out: so many, cut off the front of the out room's bytes by their own headers
 

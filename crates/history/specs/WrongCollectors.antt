@@ -1,10 +1,12 @@
--- The wrong collectors that document 01's last chapter names, two more, and the packets on which each shows itself.
+-- The wrong collectors that document 01's last chapter names, four more, and the packets on which each shows itself.
 use mathlib.Core.Path.{_≡_}
+use mathlib.Core.Bool.{_&&_}
 use mathlib.Core.List.{List, [], _∷_, _++_}
 use Prim.Native.Nat.{ℕ, _+_, _%_, _^_}
-use lib.ListN.{replicate}
+use lib.ListN.{take, drop, getD, replicate}
 use Rattle.wire.specs.If.{if_then_else_}
-use Rattle.packet.specs.Header.{counterOf}
+use lib.Dec.{eqb}
+use Rattle.packet.specs.Header.{control, counterOf, discontinuity}
 use Rattle.collector.specs.Rules.{filler, done, sameKind}
 use Rattle.collector.specs.Answer.{Outcome, refusedWith, repeated, taken}
 use Rattle.collector.specs.Collected.{bytesCounted, recordWith, unaltered, collected}
@@ -37,7 +39,7 @@ Pretends r hold out packet o = o ≡ pretended (r .last) r hold out packet
 -- "one with invented counters": here one more byte of filler than there was
 abbrev pub invented : Record → Record
 invented r =
-    recordWith (r .pid) (r .last) (r .in_hand)
+    recordWith (r .pid) (r .last) (r .mark) (r .in_hand)
     (λ k. if sameKind k filler then (bytesCounted (done k) r + 1) % 2 ^ 32 else bytesCounted (done k) r)
 
 abbrev pub InventsCounters : Collector
@@ -60,10 +62,22 @@ HandsOutOther r hold out packet o = o ≡ record {
 -- one that takes no notice of a break: each packet is taken as if it followed the one before
 abbrev pub followed : Record → List ℕ → Record
 followed r packet =
-    recordWith (r .pid) (Counter ((counterOf packet + 15) % 16)) (r .in_hand) (λ k. bytesCounted (done k) r)
+    recordWith (r .pid) (Counter ((counterOf packet + 15) % 16)) (r .mark) (r .in_hand) (λ k. bytesCounted (done k) r)
 
 abbrev pub JoinsOverBreaks : Collector
 JoinsOverBreaks r hold out packet o = o ≡ collected (followed r packet) hold out packet
+
+-- one that overlooks discontinuity_indicator: each packet is taken as it would be without the bit
+abbrev pub withoutBit : List ℕ → List ℕ
+withoutBit packet = take 5 packet ++ (getD packet 5 0 % 128 ∷ drop 6 packet)
+
+abbrev pub OverlooksSplices : Collector
+OverlooksSplices r hold out packet o = o ≡ collected r hold out (if discontinuity packet then withoutBit packet else packet)
+
+-- one that overlooks it in packets without payload
+abbrev pub OverlooksBareSplices : Collector
+OverlooksBareSplices r hold out packet o =
+    o ≡ collected r hold out (if discontinuity packet && eqb (control packet) 2 then withoutBit packet else packet)
 
 -- document 01's worked packet, with a counter
 abbrev pub worked : ℕ → List ℕ
@@ -89,3 +103,13 @@ left-off = 0x47 ∷ 0x40 ∷ 0x14 ∷ 0x30 ∷ 181 ∷ replicate 181 0 ++ (0x00 
 
 abbrev pub gone-on : List ℕ
 gone-on = 0x47 ∷ 0x00 ∷ 0x14 ∷ 0x32 ∷ 181 ∷ replicate 181 0 ++ (0x60 ∷ 0x00 ∷ [])
+
+-- one that goes on without a break, the same with the bit, and a packet without payload with the bit
+abbrev pub next-on : List ℕ
+next-on = 0x47 ∷ 0x00 ∷ 0x14 ∷ 0x31 ∷ 181 ∷ replicate 181 0 ++ (0x60 ∷ 0x00 ∷ [])
+
+abbrev pub spliced-on : List ℕ
+spliced-on = 0x47 ∷ 0x00 ∷ 0x14 ∷ 0x31 ∷ 181 ∷ 0x80 ∷ replicate 180 0 ++ (0x60 ∷ 0x00 ∷ [])
+
+abbrev pub bare-splice : List ℕ
+bare-splice = 0x47 ∷ 0x00 ∷ 0x14 ∷ 0x20 ∷ 183 ∷ 0x80 ∷ replicate 182 0xFF

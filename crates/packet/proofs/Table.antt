@@ -11,13 +11,13 @@ use borrow.Author.Tests.{ltb-false, eqb-false, lt-ltb, le-ltb, le-leb, lt-leb, e
 use Rattle.wire.specs.If.{if_then_else_}
 use Rattle.wire.specs.Each.{Each}
 use Rattle.wire.proofs.IfLaws.{true-not-false}
-use Rattle.packet.specs.Header.{startFlag, pidOf, scrambling, control, counterOf, adaptation, payloadFrom, payloadOf, pointerOf}
+use Rattle.packet.specs.Header.{startFlag, pidOf, scrambling, control, counterOf, adaptation, bitOfField, discontinuity, payloadFrom, payloadOf, pointerOf}
 use Rattle.packet.specs.Refusals.{Row, refusals, firstOf, Judged, refuse, bare, has-payload, judgedBy, judged}
 use Rattle.packet.specs.Inner.{pointerRefusal, shapeRefusals, headerRefusals, PayloadAt}
 
 -- ---- refusal 49
 
-module _ (p : List ℕ) (from : ℕ) (a : PayloadAt p from) where
+module _ (p : List ℕ) (from : ℕ) (splice : Bool) (a : PayloadAt p from splice) where
   abbrev here : Judged
   here = judgedBy (firstOf (pointerRefusal p)) p
 
@@ -30,18 +30,22 @@ module _ (p : List ℕ) (from : ℕ) (a : PayloadAt p from) where
   at : pointerOf p ≡ getD p from 0
   at = ap (λ (n : ℕ). getD p n 0) (sym (a .at))
 
+  -- what the packet is, once its start flag is known
+  given : (t : Bool) → has-payload (payloadFrom p) t (counterOf p) (discontinuity p) ≡ has-payload from t (counterOf p) splice
+  given t = λ i. has-payload (sym (a .at) i) t (counterOf p) (sym (a .bit) i)
+
   pub pointer-past : startFlag p ≡ true → 186 < from + getD p from 0 → here ≡ refuse 49
   pointer-past s k =
       let past : length (payloadOf p) < pointerOf p + 2 = omega (arith, long, at, a .within) in
       simp (has, s, lt-ltb _ _ past)
 
-  pub pointer-within : startFlag p ≡ true → from + getD p from 0 ≤ 186 → here ≡ has-payload from true (counterOf p)
+  pub pointer-within : startFlag p ≡ true → from + getD p from 0 ≤ 186 → here ≡ has-payload from true (counterOf p) splice
   pointer-within s k =
       let within : pointerOf p + 2 ≤ length (payloadOf p) = omega (arith, long, at) in
-      simp (has, s, le-ltb _ _ within) (ap (λ (n : ℕ). has-payload n true (counterOf p)) (sym (a .at)))
+      simp (has, s, le-ltb _ _ within) (given true)
 
-  pub no-pointer : startFlag p ≡ false → here ≡ has-payload from false (counterOf p)
-  no-pointer s = simp (has, s) (ap (λ (n : ℕ). has-payload n false (counterOf p)) (sym (a .at)))
+  pub no-pointer : startFlag p ≡ false → here ≡ has-payload from false (counterOf p) splice
+  no-pointer s = simp (has, s) (given false)
 
 -- ---- refusal 48, by the adaptation control
 
@@ -55,10 +59,10 @@ module _ (p : List ℕ) where
   pub control-payload : control p ≡ 1 → shape ≡ judgedBy (firstOf (pointerRefusal p)) p
   control-payload e = simp (e)
 
-  pub payload-first : length p ≡ 188 → control p ≡ 1 → PayloadAt p 4
-  payload-first l e = record { long = l; at = simp (e); within = omega arith; has = λ w. omega arith }
+  pub payload-first : length p ≡ 188 → control p ≡ 1 → PayloadAt p 4 false
+  payload-first l e = record { long = l; at = simp (e); within = omega arith; has = λ w. omega arith; bit = simp (e) }
 
-  pub control-bare : control p ≡ 2 → adaptation p ≡ 183 → shape ≡ bare
+  pub control-bare : control p ≡ 2 → adaptation p ≡ 183 → shape ≡ bare (bitOfField p)
   control-bare e k = simp (e, eq-eqb _ _ k)
 
   pub control-bad-bare : control p ≡ 2 → (adaptation p ≡ 183 → ⊥) → shape ≡ refuse 48
@@ -74,8 +78,10 @@ module _ (p : List ℕ) where
     pub control-both : adaptation p ≤ 182 → shape ≡ judgedBy (firstOf (pointerRefusal p)) p
     control-both k = let e = both in simp (e, le-ltb _ _ k)
 
-    pub payload-after : length p ≡ 188 → adaptation p ≤ 182 → PayloadAt p (5 + adaptation p)
-    payload-after l k = let e = both in record { long = l; at = simp (e); within = omega arith; has = λ w. omega arith }
+    pub payload-after : length p ≡ 188 → adaptation p ≤ 182 → PayloadAt p (5 + adaptation p) (bitOfField p)
+    payload-after l k =
+        let e = both in
+        record { long = l; at = simp (e); within = omega arith; has = λ w. omega arith; bit = simp (e) }
 
 -- ---- refusals 44 to 47, each where those before it do not hold
 
@@ -129,17 +135,19 @@ all-passed [] x = refl
 all-passed (r ∷ rows) x = ap (λ (t : Bool). if t then some (r .number) else firstOf rows) (x .0) ∙ all-passed rows (x .1)
 
 -- a packet with payload meets no row
-pub record WithPayload (small unfit : Bool) (pid : ℕ) (p : List ℕ) (from : ℕ) (start : Bool) (counter : ℕ) : Type 0 where
+pub record WithPayload (small unfit : Bool) (pid : ℕ) (p : List ℕ) (from : ℕ) (start : Bool) (counter : ℕ) (splice : Bool) : Type 0 where
   pub passed : Each Passed (refusals small unfit pid p)
   pub has : control p ≡ 2 → ⊥
   pub at : from ≡ payloadFrom p
   pub flag : start ≡ startFlag p
   pub count : counter ≡ counterOf p
+  pub bit : splice ≡ discontinuity p
 
-module _ (small unfit : Bool) (pid : ℕ) (p : List ℕ) (from : ℕ) (start : Bool) (counter : ℕ) where
+module _ (small unfit : Bool) (pid : ℕ) (p : List ℕ) (from : ℕ) (start : Bool) (counter : ℕ) (splice : Bool) where
   payload-by : (t : Bool) → eqb (control p) 2 ≡ t → firstOf (refusals small unfit pid p) ≡ none
-      → (if t then bare else has-payload (payloadFrom p) (startFlag p) (counterOf p)) ≡ has-payload from start counter
-      → WithPayload small unfit pid p from start counter
+      → (if t then bare (discontinuity p) else has-payload (payloadFrom p) (startFlag p) (counterOf p) (discontinuity p))
+      ≡ has-payload from start counter splice
+      → WithPayload small unfit pid p from start counter splice
   payload-by true e w h = let z : _≡_ {A = ℕ} 0 1 = cc in absurd (omega arith)
   payload-by false e w h = record {
     passed = none-of (refusals small unfit pid p) w;
@@ -147,14 +155,16 @@ module _ (small unfit : Bool) (pid : ℕ) (p : List ℕ) (from : ℕ) (start : B
     at = cc;
     flag = cc;
     count = cc;
+    bit = cc;
   }
 
-  payload-at : (o : Option ℕ) → firstOf (refusals small unfit pid p) ≡ o → judgedBy o p ≡ has-payload from start counter
-      → WithPayload small unfit pid p from start counter
+  payload-at : (o : Option ℕ) → firstOf (refusals small unfit pid p) ≡ o → judgedBy o p ≡ has-payload from start counter splice
+      → WithPayload small unfit pid p from start counter splice
   payload-at (some n) w h = let z : _≡_ {A = ℕ} 0 1 = cc in absurd (omega arith)
   payload-at none w h = payload-by (eqb (control p) 2) refl w h
 
-  pub payload-of : judged small unfit pid p ≡ has-payload from start counter → WithPayload small unfit pid p from start counter
+  pub payload-of : judged small unfit pid p ≡ has-payload from start counter splice
+      → WithPayload small unfit pid p from start counter splice
   unfolding judged
   payload-of h = payload-at (firstOf (refusals small unfit pid p)) refl h
 

@@ -1,6 +1,6 @@
 -- The header of a packet, as document 01 condenses ISO/IEC 13818-1, and what follows the header. A packet is its list of bytes; a byte that
 -- is not there reads as 0, and refusal 41 comes before any of these is looked at.
-use mathlib.Core.Bool.{Bool}
+use mathlib.Core.Bool.{Bool, _&&_}
 use mathlib.Core.List.{List}
 use Prim.Native.Nat.{ℕ, _+_, _*_, _/_, _%_}
 use lib.ListN.{drop, getD}
@@ -31,6 +31,14 @@ counterOf packet = getD packet 3 0 % 16
 -- the length of the adaptation field, where control is 10 or 11
 abbrev pub adaptation : List ℕ → ℕ
 adaptation packet = getD packet 4 0
+
+-- "An adaptation field of at least one byte with that bit set": discontinuity_indicator, the first bit of the field's first byte
+abbrev pub bitOfField : List ℕ → Bool
+bitOfField packet = leb 1 (adaptation packet) && leb 128 (getD packet 5 0)
+
+-- and there is a field, under control 10 or 11
+abbrev pub discontinuity : List ℕ → Bool
+discontinuity packet = leb 2 (control packet) && bitOfField packet
 
 -- the payload follows the header, and under control 11 the adaptation field after it
 abbrev pub payloadFrom : List ℕ → ℕ

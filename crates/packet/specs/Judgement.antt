@@ -19,5 +19,5 @@ numberOf Pointer = 49
 
 abbrev pub meant : Judgement → Judged
 meant (Refuse refusal) = refuse (numberOf refusal)
-meant Bare = bare
-meant (Payload from start counter) = has-payload from start counter
+meant (Bare splice) = bare splice
+meant (Payload from start counter splice) = has-payload from start counter splice

@@ -6,7 +6,7 @@ use Prim.Native.Nat.{ℕ, _+_}
 use lib.ListN.{length, getD}
 use lib.Dec.{ltb, eqb}
 use Rattle.wire.specs.If.{if_then_else_}
-use Rattle.packet.specs.Header.{transportError, startFlag, pidOf, scrambling, control, counterOf, adaptation, payloadFrom, payloadOf, pointerOf}
+use Rattle.packet.specs.Header.{transportError, startFlag, pidOf, scrambling, control, counterOf, adaptation, discontinuity, payloadFrom, payloadOf, pointerOf}
 
 -- ---- the table
 
@@ -51,17 +51,19 @@ firstOf (r ∷ rows) = if r .applies then some (r .number) else firstOf rows
 
 -- ---- what a packet is
 
--- refused; taken with no payload; or with payload from an index on, its start flag and its counter
+-- refused; taken with no payload, and whether it has the discontinuity_indicator; or with payload from an index on, its start flag, its counter,
+-- and whether it has the discontinuity_indicator
 pub data Judged : Type 0 where
   refuse : ℕ → Judged
-  bare : Judged
-  has-payload : ℕ → Bool → ℕ → Judged
+  bare : Bool → Judged
+  has-payload : ℕ → Bool → ℕ → Bool → Judged
 
 -- "no other input is refused". "Control 10: taken, no payload"
 abbrev pub judgedBy : Option ℕ → List ℕ → Judged
 judgedBy (some n) packet = refuse n
 judgedBy none packet =
-    if eqb (control packet) 2 then bare else has-payload (payloadFrom packet) (startFlag packet) (counterOf packet)
+    if eqb (control packet) 2 then bare (discontinuity packet)
+    else has-payload (payloadFrom packet) (startFlag packet) (counterOf packet) (discontinuity packet)
 
 unfoldable pub judged : Bool → Bool → ℕ → List ℕ → Judged
 judged small unfit pid packet = judgedBy (firstOf (refusals small unfit pid packet)) packet

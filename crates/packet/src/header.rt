@@ -3,14 +3,25 @@ use crate::Judgement;
 use crate::Refusal;
 ghost use mathlib.Core.Path.{_≡_};
 ghost use lib.ListN.{length};
-ghost use Rattle.packet.specs.Header.{pidOf};
+ghost use Rattle.packet.specs.Header.{pidOf, bitOfField};
 ghost use Rattle.packet.specs.Refusals.{firstOf, judgedBy};
 ghost use Rattle.packet.specs.Judgement.{meant};
 ghost use Rattle.packet.specs.Inner.{pointerRefusal, shapeRefusals, headerRefusals, PayloadAt};
 
+// "An adaptation field of at least one byte with that bit set": of a packet that has the field.
+fn splice_in(packet: &[u8]) -> bool
+    requires { ⌜ length (now packet) ≡ 188 ⌝ }
+    ensures { λ r. ⌜ r ≡ bitOfField (now (packet .entry)) ⌝ }
+{
+    if packet[4] == 0 {
+        return false;
+    }
+    128 <= packet[5]
+}
+
 // Refusal 49 of a packet that has payload.
-fn aimed(packet: &[u8], from: usize) -> Judgement
-    requires { ⌜ PayloadAt (now packet) from ⌝ }
+fn aimed(packet: &[u8], from: usize, splice: bool) -> Judgement
+    requires { ⌜ PayloadAt (now packet) from splice ⌝ }
     ensures { λ r. ⌜ meant r ≡ judgedBy (firstOf (pointerRefusal (now (packet .entry)))) (now (packet .entry)) ⌝ }
 {
     let counter = packet[3] % 16;
@@ -22,12 +33,14 @@ fn aimed(packet: &[u8], from: usize) -> Judgement
             from,
             start: true,
             counter,
+            splice,
         };
     }
     Judgement::Payload {
         from,
         start: false,
         counter,
+        splice,
     }
 }
 
@@ -38,22 +51,23 @@ fn shaped(packet: &[u8]) -> Judgement
 {
     let control = packet[3] / 16 % 4;
     if control == 1 {
-        return aimed(packet, 4);
+        return aimed(packet, 4, false);
     }
     if control == 0 {
         return Judgement::Refuse(Refusal::Adaptation);
     }
     let n = packet[4];
+    let splice = splice_in(packet);
     if control == 2 {
         if n == 183 {
-            return Judgement::Bare;
+            return Judgement::Bare { splice };
         }
         return Judgement::Refuse(Refusal::Adaptation);
     }
     if 182 < n {
         return Judgement::Refuse(Refusal::Adaptation);
     }
-    aimed(packet, 5 + wire::wide(n))
+    aimed(packet, 5 + wire::wide(n), splice)
 }
 
 fn pid_of(packet: &[u8]) -> usize

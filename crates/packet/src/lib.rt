@@ -20,13 +20,17 @@ pub enum Refusal {
 }
 
 // What a packet is, whether or not it is a repeated one: refused, taken with no payload, or with payload from an index on.
+// splice: discontinuity_indicator is set.
 pub enum Judgement {
     Refuse(Refusal),
-    Bare,
+    Bare {
+        splice: bool,
+    },
     Payload {
         from: usize,
         start: bool,
         counter: u8,
+        splice: bool,
     },
 }
 

@@ -11,7 +11,7 @@
 #define FIELD(type, field, place, size) \
     HOLDS(offsetof(type, field) == (place) && SIZE(type, field) == (size), #type "." #field)
 
-IS(LOHITUNGA_INTERFACE, 3);
+IS(LOHITUNGA_INTERFACE, 4);
 IS(sizeof(lohitunga_cable), 12);
 FIELD(lohitunga_cable, frequency, 0, 4);
 FIELD(lohitunga_cable, symbol_rate, 4, 4);
@@ -130,7 +130,8 @@ FIELD(lohitunga_part, size, 8, 8);
 IS(sizeof(lohitunga_record), 40);
 FIELD(lohitunga_record, pid, 0, 2);
 FIELD(lohitunga_record, last, 2, 1);
-FIELD(lohitunga_record, spare, 3, 5);
+FIELD(lohitunga_record, mark, 3, 1);
+FIELD(lohitunga_record, spare, 4, 4);
 FIELD(lohitunga_record, in_hand, 8, 8);
 FIELD(lohitunga_record, pointer, 16, 4);
 FIELD(lohitunga_record, delivered, 20, 4);

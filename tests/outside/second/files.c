@@ -76,6 +76,34 @@ int write_sections(uint64_t seed, uint64_t count, const char *name)
     return closed(name);
 }
 
+/*
+ * The word "packets "; then packets that the library does not refuse, each behind what tells whether it heard
+ * discontinuity_indicator, where the last counter was the packet's own: `repeated` 1 and the mark afterwards 1.
+ */
+int write_packets(uint64_t seed, uint64_t count, const char *name)
+{
+    static struct sender s;
+    static uint8_t packet[PACKET_MOST], hold[LOHITUNGA_HOLD], out[LOHITUNGA_OUT];
+    if (!opened(name))
+        return 2;
+    fputs("packets ", file);
+    for (uint64_t i = 0, written = 0; written < count; i++) {
+        struct dice d = dice_of(seed, 103, i);
+        make_sender(&d, &s);
+        make_packet(&d, &s, packet);
+        lohitunga_record r = lohitunga_fresh((uint16_t)(packet[1] % 32u * 256u + packet[2]));
+        r.last = packet[3] % 16;
+        lohitunga_collect_answer a = lohitunga_collect(&r, hold, sizeof hold, out, sizeof out, packet, 188);
+        if (a.number)
+            continue;
+        put(a.repeated, 1);
+        put(r.mark, 1);
+        fwrite(packet, 1, 188, file);
+        written++;
+    }
+    return closed(name);
+}
+
 /* Fields, by the names that tshark has for them */
 
 static void say(const char *name, long long value) { fprintf(file, "%s %lld\n", name, value); }

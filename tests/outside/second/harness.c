@@ -3,6 +3,7 @@
  *     harness SEED COUNT [KIND [FIRST]]      COUNT cases of each kind, or of one, from case number FIRST on
  *     harness --kinds                        the kinds, by name
  *     harness SEED COUNT --sections FILE     COUNT sections with the library's answers, for other parsers to judge
+ *     harness SEED COUNT --packets FILE      COUNT packets, and what the library hears of discontinuity_indicator
  *     harness SEED COUNT --fields FILE       COUNT sections with the library's readings of them
  *     harness SEED COUNT --streams FOLDER    COUNT streams of packets, each with its account by the second implementation
  * It ends with 0; with 1 at the first difference; with 3 where there is none but some answer of document 01 was never met.
@@ -32,6 +33,7 @@ KINDS(DECLARED)
 static const struct kind *const kinds[] = {KINDS(LISTED)};
 
 int write_sections(uint64_t seed, uint64_t count, const char *name);
+int write_packets(uint64_t seed, uint64_t count, const char *name);
 int write_fields(uint64_t seed, uint64_t count, const char *name);
 int write_streams(uint64_t seed, uint64_t count, const char *folder);
 
@@ -69,7 +71,8 @@ int main(int argc, char **argv)
         return 0;
     }
     if (argc < 3) {
-        fprintf(stderr, "usage: %s SEED COUNT [KIND [FIRST] | --sections FILE | --fields FILE | --streams FOLDER]\n", argv[0]);
+        fprintf(stderr, "usage: %s SEED COUNT [KIND [FIRST] | --sections FILE | --packets FILE | --fields FILE |"
+                        " --streams FOLDER]\n", argv[0]);
         return 2;
     }
     uint64_t seed = strtoull(argv[1], NULL, 0), count = strtoull(argv[2], NULL, 0);
@@ -77,6 +80,8 @@ int main(int argc, char **argv)
     uint64_t first = argc > 4 ? strtoull(argv[4], NULL, 0) : 0;
     if (argc == 5 && strcmp(only, "--sections") == 0)
         return write_sections(seed, count, argv[4]);
+    if (argc == 5 && strcmp(only, "--packets") == 0)
+        return write_packets(seed, count, argv[4]);
     if (argc == 5 && strcmp(only, "--fields") == 0)
         return write_fields(seed, count, argv[4]);
     if (argc == 5 && strcmp(only, "--streams") == 0)

@@ -3,12 +3,17 @@
 #include "record.h"
 #include "tally.h"
 
+#include <stdio.h>
 #include <stdlib.h>
 #include <string.h>
 
 enum { HISTORY_MOST = 80, LEDGER_MOST = HISTORY_MOST * 184 };
 
 #define IN_WORDS(NAME, counter, words) words " "
+
+/* A packet's counter is the record's last one, the next or another, and the record is marked or not. */
+#define BESIDE_RECORD(WORD) \
+    WORD "equal " WORD "equal-marked " WORD "next " WORD "next-marked " WORD "other " WORD "other-marked "
 
 static void prepare_packets(void)
 {
@@ -19,7 +24,20 @@ static void prepare_packets(void)
     must_meet("49 for", "pointer payload-of-1");
     must_meet("packets taken", "without-payload with-sections over-4,200-out");
     must_meet("fates", SECOND_COUNTED(IN_WORDS) "in-hand");
+    /* Byte 5 of the packet is above 127 or not: it is discontinuity_indicator, or payload. */
+    must_meet("control 01", BESIDE_RECORD("") BESIDE_RECORD("above-127-"));
+    must_meet("control 10", BESIDE_RECORD("") BESIDE_RECORD("bit-"));
+    must_meet("control 11, length 0", BESIDE_RECORD("") BESIDE_RECORD("above-127-"));
+    must_meet("control 11, length 1", BESIDE_RECORD("") BESIDE_RECORD("bit-"));
+    must_meet("control 11, longer", BESIDE_RECORD("") BESIDE_RECORD("bit-"));
+    must_meet("no counter, control", "01 01-marked 10 10-marked 10-bit 10-bit-marked");
+    must_meet("no counter, control", "11 11-marked 11-bit 11-bit-marked");
+    must_meet("marked, in hand", "0 1-or-more 4,095");
+    must_meet("a mark of 2 or more", "refused 10 10-bit 01 11");
 }
+
+/* "An adaptation field of at least one byte with that bit set": in control 10 and 11, its flags behind its length */
+static int has_bit(const uint8_t *packet) { return packet[3] & 0x20 && packet[4] != 0 && packet[5] & 0x80; }
 
 /* The ledger: every payload byte of the packets taken so far, with its fate */
 
@@ -27,19 +45,36 @@ static struct {
     uint8_t bytes[LEDGER_MOST], fates[LEDGER_MOST];
     uint8_t packets[LEDGER_MOST];       /* the packet that each came in, by its number among those taken with payload */
     uint8_t counters[HISTORY_MOST];     /* the continuity counter of each such packet */
+    uint8_t marks[HISTORY_MOST + 1];    /* whether the bit was set in it, or in a packet since the one before it */
     size_t size, taken;
     uint8_t out[LEDGER_MOST];           /* what the library delivered, call after call */
     size_t out_size;
 } ledger;
 
-static void ledger_begins(void) { ledger.size = ledger.taken = ledger.out_size = 0; }
+static void ledger_begins(void)
+{
+    ledger.size = ledger.taken = ledger.out_size = 0;
+    memset(ledger.marks, 0, sizeof ledger.marks);
+}
+
+/* A packet that is not refused: the bit in it counts for the next one with payload, itself if it has any. */
+static void ledger_marks(const struct second_collected *a, const uint8_t *packet)
+{
+    if (has_bit(packet))
+        ledger.marks[ledger.taken] = 1;
+    must(a->kind != SECOND_REPEATED || !ledger.marks[ledger.taken], "no packet behind a mark is repeated");
+}
 
 static void ledger_takes(const struct second_collected *a, const uint8_t *packet, const uint8_t *out)
 {
     size_t held = 0;
-    for (size_t i = 0; i < ledger.size; i++)
-        if (ledger.fates[i] == SECOND_IN_HAND)
-            ledger.fates[i] = a->fate[held++];
+    for (size_t i = 0; i < ledger.size; i++) {
+        if (ledger.fates[i] != SECOND_IN_HAND)
+            continue;
+        ledger.fates[i] = a->fate[held++];
+        must(a->payload == 0 || !ledger.marks[ledger.taken] || ledger.fates[i] == SECOND_BROKEN,
+             "a mark breaks off what is in hand");
+    }
     must(held == a->before, "the bytes in hand are those of the ledger");
     for (size_t i = 0; i < a->payload; i++) {
         ledger.bytes[ledger.size] = packet[188 - a->payload + i];
@@ -66,7 +101,7 @@ static void same_counts(const lohitunga_record *r)
 
 /*
  * "Delivered bytes come out once, in order; no delivered section spans a break in the continuity counter from one taken
- * packet with payload to the next."
+ * packet with payload to the next." Document 02: "and no delivered section spans a mark."
  */
 static void delivered_in_order(void)
 {
@@ -82,6 +117,7 @@ static void delivered_in_order(void)
             size_t from = ledger.packets[before], to = ledger.packets[i];
             must(from == to || (to == from + 1 && ledger.counters[to] == (ledger.counters[from] + 1) % 16),
                  "no delivered section spans a break in the counter");
+            must(from == to || !ledger.marks[to], "no delivered section spans a mark");
         }
         before = i;
         left--;
@@ -172,6 +208,32 @@ static void part_met(const struct collector *c, const uint8_t *packet, unsigned 
     }
 }
 
+/* What packet and record are by discontinuity_indicator, mark and counter, so that none is left untried. */
+static void splice_met(const lohitunga_record *r, const uint8_t *packet, unsigned number)
+{
+    static const char *const lengths[] = {"control 11, length 0", "control 11, length 1", "control 11, longer"};
+    static const char *const controls[] = {"00", "01", "10", "11"};
+    unsigned control = packet[3] / 16 % 4, counter = packet[3] % 16, length = packet[4] < 2 ? packet[4] : 2;
+    char word[24];
+    if (r->mark > 1) {
+        snprintf(word, sizeof word, "%s%s", controls[control], control == 2 && has_bit(packet) ? "-bit" : "");
+        met_word("a mark of 2 or more", number ? "refused" : word, 1);
+    }
+    if (number)
+        return;
+    if (r->mark)
+        met_word("marked, in hand", r->in_hand == 0 ? "0" : r->in_hand == 4095 ? "4,095" : "1-or-more", 1);
+    const char *marked = r->mark ? "-marked" : "";
+    if (r->last == LOHITUNGA_NO_COUNTER) {
+        snprintf(word, sizeof word, "%s%s%s", controls[control], has_bit(packet) ? "-bit" : "", marked);
+        met_word("no counter, control", word, 1);
+        return;
+    }
+    snprintf(word, sizeof word, "%s%s%s", packet[5] < 128 ? "" : has_bit(packet) ? "bit-" : "above-127-",
+             counter == r->last ? "equal" : counter == (r->last + 1u) % 16 ? "next" : "other", marked);
+    met_word(control == 1 ? "control 01" : control == 2 ? "control 10" : lengths[length], word, 1);
+}
+
 /* The out room by its parts: the sections that were finished, end to end, and no other. */
 static void cut_out(const uint8_t *out, size_t size, lohitunga_collect_answer m)
 {
@@ -219,6 +281,7 @@ static void compare_collect(struct collector *c, const uint8_t *packet, size_t s
         must(room_back(&rooms.input), "the canaries beside the packet stand");
     }
     part_met(c, packet, a->number);
+    splice_met(&c->record, packet, a->number);
     c->record = now;
     memcpy(c->hold, hold_second, c->hold_size);
     memcpy(c->out, out_second, c->out_size);
@@ -242,6 +305,14 @@ static uint32_t any_count(struct dice *d)
     return one_in(d, 2) ? (uint32_t)dice_any(d) : UINT32_MAX - below(d, 400);
 }
 
+/* Clear, or set by any number. */
+static uint8_t any_mark(struct dice *d)
+{
+    static const uint8_t marks[] = {0, 0, 0, 0, 1, 2, 255};
+    unsigned i = below(d, COUNT(marks) + 1);
+    return i < COUNT(marks) ? marks[i] : (uint8_t)below(d, 256);
+}
+
 /* A record, with a hold to it, that may stand or not, for packets of this sender. */
 static void any_record(struct dice *d, struct collector *c, const struct sender *s)
 {
@@ -252,12 +323,15 @@ static void any_record(struct dice *d, struct collector *c, const struct sender 
     r->last = (uint8_t)(one_in(d, 8) ? LOHITUNGA_NO_COUNTER : one_in(d, 4) ? below(d, 256) : below(d, 16));
     if (one_in(d, 2))
         r->last = (uint8_t)((s->counter + 15) % 16); /* so that the sender's next packet goes on with what is in hand */
+    r->mark = any_mark(d);
 #define ANY(NAME, field, words) r->field = any_count(d);
     SECOND_COUNTED(ANY)
     fill(d, c->hold, c->hold_size);
     if (one_in(d, 3))
         return;
     r->in_hand = one_in(d, 4) ? below(d, 4) : one_in(d, 3) ? between(d, 4080, 4097) : below(d, 4096);
+    if (one_in(d, 8))
+        r->in_hand = 4095;
     if (one_in(d, 24))
         r->in_hand = one_in(d, 2) ? SIZE_MAX : (size_t)dice_any(d);
     if (c->hold_size < 3 || one_in(d, 12))
@@ -283,16 +357,20 @@ static size_t any_room(struct dice *d, size_t least)
     return one_in(d, 2) ? least : least + below(d, (unsigned)(ROOM_MOST - least));
 }
 
-/* A record with the hold as good as full, and a packet that ends what it holds and is full of sections: the most that can come out. */
+/*
+ * A record with the hold as good as full, and a packet that ends what it holds and is full of sections: the most that
+ * can come out. Where the record is marked, what it holds is broken off.
+ */
 static void brim(struct dice *d, struct collector *c)
 {
     static uint8_t packet[188];
     static struct second_collected a;
-    unsigned held = between(d, 4080, 4095);
+    unsigned held = one_in(d, 3) ? 4095 : between(d, 4080, 4095);
     c->hold_size = LOHITUNGA_HOLD;
     c->out_size = LOHITUNGA_OUT;
     c->record = lohitunga_fresh((uint16_t)below(d, 8192));
     c->record.last = (uint8_t)below(d, 16);
+    c->record.mark = any_mark(d);
     c->record.in_hand = held;
     fill(d, c->hold, c->hold_size);
     c->hold[0] = 0x4E;
@@ -343,7 +421,10 @@ static void one_history(struct dice *d)
         }
         size_t size = make_packet(d, &s, packet);
         compare_collect(&c, packet, size, &a);
-        if (!kept || a.number || a.kind == SECOND_REPEATED)
+        if (!kept || a.number)
+            continue;
+        ledger_marks(&a, packet);
+        if (a.kind == SECOND_REPEATED)
             continue;
         ledger_takes(&a, packet, c.out);
         if (often)

@@ -663,6 +663,8 @@ void make_sender(struct dice *d, struct sender *s)
     s->size = s->sent = 0;
     s->trouble = one_in(d, 4) ? 0 : between(d, 3, 30);
     s->large = one_in(d, 6);
+    s->splices = one_in(d, 3);
+    s->marks = s->splices ? 2 : one_in(d, 2) ? 12 : 0;
 }
 
 /* One section more into the queue, or filler up to nowhere. The collector knows no rows, so any length will do. */
@@ -794,29 +796,54 @@ static size_t disturb(struct dice *d, struct sender *s, uint8_t *k)
     return 188;
 }
 
+/* The counter of a sender with splices: the next one, the last one again, or another. */
+static unsigned spliced_counter(struct dice *d, const struct sender *s)
+{
+    switch (below(d, 4)) {
+    case 0: return s->counter + 15;
+    case 1: return s->counter + between(d, 1, 14);
+    default: return s->counter;
+    }
+}
+
+/* An adaptation field of this length; whether discontinuity_indicator is set in it. One of no bytes has no flags. */
+static int put_field(struct dice *d, const struct sender *s, uint8_t *k, unsigned length)
+{
+    int set = length > 0 && s->marks && one_in(d, s->marks);
+    k[4] = (uint8_t)length;
+    if (length > 0)
+        k[5] = (uint8_t)(k[5] % 128 + set * 128);
+    return set;
+}
+
 size_t make_packet(struct dice *d, struct sender *s, uint8_t *to)
 {
     size_t first = 4;
+    unsigned counter = s->splices ? spliced_counter(d, s) : s->counter;
     fill(d, to, PACKET_MOST);
     to[0] = 0x47;
     to[1] = (uint8_t)(to[1] & 0x20) | (uint8_t)(s->pid / 256);
     to[2] = (uint8_t)s->pid;
-    to[3] = (uint8_t)(s->counter % 16);
-    if (one_in(d, 20)) { /* no payload, and the counter does not go on */
+    to[3] = (uint8_t)(counter % 16);
+    if (one_in(d, s->splices ? 3 : 20)) { /* no payload, and the counter does not go on */
         to[3] = (uint8_t)(to[3] + 0x20);
-        to[4] = 183;
+        put_field(d, s, to, 183);
         if (one_in(d, 2))
             to[1] |= 0x40;
     } else {
-        if (one_in(d, 8)) {
+        if (s->splices ? !one_in(d, 4) : one_in(d, 8)) {
+            unsigned length = one_in(d, 4) ? between(d, 180, 182) : below(d, 183);
+            if (s->splices && !one_in(d, 3))
+                length = below(d, 2);
             to[3] = (uint8_t)(to[3] + 0x30);
-            to[4] = (uint8_t)(one_in(d, 4) ? between(d, 180, 182) : below(d, 183));
-            first = 5u + to[4];
+            first = 5u + length;
+            if (put_field(d, s, to, length) && one_in(d, 2))
+                s->size = s->sent = 0; /* behind the splice the sender begins anew with a section */
         } else {
             to[3] = (uint8_t)(to[3] + 0x10);
         }
         put_payload(d, s, to, first);
-        s->counter++;
+        s->counter = counter + 1;
     }
     if (s->trouble && one_in(d, s->trouble))
         return disturb(d, s, to);

@@ -72,6 +72,8 @@ struct sender {
     size_t size, sent;
     unsigned trouble;   /* one packet in so many is disturbed; 0 for none */
     int large;          /* whether sections of some thousand bytes come */
+    int splices;        /* whether adaptation fields, and counters other than the next one, come often */
+    unsigned marks;     /* one adaptation field in so many has discontinuity_indicator set; 0 for none */
 };
 
 void make_sender(struct dice *d, struct sender *s);

@@ -1,9 +1,9 @@
 /*
- * A second implementation of document 01, written from document 01, request (v) of document 02, docs/DECISIONS.md and
- * EN 300 468 alone, a byte at a time. It is the judge in the comparison with the library, so it is plain before it is
- * fast. It stands in the files second_*.c. Sentences in quotation marks are document 01's there, or document 02's where it
- * is named; where they leave a choice, docs/DECISIONS.md has what was chosen. Field layouts are those of EN 300 468, the
- * clause named at each.
+ * A second implementation of document 01, written from document 01, requests (v) and (ix) of document 02,
+ * docs/DECISIONS.md and EN 300 468 alone, a byte at a time. It is the judge in the comparison with the library, so it is
+ * plain before it is fast. It stands in the files second_*.c. Sentences in quotation marks are document 01's there, or
+ * document 02's where it is named; where they leave a choice, docs/DECISIONS.md has what was chosen. Field layouts are
+ * those of EN 300 468, the clause named at each.
  *
  * Every answer has a `number`: 0, or the number of the refusal. `place` is 0 but for 8 to 10. Of the readings that can be
  * refused with 63 to 65 the number stands in `why`, with the place of the field and that of the digit.
@@ -81,7 +81,14 @@ struct second_written second_to_section(const uint8_t *sheet, size_t size, uint8
 enum { SECOND_COUNTED(SECOND_FATE) SECOND_IN_HAND, SECOND_FATES };
 enum { SECOND_COUNTERS = SECOND_IN_HAND };
 
-struct second_record { uint32_t pid; int has_counter; uint32_t counter; uint64_t in_hand; uint32_t counters[SECOND_COUNTERS]; };
+struct second_record {
+    uint32_t pid;
+    int has_counter;
+    uint32_t counter;
+    int mark; /* 0 or 1 */
+    uint64_t in_hand;
+    uint32_t counters[SECOND_COUNTERS];
+};
 
 enum { SECOND_TAKEN, SECOND_REPEATED };
 

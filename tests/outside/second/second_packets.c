@@ -5,7 +5,7 @@
 
 /* "The collector" */
 
-/* "A fresh one: no counter, nothing in hand, zeros." */
+/* "A fresh one: no counter, nothing in hand, zeros." Document 02: "The record gains a mark." It is clear. */
 struct second_record second_fresh(uint32_t pid)
 {
     struct second_record r;
@@ -69,6 +69,18 @@ static unsigned refuse_packet(const struct second_record *r, const uint8_t *k, s
             return 49;
     }
     return 0;
+}
+
+/* Document 02: "An adaptation field of at least one byte with that bit set", discontinuity_indicator, its first flag */
+static int discontinuity(const uint8_t *k)
+{
+    /* control 10 and 11 have the field: a byte for its length, then its bytes */
+    unsigned control = k[3] / 16 % 4;
+    if (control == 0 || control == 1)
+        return 0;
+    if (k[4] < 1)
+        return 0;
+    return k[5] / 128 == 1;
 }
 
 /* The section in hand while a packet is gone through: its bytes, and where the fate of each stands in the answer. */
@@ -176,12 +188,18 @@ void second_collect(struct second_collected *a, struct second_record *r, uint8_t
     a->before = (size_t)r->in_hand;
     for (size_t i = 0; i < a->before; i++)
         a->fate[i] = SECOND_IN_HAND;
-    /* "Control 10: taken, no payload, nothing changes." */
+    /* Document 02: "An adaptation field .. with that bit set, in a packet not refused, sets it" */
+    if (discontinuity(k))
+        r->mark = 1;
+    /* "Control 10: taken, no payload, nothing changes.", amended by document 02: but for the mark */
     if (first == 188)
         return;
-    /* "Else a counter equal to the last: "repeated", nothing changes." */
+    /* Document 02: "the next packet with payload, the marked one itself if it has any, .. clears it" */
+    int marked = r->mark;
+    r->mark = 0;
+    /* "Else a counter equal to the last: "repeated", nothing changes.", amended by document 02: a marked one never */
     unsigned counter = k[3] % 16;
-    if (r->has_counter && counter == r->counter) {
+    if (!marked && r->has_counter && counter == r->counter) {
         a->kind = SECOND_REPEATED;
         return;
     }
@@ -193,8 +211,11 @@ void second_collect(struct second_collected *a, struct second_record *r, uint8_t
         h.bytes[i] = hold[i];
         h.at[i] = i;
     }
-    /* "If the counter isn't the last plus 1 modulo 16, what is in hand is broken off; the counter then becomes the last." */
-    if (r->has_counter && counter != (r->counter + 1) % 16)
+    /*
+     * "If the counter isn't the last plus 1 modulo 16, what is in hand is broken off; the counter then becomes the last."
+     * Document 02: behind a mark the packet "breaks off what is in hand", whatever its counter
+     */
+    if (marked || (r->has_counter && counter != (r->counter + 1) % 16))
         settle(a, &h, SECOND_BROKEN);
     r->has_counter = 1;
     r->counter = counter;

@@ -144,13 +144,52 @@ lohitunga_record lohitunga_fresh(uint16_t pid)
     return r;
 }
 
+/* Record and packet as the faults of splices have them; whether the record has the mark or the packet the bit. */
+static int mishear(struct second_record *s, uint8_t *k)
+{
+    int field = (k[3] & 0x20) && k[4] > 0, payload = k[3] & 0x10, high = k[5] & 0x80;
+    int next = s->has_counter && k[3] % 16 == (s->counter + 1) % 16;
+    int spliced = s->mark || (field && high);
+    /* 34: the bit is read in an empty field; 41: and where there is no field */
+    if (fault(34) && (k[3] & 0x20) && k[4] == 0 && high)
+        s->mark = 1;
+    if (fault(41) && !(k[3] & 0x20) && high)
+        s->mark = 1;
+    /* 36: it is not heard in a packet without payload; 37: in one with payload; 38: the bit beside it is read */
+    if (fault(36) && field && !payload)
+        k[5] &= 0x7F;
+    if (fault(37) && field && payload)
+        k[5] &= 0x7F;
+    if (fault(38) && field)
+        k[5] = (uint8_t)(k[5] << 1);
+    /* 39: a splice whose counter is the next one keeps what is in hand */
+    if (fault(39) && spliced && payload && next) {
+        s->mark = 0;
+        if (field)
+            k[5] &= 0x7F;
+    }
+    return spliced;
+}
+
 lohitunga_collect_answer lohitunga_collect(lohitunga_record *r, uint8_t *hold, size_t hold_size, uint8_t *out, size_t out_size,
                                            const uint8_t *packet, size_t packet_size)
 {
     static __thread struct second_collected c;
     struct second_record s = record_in(r);
+    int spliced = 0;
+    uint8_t heard[188];
+    if (packet_size == sizeof heard) {
+        memcpy(heard, packet, sizeof heard);
+        spliced = mishear(&s, heard);
+        packet = heard;
+    }
     second_collect(&c, &s, hold, hold_size, out, out_size, packet, packet_size);
     lohitunga_collect_answer a = {c.number, c.number == 0 && c.kind == SECOND_REPEATED, c.sections, c.bytes};
+    /* 35: the mark is kept after its use; 40: that of 2 or more is written anew by a refusal */
+    if (fault(35) && c.payload > 0 && spliced)
+        s.mark = 1;
+    if (fault(40) && c.number && r->mark > 1)
+        r->mark = 1;
     if (c.number)
         return a;
     uint32_t filler = r->filler;

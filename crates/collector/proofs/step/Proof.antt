@@ -5,8 +5,9 @@ use Rattle.packet.specs.Refusals.{Judged}
 use Rattle.packet.specs.Ruling.{ruledBy}
 use Rattle.packet.specs.Judgement.{meant}
 use Rattle.collector.specs.Refusals.{beforeOf}
-use Rattle.collector.specs.Answer.{Outcome}
-use Rattle.collector.specs.Collected.{outcomeOf}
+use Rattle.collector.specs.Answer.{Outcome, taken}
+use Rattle.collector.specs.Collected.{unaltered, outcomeOf}
+use Rattle.collector.specs.declared.Record.{Record}
 use Rattle.collector.proofs.Fits.{fit-of}
 use Rattle.collector.proofs.step.Statement.{statement}
 use Rattle.collector.proofs.step.Tie as tie
@@ -27,19 +28,24 @@ judge-requires c κs = search needs
 enum-known-v : tie.Need-enum-known-v
 enum-known-v c = search needs
 
-enum-told : tie.Need-enum-told
-enum-told c = search needs
-
 enum-known-v-2 : tie.Need-enum-known-v-2
 enum-known-v-2 c = search needs
+
+marked-requires : tie.Need-marked-requires
+marked-requires c κs = search needs
+
+enum-known-v-3 : tie.Need-enum-known-v-3
+enum-known-v-3 c = search needs
 
 carried-requires : tie.Need-carried-requires
 carried-requires c κs =
     let v = c .before .before .before in
     let j = v .before .before in
     let a = start j .args in
-    fit-of (a .rec) (a .hold .now) (a .out .now) (a .packet .now) (v .v2 .given .0 .0) (v .v2 .given .0 .1 .0)
-    (v .v2 .given .0 .1 .1 .0) (sym (j .judge .ensures) ∙ ap meant (v .v2 .given .1))
+    let given = v .v3 .given in
+    let behind = given .0 .1 .1 in
+    fit-of (a .rec) (a .hold .now) (a .out .now) (a .packet .now) (given .0 .0) (given .0 .1 .0) (behind .0) (behind .1 .0)
+    (sym (j .judge .ensures) ∙ ap meant (given .1))
 
 same-length : tie.Need-same-length
 same-length c = search needs
@@ -55,8 +61,11 @@ same-length-2 c = search needs
 
 returns-2 : tie.Need-returns-2
 returns-2 c =
-    let j = c .before .before in
-    ap (outcome (start j)) (sym (ap meant (c .enum-told .given .1)) ∙ j .judge .ensures)
+    let v = c .before .before in
+    let j = v .before .before in
+    let a = start j .args in
+    ap (λ (r : Record). unaltered r (a .hold .now) (a .out .now) (taken 0 0)) (c .marked .ensures)
+    ∙ ap (outcome (start j)) (sym (ap meant (v .v2 .given .1)) ∙ j .judge .ensures)
 
 same-length-3 : tie.Need-same-length-3
 same-length-3 c = search needs
@@ -68,13 +77,13 @@ returns-3 : tie.Need-returns-3
 returns-3 c =
     let after-hold = c .before .before .before in
     let k = after-hold .before in
-    let after-known-told2 = k .before .before .before in
-    let v = after-known-told2 .before in
+    let after-known-told3 = k .before .before .before in
+    let v = after-known-told3 .before in
     let j = v .before .before in
-    k .carried .ensures ∙ ap (outcome (start j)) (sym (ap meant (v .v2 .given .1)) ∙ j .judge .ensures)
+    k .carried .ensures ∙ ap (outcome (start j)) (sym (ap meant (v .v3 .given .1)) ∙ j .judge .ensures)
 
 pub step-spec : {M : Type 1} → statement M
 step-spec =
     tie.close
-    (tie.spec judge-requires enum-known-v enum-told enum-known-v-2 carried-requires same-length returns same-length-2
-    returns-2 same-length-3 same-length-4 returns-3)
+    (tie.spec judge-requires enum-known-v enum-known-v-2 marked-requires enum-known-v-3 carried-requires same-length
+    returns same-length-2 returns-2 same-length-3 same-length-4 returns-3)

@@ -8,7 +8,7 @@ use Rattle.collector.specs.declared.Record.{Record}
 use Rattle.collector.specs.declared.Last.the-variants.{Counter}
 use Rattle.collector.specs.declared.stretch.Gain.{Gain}
 
--- what a break in the counter leaves of n bytes in hand
+-- what is left of n bytes in hand, which go on in the packet or are broken off
 abbrev pub keptOf : Bool → ℕ → ℕ
 keptOf true n = n
 keptOf false n = 0
@@ -17,7 +17,7 @@ abbrev pub pointCount : Bool → ℕ
 pointCount true = 1
 pointCount false = 0
 
--- the bytes of each kind that a packet adds; of those broken off a break in the counter took some from hand
+-- the bytes of each kind that a packet adds; of those broken off some were in hand before it
 abbrev pub addedBy : Gain → ℕ → Bool → Kind → ℕ
 addedBy e lost start k =
     if sameKind k pointer then pointCount start else
@@ -28,4 +28,4 @@ addedBy e lost start k =
 
 abbrev pub countedOf : Record → ℕ → Gain → ℕ → Bool → Record
 countedOf r counter e lost start =
-    recordWith (r .pid) (Counter counter) (e .in_hand) (λ k. (bytesCounted (done k) r + addedBy e lost start k) % 2 ^ 32)
+    recordWith (r .pid) (Counter counter) false (e .in_hand) (λ k. (bytesCounted (done k) r + addedBy e lost start k) % 2 ^ 32)

@@ -46,7 +46,7 @@ returns c =
     let after-struct-known2 = k .before .before .before in
     let point = after-struct-known2 .before .before in
     let a = point .before .args in
-    same-record _ _ refl refl refl
+    same-record _ _ refl refl refl refl
     (byKind (λ j. bytesCounted (done j) _ ≡ bytesCounted (done j) _)
     (k .wrapping-add-u32 .ensures ∙ ap (λ (n : ℕ). (a .rec .pointer + n) % 2 ^ 32) (point .point-count .ensures))
     (after-wrapping-add-u322 .wrapping-add-u322 .ensures) (wrapping-add-u323 .ensures)

@@ -28,7 +28,7 @@ returns c =
     let read = k .before .before in
     let s = read .before .before in
     sym
-    (pointer-past (s .args .packet .now) (s .args .from) (s .pre) (eq-eqb _ _ (k .if1 .taken))
+    (pointer-past (s .args .packet .now) (s .args .from) (s .args .splice) (s .pre) (eq-eqb _ _ (k .if1 .taken))
     (omega (arith, c .before .wide .ensures .same)))
 
 returns-2 : tie.Need-returns-2
@@ -37,14 +37,14 @@ returns-2 c =
     let read = k .before .before in
     let s = read .before .before in
     sym
-    (pointer-within (s .args .packet .now) (s .args .from) (s .pre) (eq-eqb _ _ (k .if1 .taken))
+    (pointer-within (s .args .packet .now) (s .args .from) (s .args .splice) (s .pre) (eq-eqb _ _ (k .if1 .taken))
     (omega (arith, c .before .wide .ensures .same)))
 
 returns-3 : tie.Need-returns-3
 returns-3 c =
     let read = c .before .before in
     let s = read .before .before in
-    sym (no-pointer (s .args .packet .now) (s .args .from) (s .pre) (ne-eqb _ _ (c .if1 .left)))
+    sym (no-pointer (s .args .packet .now) (s .args .from) (s .args .splice) (s .pre) (ne-eqb _ _ (c .if1 .left)))
 
 pub aimed-spec : {M : Type 1} → statement M
 aimed-spec =
