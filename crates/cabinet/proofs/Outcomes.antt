@@ -77,6 +77,26 @@ collect-refused r hold out packet h =
     ∙ ap (λ (y : Record). Collect.leaves y hold out (collectSays (outcomeOf x hold out ruled .said)))
     (record-kept r)
 
+-- nor does one whose packet is repeated: "nothing changes"
+repeated-by : (x : of-collector.Record) (hold out : List ℕ) (ruled : Ruling)
+    → (collectSays (outcomeOf x hold out ruled .said) .repeated ≡ 0 → ⊥)
+    → outcomeOf x hold out ruled ≡ unaltered x hold out (outcomeOf x hold out ruled .said)
+repeated-by x hold out (refuses n) h = absurd (h refl)
+repeated-by x hold out repeated h = refl
+repeated-by x hold out (bare splice) h = absurd (h refl)
+repeated-by x hold out (takes q) h = absurd (h refl)
+
+pub collect-repeated : (r : Record) (hold out packet : List ℕ)
+    → (collecting r hold out packet .answer .repeated ≡ 0 → ⊥)
+    → collecting r hold out packet ≡ Collect.leaves r hold out (collecting r hold out packet .answer)
+unfolding collecting
+collect-repeated r hold out packet h =
+    let x = recordIn r in
+    let ruled = ruling (tooSmall (length hold) (length out)) (cannotStand x hold) (x .pid) (beforeOf x) packet in
+    ap (Collect.outcomeSays r) (repeated-by x hold out ruled h)
+    ∙ ap (λ (y : Record). Collect.leaves y hold out (collectSays (outcomeOf x hold out ruled .said)))
+    (record-kept r)
+
 kept-by : (r : numbers.Roll) (after : of-roll.Roll) (says : Says) → (Roll.rollAnswer says .number ≡ 0 → ⊥) → Roll.keeps r after says ≡ r
 kept-by r after (missing n) h = absurd (h refl)
 kept-by r after complete h = absurd (h refl)

@@ -17,8 +17,8 @@ pub enum Last {
     Counter(u8),
 }
 
-// "It has the PID, the last counter or none, the bytes in hand, five 32-bit counters", and the mark of a splice. The bytes in hand stand at the
-// start of the hold.
+// "It has the PID, the last counter or none, the bytes in hand, five 32-bit counters"; "The record gains a mark." The bytes
+// in hand stand at the start of the hold.
 pub struct Record {
     pub pid: u16,
     pub last: Last,

@@ -75,8 +75,8 @@ fn point_count(start: bool) -> u32
     if start { 1 } else { 0 }
 }
 
-// The record after a packet that is taken with payload, which ".. clears" the mark; broken bytes were in hand and are broken off by a break in the
-// counter or by the mark.
+// The record after a packet that is taken with payload, which ".. clears" the mark; broken bytes were in hand and are
+// broken off by a break in the counter or by the mark.
 fn counted(rec: Record, counter: u8, e: Gain, broken: usize, start: bool) -> Record
     requires { ⌜ Small e × (broken < 4096) ⌝ }
     ensures { λ r. ⌜ r ≡ countedOf rec counter e broken start ⌝ }

@@ -172,7 +172,8 @@ module _ {pid size : ℕ} {r : Record} {hold : List ℕ} {before : Before} {h : 
     beside-after =
         subst
         (λ (bs : List ℕ). Beside valueOf base secs
-        (storyAfter comes plain (h .last) (holding hand) (record { counter = q .counter; start = q .start; spliced = q .spliced; bytes = bs }))
+        (storyAfter comes plain (h .last) (holding hand)
+        (record { counter = q .counter; start = q .start; spliced = q .spliced; bytes = bs }))
         (historyAfter comes h q .story))
         (values-of (h .packets) (q .bytes))
         (beside-taken comes valueOf base secs (h .last) (holding hand) (h .story) (numberedIn (h .packets) q) beside)

@@ -83,28 +83,32 @@ not-repeated false false again = (
   λ v. ⊎-elim (λ u. ⊎-elim (λ w. absurd (true-not-false (sym w))) (λ w. absurd (true-not-false (sym w))) u) (λ u. u) v,
 )
 
-module _ (small unfit : Bool) (pid : ℕ) (before : Before) (p : List ℕ) where
-  abbrev rows : List Row
-  rows = refusals small unfit pid p
-
+-- a packet that no row refuses, after the packets before
+module _ (before : Before) (p : List ℕ) where
+  -- its load, where it has payload
   abbrev pub here : Carried ℕ
   here = loadOf (markWith before (discontinuity p)) p (payloadFrom p) (startFlag p) (counterOf p)
 
+  -- whether it is then a repeated one
   abbrev pub again : Bool
   again = repeats (before .last) (markWith before (discontinuity p)) (counterOf p)
 
-  -- what no row refuses, by its adaptation control
+  -- the ruling, by its adaptation control
   abbrev pub passedOn : Bool → Ruling
   passedOn t =
       ruledBy before p
       (if t then Refusals.bare (discontinuity p)
       else has-payload (payloadFrom p) (startFlag p) (counterOf p) (discontinuity p))
 
+module _ (small unfit : Bool) (pid : ℕ) (before : Before) (p : List ℕ) where
+  abbrev rows : List Row
+  rows = refusals small unfit pid p
+
   -- ---- refused exactly with the first row that applies
 
-  unrefused : (n : ℕ) (t : Bool) → ruledFare (passedOn t) ≡ R.refusedBy n → ⊥
+  unrefused : (n : ℕ) (t : Bool) → ruledFare (passedOn before p t) ≡ R.refusedBy n → ⊥
   unrefused n true e = let z : _≡_ {A = ℕ} 2 0 = ap fareNumber e in omega arith
-  unrefused n false e = new-unrefused n here again e
+  unrefused n false e = new-unrefused n (here before p) (again before p) e
 
   refused-at : (n : ℕ) (o : Option ℕ) → (ruledFare (ruledBy before p (judgedBy o p)) ≡ R.refusedBy n) ↔ (o ≡ some n)
   refused-at n (some m) = (λ e. ap some (ap numberIn e), λ e. let same : m ≡ n = cc in ap R.refusedBy same)
@@ -126,11 +130,11 @@ module _ (small unfit : Bool) (pid : ℕ) (before : Before) (p : List ℕ) where
   Is z = (ruledFare z ≡ taken)
       ↔ (Each (λ row. row .applies ≡ false) rows × NotRepeated before p)
 
-  passed-if : (t : Bool) → eqb (control p) 2 ≡ t → Each (λ row. row .applies ≡ false) rows → Is (passedOn t)
+  passed-if : (t : Bool) → eqb (control p) 2 ≡ t → Each (λ row. row .applies ≡ false) rows → Is (passedOn before p t)
   unfolding repeats
   passed-if true e w = (λ v. (w, inl (eqb-true _ _ e)), λ v. refl)
   passed-if false e w =
-      let f = new-taken here again in
+      let f = new-taken (here before p) (again before p) in
       let g = not-repeated (before .mark) (discontinuity p) (equalTo (before .last) (counterOf p)) in
       (λ v. (w, inr (g .0 (f .0 v))), λ v. ⊎-elim (λ u. absurd (eqb-false _ _ e u)) (λ u. f .1 (g .1 u)) (v .1))
 
@@ -151,19 +155,19 @@ module _ (small unfit : Bool) (pid : ℕ) (before : Before) (p : List ℕ) where
     pub carried : ifSaidTaken (before .mark) (ruledFare z) p ≡ ruledIn z
     pub mark : saidMark (before .mark) (ruledFare z) p ≡ beforeAfter before z .mark
 
-  new-alike : (t : Bool) → eqb (control p) 2 ≡ false → Alike (if t then Ruled.repeated else takes here)
+  new-alike : (t : Bool) → eqb (control p) 2 ≡ false → Alike (if t then Ruled.repeated else takes (here before p))
   new-alike true e = record { carried = refl; mark = refl }
   new-alike false e = record {
-    carried = ap (λ (t : Bool). if t then [] else here ∷ []) e;
+    carried = ap (λ (t : Bool). if t then [] else here before p ∷ []) e;
     mark = ap (λ (t : Bool). if t then markWith before (discontinuity p) else false) e;
   }
 
-  alike-passed : (t : Bool) → eqb (control p) 2 ≡ t → Alike (passedOn t)
+  alike-passed : (t : Bool) → eqb (control p) 2 ≡ t → Alike (passedOn before p t)
   alike-passed true e = record {
-    carried = ap (λ (t : Bool). if t then [] else here ∷ []) e;
+    carried = ap (λ (t : Bool). if t then [] else here before p ∷ []) e;
     mark = ap (λ (t : Bool). if t then markWith before (discontinuity p) else false) e;
   }
-  alike-passed false e = new-alike again e
+  alike-passed false e = new-alike (again before p) e
 
   alike-at : (o : Option ℕ) → Alike (ruledBy before p (judgedBy o p))
   alike-at (some n) = record { carried = refl; mark = refl }

@@ -1,24 +1,23 @@
 -- A splice that came, with payload or without, is noted: the next packet with payload that is taken is behind a mark.
 use mathlib.Core.Path.{_≡_, refl, sym, ap, _∙_, subst}
-use mathlib.Core.Bool.{Bool, true, false, not, _&&_, _||_}
-use mathlib.Core.List.{List, [], _∷_, _++_, append-assoc, map, map-append}
+use mathlib.Core.Bool.{Bool, true, false, _||_}
+use mathlib.Core.List.{List, [], _∷_, _++_, append-assoc, map}
 use mathlib.Core.Option.{Option, none, some}
-use Prim.Native.Nat.{ℕ, suc, _+_}
-use native.Mathlib.Omega.{arith}
-use lib.ListN.{length, getD, length-append}
+use Prim.Native.Nat.{ℕ, _+_}
+use lib.ListN.{length, length-append}
 use lib.Dec.{ltb, eqb}
 use Rattle.wire.specs.If.{if_then_else_}
 use Rattle.wire.specs.Each.{Each}
 use Rattle.wire.proofs.IfLaws.{if-case, true-not-false}
 use Rattle.wire.proofs.EachLaws.{each-append}
-use Rattle.packet.specs.Header.{startFlag, control, counterOf, discontinuity, payloadFrom}
-use Rattle.packet.specs.Ruling.{Before, markWith, repeats, Carried, Ruling, takes, loadOf, ruledBy, ruling}
+use Rattle.packet.specs.Header.{control, counterOf, discontinuity}
+use Rattle.packet.specs.Ruling.{Before, markWith, repeats, Carried, Ruling, takes, ruledBy, ruling}
 use Rattle.packet.specs.Ruling as Ruled
 use Rattle.packet.specs.Refusals.{refusals, firstOf, judgedBy, judged}
 use Rattle.collector.specs.Refusals.{tooSmall}
 use Rattle.history.specs.Run as R
 use Rattle.history.specs.Run.{Call, Fare, fareOf, ruledFare, ifSaidTaken, ifSpliced, splicesFrom, Lent, lentOf, rulingOn, beforeAfter, ruledIn, faresFrom, ruledTaken}
-use Rattle.history.proofs.FaresByTable.{fares-cut, ruled-alike}
+use Rattle.history.proofs.FaresByTable.{here, again, fares-cut, ruled-alike}
 use Rattle.history.proofs.NoSpan.{splicedAt}
 
 -- ---- one packet
@@ -43,13 +42,9 @@ repeated-unmarked last false true counter e = absurd (true-not-false (sym e))
 repeated-unmarked last false false counter e = refl
 
 module _ (before : Before) (p : List ℕ) where
-  abbrev here : Carried ℕ
-  here = loadOf (markWith before (discontinuity p)) p (payloadFrom p) (startFlag p) (counterOf p)
-
-  noted-payload : Noted before p
-      (if repeats (before .last) (markWith before (discontinuity p)) (counterOf p) then Ruled.repeated else takes here)
+  noted-payload : Noted before p (if again before p then Ruled.repeated else takes (here before p))
   noted-payload =
-      if-case (Noted before p) (repeats (before .last) (markWith before (discontinuity p)) (counterOf p))
+      if-case (Noted before p) (again before p)
       (λ e. repeated-unmarked (before .last) (before .mark) (discontinuity p) (counterOf p) e) (λ e. refl)
 
   noted-by : (o : Option ℕ) → Noted before p (ruledBy before p (judgedBy o p))

@@ -1,25 +1,24 @@
 -- Request (ix): each of its statements holds of the promise that `step` and `collect` make.
 use mathlib.Core.Path.{_≡_, refl, sym, ap, _∙_, subst}
-use mathlib.Core.Bool.{Bool, true, false, not, _&&_, _||_}
+use mathlib.Core.Bool.{Bool, true, false, _&&_, _||_}
 use mathlib.Core.List.{List, [], flatten}
 use mathlib.Core.Logic.{_⊎_, _↔_, inl, inr, ⊎-elim}
 use Prim.Native.Nat.{ℕ, zero, suc, _+_, _%_, _^_, _≤_}
 use native.Mathlib.Omega.{arith}
-use lib.ListN.{length, take, drop, getD}
+use lib.ListN.{length, take, getD}
 use lib.Seq.{length-take-le}
 use lib.Dec.{ltb, leb, eqb}
 use borrow.Author.Tests.{leb-true, le-leb, ltb-false, eq-eqb, ne-eqb, eqb-true, eqb-false}
 use Rattle.wire.specs.If.{if_then_else_}
 use Rattle.wire.specs.Each.{Each}
-use Rattle.wire.proofs.IfLaws.{if-case}
 use Rattle.copy.specs.Laid.{over}
 use Rattle.packet.specs.Header.{startFlag, control, counterOf, adaptation, bitOfField, discontinuity, payloadFrom, payloadOf}
 use Rattle.packet.specs.Refusals.{Row, refusals, has-payload, judgedBy, judged}
-use Rattle.packet.specs.Ruling.{Before, markWith, repeats, joins, Ruling, takes, ruledBy, ruling}
+use Rattle.packet.specs.Ruling.{markWith, repeats, joins, Ruling, takes, ruledBy, ruling}
 use Rattle.packet.specs.Ruling as Ruled
 use Rattle.packet.proofs.Table.{or-false, all-passed}
 use Rattle.collector.specs.Refusals.{beforeOf, cannotStand, tooSmall}
-use Rattle.collector.specs.Rules.{Kind, pointer, delivered, broken, filler, skipped, byKind, done, Story, sameKind, countOf, handOf, brokenOff, holding, joined, plain, sectionsOf, payload, delivers}
+use Rattle.collector.specs.Rules.{Kind, pointer, delivered, broken, filler, skipped, byKind, done, Story, sameKind, countOf, handOf, holding, joined, plain, sectionsOf, payload, delivers}
 use Rattle.collector.specs.Answer.{Outcome, repeated, taken}
 use Rattle.collector.specs.Answer as Answer
 use Rattle.collector.specs.Collected.{bytesCounted, recordWith, unaltered, markedBy, outcomeAfter, outcomeOf, collected, deliveredOf}
@@ -29,11 +28,10 @@ use Rattle.collector.proofs.Fits.{few-held}
 use Rattle.collector.proofs.Outcomes.{lost, beside-break}
 use Rattle.collector.proofs.Simulation.{Beside}
 use Rattle.collector.proofs.PayloadLaws.{same-hand, more-sections}
-use Rattle.history.specs.Run.{Promised, fareOf, ruledFare}
+use Rattle.history.specs.Run.{Promised, fareOf}
 use Rattle.history.specs.Run as R
-use Rattle.history.specs.Splices.{HasBit, NotRefused, Marked, anew, breakingOff, withMarkOf, BareSetsTheMark, MarkedIsTaken, MarkedBreaksOff, PayloadClears, RepeatedUnaltered}
+use Rattle.history.specs.Splices.{HasBit, NotRefused, Marked, anew, breakingOff, BareSetsTheMark, MarkedIsTaken, MarkedBreaksOff, PayloadClears, RepeatedUnaltered}
 use Rattle.history.proofs.FaresByTable.{fareNumber, here, again, passedOn}
-use Rattle.history.proofs.Demand1.{fare-is}
 
 -- ---- the bit
 
@@ -86,7 +84,7 @@ module _ (r : Record) (hold out p : List ℕ) (w : NotRefused r hold out p) wher
   unfit = cannotStand r hold
 
   abbrev ruled : Bool → Ruling
-  ruled t = passedOn small unfit (r .pid) (beforeOf r) p t
+  ruled t = passedOn (beforeOf r) p t
 
   is-ruled : collected r hold out p ≡ outcomeOf r hold out (ruled (eqb (control p) 2))
   unfolding judged
@@ -113,15 +111,12 @@ bare-sets-the-mark r hold out p o x w e =
 -- ---- with payload
 
 module _ (r : Record) (hold out p : List ℕ) (w : NotRefused r hold out p) (n : control p ≡ 2 → ⊥) where
-  abbrev repeat : Bool
-  repeat = again (small r hold out p w) (unfit r hold out p w) (r .pid) (beforeOf r) p
-
   -- as it is a repeated one or not
   abbrev ruledAs : Bool → Ruling
-  ruledAs t = if t then Ruled.repeated else takes (here (small r hold out p w) (unfit r hold out p w) (r .pid) (beforeOf r) p)
+  ruledAs t = if t then Ruled.repeated else takes (here (beforeOf r) p)
 
   -- behind a mark it is not
-  not-again : Marked r p → repeat ≡ false
+  not-again : Marked r p → again (beforeOf r) p ≡ false
   unfolding repeats
   not-again m = rw (marked-exactly r p .1 m)
 
@@ -136,8 +131,6 @@ module _ (r : Record) (hold out p : List ℕ) (w : NotRefused r hold out p) (n :
 pub marked-is-taken : MarkedIsTaken Promised
 marked-is-taken r hold out p o x w m = by (eqb (control p) 2) refl
   where
-    fare : Outcome → R.Fare
-    fare y = fareOf (y .said)
     by : (t : Bool) → eqb (control p) 2 ≡ t → fareOf (o .said) ≡ R.taken
     by true e = ap (λ (y : Outcome). fareOf (y .said)) (x ∙ bare-is r hold out p w (eqb-true _ _ e))
     by false e = ap (λ (y : Outcome). fareOf (y .said)) (x ∙ taken-is r hold out p w (eqb-false _ _ e) m)
@@ -146,7 +139,7 @@ pub payload-clears : PayloadClears Promised
 payload-clears r hold out p o x w n e =
     let is = x ∙ payload-is r hold out p w n in
     ap (λ (y : Outcome). y .rec .mark) is
-    ∙ cleared r hold out p w n (repeat r hold out p w n) (ap (λ (y : Outcome). fareOf (y .said)) (sym is) ∙ e)
+    ∙ cleared r hold out p w n (again (beforeOf r) p) (ap (λ (y : Outcome). fareOf (y .said)) (sym is) ∙ e)
 
 -- ---- "repeated", nothing changes
 

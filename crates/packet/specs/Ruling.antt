@@ -38,8 +38,8 @@ abbrev pub nextTo : Option ℕ → ℕ → Bool
 nextTo none counter = true
 nextTo (some last) counter = eqb counter ((last + 1) % 16)
 
--- "If the counter isn't the last plus 1 modulo 16, what is in hand is broken off"; and the packet behind a mark ".. breaks off what is in hand".
--- Without a last counter nothing is in hand.
+-- "If the counter isn't the last plus 1 modulo 16, what is in hand is broken off"; and the packet behind a mark ".. breaks
+-- off what is in hand". Without a last counter nothing is in hand.
 unfoldable pub joins : Option ℕ → Bool → ℕ → Bool
 joins last spliced counter = not spliced && nextTo last counter
 
@@ -60,8 +60,8 @@ loadOf spliced packet from start counter = record { counter = counter; start = s
 
 -- ---- the ruling
 
--- "Control 10: taken, no payload, nothing changes", but for the mark. "Else a counter equal to the last: "repeated", nothing changes", unless
--- the mark is set. "Else taken."
+-- "Control 10: taken, no payload, nothing changes", but for the mark. "Else a counter equal to the last: "repeated",
+-- nothing changes", unless the mark is set. "Else taken."
 pub data Ruling : Type 0 where
   refuses : ℕ → Ruling
   repeated : Ruling

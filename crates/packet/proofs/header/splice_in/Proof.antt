@@ -1,5 +1,4 @@
 -- `packet::header::splice_in` meets its contract: an empty field has no bit.
-use mathlib.Core.Path.{sym}
 use Prim.Native.Nat.{_≤_}
 use native.Mathlib.Omega.{arith}
 use lib.ListN.{getD}
