@@ -80,10 +80,10 @@ pub fn step(rec: Record, hold: &mut [u8], out: &mut [u8], packet: &[u8]) -> Step
             },
         },
         Judgement::Payload {
-            from,
+            splice,
             start,
             counter,
-            splice,
+            from,
         } => taking::carried(rec, hold, out, packet, from, start, counter, splice),
     }
 }

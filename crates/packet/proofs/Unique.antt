@@ -37,13 +37,13 @@ refusal-at Pointer = refl
 judgementAt : Judged → Judgement
 judgementAt (refuse n) = Refuse (refusalAt n)
 judgementAt (bare splice) = Bare splice
-judgementAt (has-payload from start counter splice) = Payload from start counter splice
+judgementAt (has-payload from start counter splice) = Payload splice start counter from
 
 judgement-at : (a : Judgement) → judgementAt (meant a) ≡ a
 unfolding judgementAt
 judgement-at (Refuse x) = ap Refuse (refusal-at x)
 judgement-at (Bare splice) = refl
-judgement-at (Payload from start counter splice) = refl
+judgement-at (Payload splice start counter from) = refl
 
 pub meant-once : (a b : Judgement) → meant a ≡ meant b → a ≡ b
 meant-once a b e = sym (judgement-at a) ∙ ap judgementAt e ∙ judgement-at b

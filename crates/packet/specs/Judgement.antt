@@ -20,4 +20,4 @@ numberOf Pointer = 49
 abbrev pub meant : Judgement → Judged
 meant (Refuse refusal) = refuse (numberOf refusal)
 meant (Bare splice) = bare splice
-meant (Payload from start counter splice) = has-payload from start counter splice
+meant (Payload splice start counter from) = has-payload from start counter splice

@@ -30,17 +30,17 @@ fn aimed(packet: &[u8], from: usize, splice: bool) -> Judgement
             return Judgement::Refuse(Refusal::Pointer);
         }
         return Judgement::Payload {
-            from,
+            splice,
             start: true,
             counter,
-            splice,
+            from,
         };
     }
     Judgement::Payload {
-        from,
+        splice,
         start: false,
         counter,
-        splice,
+        from,
     }
 }
 

@@ -27,10 +27,10 @@ pub enum Judgement {
         splice: bool,
     },
     Payload {
-        from: usize,
+        splice: bool,
         start: bool,
         counter: u8,
-        splice: bool,
+        from: usize,
     },
 }
 

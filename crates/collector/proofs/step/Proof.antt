@@ -44,7 +44,7 @@ carried-requires c κs =
     let a = start j .args in
     let given = v .v3 .given in
     let behind = given .0 .1 .1 in
-    fit-of (a .rec) (a .hold .now) (a .out .now) (a .packet .now) (given .0 .0) (given .0 .1 .0) (behind .0) (behind .1 .0)
+    fit-of (a .rec) (a .hold .now) (a .out .now) (a .packet .now) (behind .1 .0) (given .0 .1 .0) (behind .0) (given .0 .0)
     (sym (j .judge .ensures) ∙ ap meant (given .1))
 
 same-length : tie.Need-same-length
