@@ -35,7 +35,8 @@ pub record Mark (A : Type 0) : Type 0 where
   pub byte : A
   pub fate : Fate
 
--- marks: one for each byte of payload so far, in order; sections: those that came whole so far, in order, each with its bytes
+-- marks: one for each byte of payload so far, in order, which tells its fate, and is not the mark of a splice, which a
+-- record has; sections: those that came whole so far, in order, each with its bytes
 pub record Story (A : Type 0) : Type 0 where
   pub marks : List (Mark A)
   pub sections : List (List A)

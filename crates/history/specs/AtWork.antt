@@ -341,13 +341,13 @@ the-mark-stands =
     ∷ bareWith 0x00 gives taken 0 0
     ∷ [])
 
--- a refused packet sets nothing, whatever its bits
+-- a refused packet sets nothing, though it has the bit
 abbrev pub refused-sets-nothing : Story
 refused-sets-nothing =
     fromFresh 20 (recordOf 20 None 0 0 0 0 0 0)
     (filled (0x47 ∷ 0x00 ∷ 0x14 ∷ 0xA0 ∷ 183 ∷ 0x80 ∷ []) gives refusedWith 47
     ∷ filled (0x47 ∷ 0x00 ∷ 0x14 ∷ 0x20 ∷ 182 ∷ 0x80 ∷ []) gives refusedWith 48
-    ∷ starts 0 (0x80 ∷ []) gives refusedWith 49
+    ∷ filled (0x47 ∷ 0x40 ∷ 0x14 ∷ 0x30 ∷ 182 ∷ 0x80 ∷ []) gives refusedWith 49
     ∷ [])
 
 -- "An adaptation field of at least one byte": none, an empty one, one of one byte without the bit, and with it
