@@ -18,6 +18,10 @@ from source import code  # noqa: E402
 
 Wrong = collections.namedtuple('Wrong', 'label functions pairs')
 HEAD = re.compile(r'^wrong: (\w+) of ([\w:]+(?:, [\w:]+)*)$')
+ERROR = re.compile(r'^(\S+?):\d+:\d+: error: (.*(?:\n +has no field .*)?)$', re.M)
+NO_PROOF = re.compile(r'^fn (\w+)::([\w:]+): no proof: expected .*?; (.*)$', re.M)
+FALLS_WITH_ANOTHER = re.compile(r'was not admitted|which (?:is|are) not proved')
+SHOWS_NOTHING = re.compile(FALLS_WITH_ANOTHER.pattern + r'|that can be named from here|has no field')
 
 
 def read(path):
@@ -62,3 +66,20 @@ def alters_code(crate, wrong):
             if code(text) != code(text.replace(old, new)):
                 return True
     return False
+
+
+def faults_in(log, place, left_out=SHOWS_NOTHING):
+    """What fails by itself: functions, and files that are no function's proof; place is where the edited crate stood."""
+    functions, files = set(), set()
+    for path, said in ERROR.findall(log):
+        path = path.split(place)[-1]
+        if left_out.search(said):
+            continue
+        if path.startswith('proofs/') and path.endswith('/Proof.antt'):
+            functions.add('::'.join(path.split('/')[1:-1]))
+        elif not path.startswith('src/'):
+            files.add(path)
+    for _, function, said in NO_PROOF.findall(log):
+        if re.search(r'does not close', said):
+            functions.add(function)
+    return functions, files
