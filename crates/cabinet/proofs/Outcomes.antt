@@ -59,43 +59,32 @@ record-kept r =
 -- ---- "the record and all lent room unaltered"
 
 unaltered-by : (x : of-collector.Record) (hold out : List ℕ) (ruled : Ruling)
-    → (collectSays (outcomeOf x hold out ruled .said) .number ≡ 0 → ⊥)
+    → let a = collectSays (outcomeOf x hold out ruled .said) in (a .number ≡ 0 → a .repeated ≡ 0 → ⊥)
     → outcomeOf x hold out ruled ≡ unaltered x hold out (outcomeOf x hold out ruled .said)
 unaltered-by x hold out (refuses n) h = refl
-unaltered-by x hold out repeated h = absurd (h refl)
-unaltered-by x hold out (bare splice) h = absurd (h refl)
-unaltered-by x hold out (takes q) h = absurd (h refl)
+unaltered-by x hold out repeated h = refl
+unaltered-by x hold out (bare splice) h = absurd (h refl refl)
+unaltered-by x hold out (takes q) h = absurd (h refl refl)
 
--- a call that gives a number alters nothing that was lent
-pub collect-refused : (r : Record) (hold out packet : List ℕ) → (collecting r hold out packet .answer .number ≡ 0 → ⊥)
-    → collecting r hold out packet ≡ Collect.leaves r hold out (collecting r hold out packet .answer)
+unaltered-unless : (r : Record) (hold out packet : List ℕ) → let o = collecting r hold out packet in
+    (o .answer .number ≡ 0 → o .answer .repeated ≡ 0 → ⊥) → o ≡ Collect.leaves r hold out (o .answer)
 unfolding collecting
-collect-refused r hold out packet h =
+unaltered-unless r hold out packet h =
     let x = recordIn r in
     let ruled = ruling (tooSmall (length hold) (length out)) (cannotStand x hold) (x .pid) (beforeOf x) packet in
     ap (Collect.outcomeSays r) (unaltered-by x hold out ruled h)
     ∙ ap (λ (y : Record). Collect.leaves y hold out (collectSays (outcomeOf x hold out ruled .said)))
     (record-kept r)
 
--- nor does one whose packet is repeated: "nothing changes"
-repeated-by : (x : of-collector.Record) (hold out : List ℕ) (ruled : Ruling)
-    → (collectSays (outcomeOf x hold out ruled .said) .repeated ≡ 0 → ⊥)
-    → outcomeOf x hold out ruled ≡ unaltered x hold out (outcomeOf x hold out ruled .said)
-repeated-by x hold out (refuses n) h = absurd (h refl)
-repeated-by x hold out repeated h = refl
-repeated-by x hold out (bare splice) h = absurd (h refl)
-repeated-by x hold out (takes q) h = absurd (h refl)
-
-pub collect-repeated : (r : Record) (hold out packet : List ℕ)
-    → (collecting r hold out packet .answer .repeated ≡ 0 → ⊥)
+-- a call that gives a number alters nothing that was lent
+pub collect-refused : (r : Record) (hold out packet : List ℕ) → (collecting r hold out packet .answer .number ≡ 0 → ⊥)
     → collecting r hold out packet ≡ Collect.leaves r hold out (collecting r hold out packet .answer)
-unfolding collecting
-collect-repeated r hold out packet h =
-    let x = recordIn r in
-    let ruled = ruling (tooSmall (length hold) (length out)) (cannotStand x hold) (x .pid) (beforeOf x) packet in
-    ap (Collect.outcomeSays r) (repeated-by x hold out ruled h)
-    ∙ ap (λ (y : Record). Collect.leaves y hold out (collectSays (outcomeOf x hold out ruled .said)))
-    (record-kept r)
+collect-refused r hold out packet h = unaltered-unless r hold out packet (λ e _. h e)
+
+-- nor does one whose packet is repeated: "nothing changes"
+pub collect-repeated : (r : Record) (hold out packet : List ℕ) → (collecting r hold out packet .answer .repeated ≡ 0 → ⊥)
+    → collecting r hold out packet ≡ Collect.leaves r hold out (collecting r hold out packet .answer)
+collect-repeated r hold out packet h = unaltered-unless r hold out packet (λ _ e. h e)
 
 kept-by : (r : numbers.Roll) (after : of-roll.Roll) (says : Says) → (Roll.rollAnswer says .number ≡ 0 → ⊥) → Roll.keeps r after says ≡ r
 kept-by r after (missing n) h = absurd (h refl)

@@ -1,7 +1,7 @@
 -- Over any run from a fresh record: the record, the hold and what came out are those of the history of the packets
 -- taken.
 use mathlib.Core.Path.{_≡_, refl, sym, ap, _∙_, subst}
-use mathlib.Core.Bool.{Bool, true, false, _||_}
+use mathlib.Core.Bool.{Bool, true, false}
 use mathlib.Core.List.{List, [], _∷_, _++_, append-assoc, append-nil, map, map-id, flatten}
 use mathlib.Core.Option.{Option}
 use Prim.Native.Nat.{ℕ, suc, _+_, _%_, _^_, _≤_}
@@ -36,6 +36,7 @@ use Rattle.packet.proofs.Table.{or-false, payload-of}
 use Rattle.history.specs.History.{Byte, valueOf, numbered, History, unbegun, numberedIn, historyAfter, historyFrom}
 use Rattle.history.specs.Run.{Promised, Call, Run, no-call, one-call, fareOf, ruledFare, lentOf, rulingOn, beforeAfter, ruledIn, faresFrom, ruledTaken, beforeFrom, cut, handedBy, handed, bytesBy, toldBy}
 use Rattle.history.specs.Demand3.{Counted, deliveredIn}
+use Rattle.history.proofs.TestLaws.{or-none}
 use Rattle.history.proofs.LeftInHand.{Standing, standing-none, stands-taken, few-standing, stands-after}
 
 -- ---- sections cut by their own headers
@@ -65,10 +66,6 @@ whole-taken comes last h q =
     (any (q .bytes)) tt)
 
 -- ---- what a ruling tells of a packet that is taken with payload
-
-or-none : (t : Bool) → (t || false) ≡ t
-or-none true = refl
-or-none false = refl
 
 abbrev Taking : ℕ → Ruling → Type 0
 Taking size (Ruled.refuses n) = Unit {0}

@@ -39,15 +39,25 @@ refuses-first r hold out packet o x n =
     let row = refused-exactly-if (tooSmall (length hold) (length out)) (cannotStand r hold) (r .pid) (beforeOf r) packet n in
     (λ e. row .0 (sym fare ∙ says .0 e), λ f. says .1 (fare ∙ row .1 f))
 
-unaltered-by : (r : Record) (hold out : List ℕ) (z : Ruling) (n : ℕ)
-    → fareOf (outcomeOf r hold out z .said) ≡ R.refusedBy n → outcomeOf r hold out z ≡ unaltered r hold out (refusedWith n)
-unaltered-by r hold out (Ruled.refuses m) n e =
-    let same : m ≡ n = cc in ap (λ (k : ℕ). unaltered r hold out (refusedWith k)) same
-unaltered-by r hold out Ruled.repeated n e = let z : _≡_ {A = ℕ} 1 0 = ap fareNumber e in absurd (omega arith)
-unaltered-by r hold out (Ruled.bare splice) n e = let z : _≡_ {A = ℕ} 2 0 = ap fareNumber e in absurd (omega arith)
-unaltered-by r hold out (takes q) n e = let z : _≡_ {A = ℕ} 2 0 = ap fareNumber e in absurd (omega arith)
+-- a packet that is not taken leaves record and rooms as they were
+pub unless-taken : (r : Record) (hold out : List ℕ) (z : Ruling) → (fareOf (outcomeOf r hold out z .said) ≡ R.taken → ⊥)
+    → outcomeOf r hold out z ≡ unaltered r hold out (outcomeOf r hold out z .said)
+unless-taken r hold out (Ruled.refuses n) h = refl
+unless-taken r hold out Ruled.repeated h = refl
+unless-taken r hold out (Ruled.bare splice) h = absurd (h refl)
+unless-taken r hold out (takes q) h = absurd (h refl)
+
+-- what the promise leaves where this is said
+pub not-taken : (r : Record) (hold out packet : List ℕ) (o : Outcome) → Promised r hold out packet o → (said : Reply)
+    → (fareOf said ≡ R.taken → ⊥) → o .said ≡ said → o ≡ unaltered r hold out said
+not-taken r hold out packet o x said h e =
+    let z : Ruling = ruling (tooSmall (length hold) (length out)) (cannotStand r hold) (r .pid) (beforeOf r) packet in
+    let same : outcomeOf r hold out z .said ≡ said = ap (λ (y : Outcome). y .said) (sym x) ∙ e in
+    x
+    ∙ unless-taken r hold out z (λ t. h (ap fareOf (sym same) ∙ t))
+    ∙ ap (unaltered r hold out) same
 
 pub refused-unaltered : RefusedUnaltered Promised
 refused-unaltered r hold out packet o x n e =
-    let z : Ruling = ruling (tooSmall (length hold) (length out)) (cannotStand r hold) (r .pid) (beforeOf r) packet in
-    x ∙ unaltered-by r hold out z n (ap (λ (y : Outcome). fareOf (y .said)) (sym x) ∙ ap fareOf e)
+    not-taken r hold out packet o x (refusedWith n)
+    (λ t. let z : _≡_ {A = ℕ} 0 2 = ap fareNumber t in omega arith) e

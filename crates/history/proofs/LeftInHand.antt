@@ -20,6 +20,7 @@ use Rattle.collector.specs.declared.Last.{Last}
 use Rattle.collector.specs.declared.Last.the-variants.{Counter}
 use Rattle.collector.proofs.MarkLaws.{bytesOf-more, bytesOf-marked, settled-hand}
 use Rattle.collector.proofs.ByteRuns.{lt-or-ge, total-prefix}
+use Rattle.history.proofs.TestLaws.{or-none}
 
 -- what may be in hand: an unfinished section, whose first byte is not 0xFF
 pub record Standing (h : List ℕ) : Type 0 where
@@ -192,7 +193,3 @@ stands-after r c e k h x n rest =
     ∙ ap (λ (t : Bool). ltb 8191 (r .pid) || (t || heldUnfit (length h) false (h ++ rest))) (le-ltb 4095 (length h) few)
     ∙ ap (λ (t : Bool). ltb 8191 (r .pid) || t) (held-ok h x rest)
     ∙ or-none (ltb 8191 (r .pid))
-  where
-    or-none : (t : Bool) → (t || false) ≡ t
-    or-none true = refl
-    or-none false = refl

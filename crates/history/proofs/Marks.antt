@@ -2,6 +2,7 @@
 use mathlib.Core.Path.{_≡_, refl, sym, ap, _∙_, subst}
 use mathlib.Core.Bool.{Bool, true, false, _||_}
 use mathlib.Core.List.{List, [], _∷_, _++_, append-assoc, map}
+use mathlib.Core.Logic.{inr}
 use mathlib.Core.Option.{Option, none, some}
 use Prim.Native.Nat.{ℕ, _+_}
 use lib.ListN.{length, length-append}
@@ -17,14 +18,11 @@ use Rattle.packet.specs.Refusals.{refusals, firstOf, judgedBy, judged}
 use Rattle.collector.specs.Refusals.{tooSmall}
 use Rattle.history.specs.Run as R
 use Rattle.history.specs.Run.{Call, Fare, fareOf, ruledFare, ifSaidTaken, ifSpliced, splicesFrom, Lent, lentOf, rulingOn, beforeAfter, ruledIn, faresFrom, ruledTaken}
+use Rattle.history.proofs.TestLaws.{or-exactly}
 use Rattle.history.proofs.FaresByTable.{here, again, fares-cut, ruled-alike}
 use Rattle.history.proofs.NoSpan.{splicedAt}
 
 -- ---- one packet
-
-or-true : (a b : Bool) → b ≡ true → (a || b) ≡ true
-or-true true b e = refl
-or-true false b e = e
 
 -- what a ruling says of the bit: a repeated packet has none, one without payload passes it on, and one that is taken with
 -- payload is behind a mark if it has it, or if the mark was set
@@ -85,9 +83,9 @@ module _ (pid size : ℕ) where
   splice-by before p n rest Q Ruled.repeated w f q =
       if-case (Each Q) (discontinuity p) (λ e. absurd (true-not-false (sym e ∙ w))) (λ e. tt)
   splice-by before p n rest Q (Ruled.bare splice) w f q =
-      if-case (Each Q) (discontinuity p) (λ e. (q (f (or-true (before .mark) splice (w ∙ e))), tt)) (λ e. tt)
+      if-case (Each Q) (discontinuity p) (λ e. (q (f (or-exactly (before .mark) splice .1 (inr (w ∙ e)))), tt)) (λ e. tt)
   splice-by before p n rest Q (takes c) w f q =
-      if-case (Each Q) (discontinuity p) (λ e. (q (w ∙ or-true (before .mark) (discontinuity p) e), tt)) (λ e. tt)
+      if-case (Each Q) (discontinuity p) (λ e. (q (w ∙ or-exactly (before .mark) (discontinuity p) .1 (inr e)), tt)) (λ e. tt)
 
 -- ---- over the calls of a run
 

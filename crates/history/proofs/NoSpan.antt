@@ -19,6 +19,7 @@ use Rattle.collector.proofs.MarkLaws.{bytesOf-more, settled-hand}
 use Rattle.collector.proofs.ByteRuns.{lt-or-ge}
 use Rattle.wire.proofs.EachLaws.{each-append, each-map}
 use Rattle.collector.proofs.Invariants.{Keeps, keep-payload}
+use Rattle.history.proofs.TestLaws.{and-none}
 use Rattle.history.specs.History.{Byte, valueOf, numbered, History, unbegun, historyAfter, historyFrom, historyOf, counterAt, BreakAfter, Spans, Unbroken, Unmarked}
 
 -- is packet number k behind a mark; beyond the packets that came, it counts as behind one
@@ -188,10 +189,6 @@ break-apart : (qs : List (Carried ℕ)) (k : ℕ) → BreakAfter qs k → Apart 
 unfolding joins
 break-apart qs k b =
     ap (λ (t : Bool). not (splicedAt qs (k + 1)) && t) (ne-eqb _ _ (b .break)) ∙ and-none (not (splicedAt qs (k + 1)))
-  where
-    and-none : (t : Bool) → (t && false) ≡ false
-    and-none true = refl
-    and-none false = refl
 
 whole-unbroken : (qs : List (Carried ℕ)) (l : List Byte) → Whole qs l → Unbroken qs l
 whole-unbroken qs l =

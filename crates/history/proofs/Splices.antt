@@ -1,6 +1,6 @@
 -- Request (ix): each of its statements holds of the promise that `step` and `collect` make.
 use mathlib.Core.Path.{_≡_, refl, sym, ap, _∙_, subst}
-use mathlib.Core.Bool.{Bool, true, false, _&&_, _||_}
+use mathlib.Core.Bool.{Bool, true, false, _||_}
 use mathlib.Core.List.{List, [], flatten}
 use mathlib.Core.Logic.{_⊎_, _↔_, inl, inr, ⊎-elim}
 use Prim.Native.Nat.{ℕ, zero, suc, _+_, _%_, _^_, _≤_}
@@ -14,7 +14,7 @@ use Rattle.wire.specs.Each.{Each}
 use Rattle.copy.specs.Laid.{over}
 use Rattle.packet.specs.Header.{startFlag, control, counterOf, adaptation, bitOfField, discontinuity, payloadFrom, payloadOf}
 use Rattle.packet.specs.Refusals.{Row, refusals, has-payload, judgedBy, judged}
-use Rattle.packet.specs.Ruling.{markWith, repeats, joins, Ruling, takes, ruledBy, ruling}
+use Rattle.packet.specs.Ruling.{markWith, repeats, joins, Ruling, takes, ruledBy}
 use Rattle.packet.specs.Ruling as Ruled
 use Rattle.packet.proofs.Table.{or-false, all-passed}
 use Rattle.collector.specs.Refusals.{beforeOf, cannotStand, tooSmall}
@@ -30,14 +30,12 @@ use Rattle.collector.proofs.Simulation.{Beside}
 use Rattle.collector.proofs.PayloadLaws.{same-hand, more-sections}
 use Rattle.history.specs.Run.{Promised, fareOf}
 use Rattle.history.specs.Run as R
-use Rattle.history.specs.Splices.{HasBit, NotRefused, Marked, anew, breakingOff, BareSetsTheMark, MarkedIsTaken, MarkedBreaksOff, PayloadClears, RepeatedUnaltered}
+use Rattle.history.specs.Splices.{HasBit, NotRefused, Marked, anew, breakingOff, BareSetsTheMark, MarkedIsTaken, MarkedBreaksOff, PayloadClears, RepeatedUnaltered, PremisesMet}
+use Rattle.history.proofs.TestLaws.{and-true, or-exactly}
+use Rattle.history.proofs.Demand1.{not-taken}
 use Rattle.history.proofs.FaresByTable.{fareNumber, here, again, passedOn}
 
 -- ---- the bit
-
-and-true : (a b : Bool) → (a && b) ≡ true → (a ≡ true) × (b ≡ true)
-and-true true b e = (refl, e)
-and-true false b e = let z : _≡_ {A = ℕ} 0 1 = cc in absurd (omega arith)
 
 two-or-three : (n : ℕ) → 2 ≤ n → n ≤ 3 → (n ≡ 2) ⊎ (n ≡ 3)
 two-or-three zero a b = absurd (omega arith)
@@ -60,10 +58,6 @@ bit-exactly p = (
       let two : 2 ≤ control p = ⊎-elim (λ w. omega arith) (λ w. omega arith) (x .field) in
       simp (le-leb _ _ two, le-leb _ _ (x .at-least-one), le-leb _ _ (x .set)),
 )
-
-or-exactly : (a b : Bool) → ((a || b) ≡ true) ↔ ((a ≡ true) ⊎ (b ≡ true))
-or-exactly true b = (λ e. inl refl, λ x. refl)
-or-exactly false b = (λ e. inr e, λ x. ⊎-elim (λ e. let z : _≡_ {A = ℕ} 0 1 = cc in absurd (omega arith)) (λ e. e) x)
 
 -- the mark, once the packet has come
 marked-exactly : (r : Record) (p : List ℕ) → (markWith (beforeOf r) (discontinuity p) ≡ true) ↔ Marked r p
@@ -143,17 +137,9 @@ payload-clears r hold out p o x w n e =
 
 -- ---- "repeated", nothing changes
 
-unaltered-by : (r : Record) (hold out : List ℕ) (z : Ruling) → fareOf (outcomeOf r hold out z .said) ≡ R.repeated
-    → outcomeOf r hold out z ≡ unaltered r hold out repeated
-unaltered-by r hold out (Ruled.refuses m) e = let z : _≡_ {A = ℕ} 0 1 = ap fareNumber e in absurd (omega arith)
-unaltered-by r hold out Ruled.repeated e = refl
-unaltered-by r hold out (Ruled.bare splice) e = let z : _≡_ {A = ℕ} 2 1 = ap fareNumber e in absurd (omega arith)
-unaltered-by r hold out (takes q) e = let z : _≡_ {A = ℕ} 2 1 = ap fareNumber e in absurd (omega arith)
-
 pub repeated-unaltered : RepeatedUnaltered Promised
 repeated-unaltered r hold out p o x e =
-    let z = ruling (tooSmall (length hold) (length out)) (cannotStand r hold) (r .pid) (beforeOf r) p in
-    x ∙ unaltered-by r hold out z (ap (λ (y : Outcome). fareOf (y .said)) (sym x) ∙ ap fareOf e)
+    not-taken r hold out p o x repeated (λ t. let z : _≡_ {A = ℕ} 1 2 = ap fareNumber t in omega arith) e
 
 -- ---- what is in hand is broken off
 
@@ -250,3 +236,21 @@ marked-breaks-off r hold out p o x w n m o₂ x₂ =
     let few : r .in_hand ≤ length hold = omega (arith, few-held r hold (w .1 .1 .0), room) in
     x ∙ marked-is r hold out p w n m ∙ breaks-off r hold out p few
     ∙ ap (breakingOff (r .in_hand)) (sym (x₂ ∙ anew-is r hold out p w n))
+
+-- ---- the premises can be met
+
+pub premises-met : PremisesMet
+unfolding cannotStand
+premises-met = record {
+  bare-bit = (
+    (refl, (refl, (refl, (refl, (refl, (refl, (refl, (refl, (refl, tt))))))))),
+    record { field = inl refl; at-least-one = omega arith; set = omega arith },
+  );
+  bare-mark = (refl, (refl, (refl, (refl, (refl, (refl, (refl, (refl, (refl, tt)))))))));
+  own-bit = (
+    (refl, (refl, (refl, (refl, (refl, (refl, (refl, (refl, (refl, tt))))))))),
+    record { field = inr refl; at-least-one = omega arith; set = omega arith },
+  );
+  mark-before = (refl, (refl, (refl, (refl, (refl, (refl, (refl, (refl, (refl, tt)))))))));
+  with-payload = (λ e. omega arith, λ e. omega arith);
+}

@@ -2,8 +2,8 @@
 -- a mark. An adaptation field of at least one byte with that bit set, in a packet not refused, sets it; the next packet with
 -- payload, the marked one itself if it has any, is never "repeated", breaks off what is in hand and clears it."
 use mathlib.Core.Path.{_≡_}
-use mathlib.Core.Bool.{true, false}
-use mathlib.Core.List.{List}
+use mathlib.Core.Bool.{Bool, true, false}
+use mathlib.Core.List.{List, _∷_}
 use mathlib.Core.Logic.{_⊎_, _↔_}
 use Prim.Native.Nat.{ℕ, _+_, _/_, _%_, _^_, _≤_}
 use lib.ListN.{length, getD}
@@ -15,9 +15,10 @@ use Rattle.collector.specs.Rules.{broken, done, sameKind}
 use Rattle.collector.specs.Answer.{Outcome, repeated, taken}
 use Rattle.collector.specs.Collected.{bytesCounted, recordWith, unaltered}
 use Rattle.collector.specs.declared.Record.{Record}
-use Rattle.collector.specs.declared.Last.the-variants.{None}
+use Rattle.collector.specs.declared.Last.the-variants.{None, Counter}
 use Rattle.history.specs.Run.{Collector, fareOf}
 use Rattle.history.specs.Run as R
+use Rattle.history.specs.WrongCollectors.{hold₀, out₀, next-on, spliced-on, bare-splice}
 
 -- ---- what the sentence speaks of, by the packet's bytes
 
@@ -91,3 +92,21 @@ module _ (C : Collector) where
   -- "Else a counter equal to the last: "repeated", nothing changes": so it stays
   abbrev pub RepeatedUnaltered : Type 0
   RepeatedUnaltered = OverCalls (λ r hold out packet o. o .said ≡ repeated → o ≡ unaltered r hold out repeated)
+
+-- ---- the premises can be met: of each kind of packet, where the mark is set and where the packet has the bit
+
+-- a record with a section's first byte in hand
+abbrev pub heldOne : ℕ → Bool → Record
+heldOne last mark = recordWith 20 (Counter last) mark 1 (λ k. 0)
+
+abbrev pub hold₁ : List ℕ
+hold₁ = 0x70 ∷ hold₀
+
+pub record PremisesMet : Type 0 where
+  pub bare-bit : NotRefused (heldOne 0 false) hold₁ out₀ bare-splice × HasBit bare-splice
+  pub bare-mark : NotRefused (heldOne 0 true) hold₁ out₀ bare-splice
+  -- the counter of the packet is the last
+  pub own-bit : NotRefused (heldOne 1 false) hold₁ out₀ spliced-on × HasBit spliced-on
+  -- and it is the next
+  pub mark-before : NotRefused (heldOne 0 true) hold₁ out₀ next-on
+  pub with-payload : (controlBits spliced-on ≡ 2 → ⊥) × (controlBits next-on ≡ 2 → ⊥)
