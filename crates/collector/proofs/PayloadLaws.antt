@@ -86,7 +86,7 @@ module _ (comes : List ℕ → Kind) where
   -- ---- a packet with the start flag
 
   -- what comes before the target, where nothing unfinished is kept
-  abbrev front : List ℕ → List ℕ → Story ℕ
+  abbrev pub front : List ℕ → List ℕ → Story ℕ
   front h l = gone false h l
 
   -- the same with the pointer byte before it
@@ -114,11 +114,11 @@ module _ (comes : List ℕ → Kind) where
             ∙ length-append (bytesOf f (marked in-hand h)) _ in omega (arith, more);
       })))
 
-  abbrev whole : ℕ → List ℕ → List ℕ → List ℕ → Story ℕ
+  abbrev pub whole : ℕ → List ℕ → List ℕ → List ℕ → Story ℕ
   whole p h l l₂ = sectionsIn comes plain (pointed p h l) l₂
 
   -- what came before the target stays apart from the sections after it
-  beside-back : (p : ℕ) (h l l₂ : List ℕ)
+  pub beside-back : (p : ℕ) (h l l₂ : List ℕ)
       → Beside plain (λ f. countOf f (pointed p h l .marks)) (pointed p h l .sections) (back l₂) (whole p h l l₂)
   beside-back p h l l₂ =
       subst
@@ -130,12 +130,12 @@ module _ (comes : List ℕ → Kind) where
       (settled-hand (done broken) refl (goesOn comes plain (given (done pointer) p (holding h)) l .marks))))
 
   module _ (p : ℕ) (h l l₂ : List ℕ) where
-    sections-both : whole p h l l₂ .sections ≡ front h l .sections ++ back l₂ .sections
+    pub sections-both : whole p h l l₂ .sections ≡ front h l .sections ++ back l₂ .sections
     sections-both =
         more-sections (beside-back p h l l₂)
         ∙ ap (λ (z : List (List ℕ)). z ++ back l₂ .sections) (more-sections (beside-front p h l))
 
-    count-both : (f : Fate) → sameFate f in-hand ≡ false
+    pub count-both : (f : Fate) → sameFate f in-hand ≡ false
         → countOf f (whole p h l l₂ .marks) ≡ one p f + countOf f (front h l .marks) + countOf f (back l₂ .marks)
     count-both f e = omega (arith, beside-back p h l l₂ .counts f e, beside-front p h l .counts f e)
 

@@ -144,7 +144,7 @@ module _ (comes : List ℕ → Kind) where
           sections = secs;
         }
 
-    turn-filler : (b : ℕ) (l : List ℕ) → eqb b 255 ≡ true → from (b ∷ l) ≡ all (done filler) (b ∷ l) (made secs)
+    pub turn-filler : (b : ℕ) (l : List ℕ) → eqb b 255 ≡ true → from (b ∷ l) ≡ all (done filler) (b ∷ l) (made secs)
     turn-filler b l e =
         ap (λ (t : Bool). stretch comes plain begin (begun t b (made secs)) l .story) e
         ∙ ap (λ (n : Next ℕ). n .story)
@@ -163,7 +163,7 @@ module _ (comes : List ℕ → Kind) where
     here : (b : ℕ) (l : List ℕ) → handOf (first b) ++ l ≡ b ∷ l
     here b l = ap (λ (h : List ℕ). h ++ l) (first-hand b)
 
-    turn-going : (b : ℕ) (l : List ℕ) → eqb b 255 ≡ false → LookSays (b ∷ l) Going → from (b ∷ l) ≡ all in-hand (b ∷ l) (made secs)
+    pub turn-going : (b : ℕ) (l : List ℕ) → eqb b 255 ≡ false → LookSays (b ∷ l) Going → from (b ∷ l) ≡ all in-hand (b ∷ l) (made secs)
     turn-going b l e says =
         let v = sym (here b l) in
         turn-first b l e
@@ -184,7 +184,7 @@ module _ (comes : List ℕ → Kind) where
         ∙ ap brokenOff (first-more b l)
         ∙ made-broken secs (b ∷ l)
 
-    turn-whole : (b : ℕ) (l : List ℕ) (t : ℕ) → eqb b 255 ≡ false → LookSays (b ∷ l) (Whole t)
+    pub turn-whole : (b : ℕ) (l : List ℕ) (t : ℕ) → eqb b 255 ≡ false → LookSays (b ∷ l) (Whole t)
         → from (b ∷ l) ≡ sectionsIn comes plain (made (secs ++ (take t (b ∷ l) ∷ []))) (drop t (b ∷ l))
     turn-whole b l zero e says = absurd (omega (arith, says .1))
     turn-whole b l (suc k) e says =

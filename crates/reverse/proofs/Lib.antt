@@ -1,0 +1,12 @@
+-- That the writer's packets obey the rule, that no others do, and that the collector gives their sections back.
+pub mod CellLaws
+pub mod AheadLaws
+pub mod PacketLaws
+pub mod ObeysRule
+pub mod OnlyLayout
+pub mod NoneInside
+pub mod CutSections
+pub mod Carries
+pub mod OneTurn
+pub mod Taken
+pub mod FedBack

@@ -1,0 +1,261 @@
+-- One call with a packet of the writer: no refusal meets it, it is not repeated, what is in hand goes on in it, and the
+-- record stands behind it.
+use mathlib.Core.Path.{_≡_, refl, sym, ap, _∙_, subst}
+use mathlib.Core.Bool.{Bool, true, false, not, _&&_, _||_}
+use mathlib.Core.List.{List, [], _++_, flatten}
+use mathlib.Core.Logic.{_⊎_, inl, ⊎-elim}
+use mathlib.Core.Option.{Option, none, some}
+use Prim.Native.Nat.{ℕ, _+_, _-_, _*_, _/_, _%_, _^_, _≤_, _<_}
+use native.Mathlib.Omega.{arith}
+use lib.ListN.{length, take, drop, getD, length-append, length-drop}
+use lib.Seq.{take-append-seam}
+use lib.Dec.{ltb, leb, eqb}
+use borrow.Author.Tests.{ltb-false, eqb-true, le-ltb, lt-leb, eq-eqb, ne-eqb}
+use Rattle.wire.specs.If.{if_then_else_}
+use Rattle.wire.specs.Each.{Each}
+use Rattle.wire.specs.Sections.{WholeSection}
+use Rattle.packet.specs.Header.{transportError, startFlag, pidOf, scrambling, control, counterOf, adaptation, bitOfField, discontinuity, payloadFrom, payloadOf, pointerOf}
+use Rattle.packet.specs.Refusals.{wrongAdaptation, pointsPast, refusals, bare, has-payload, judgedBy, judged}
+use Rattle.packet.specs.Ruling.{Before, equalTo, nextTo, repeats, joins, Carried, loadOf, repeated, takes, ruledBy, ruling}
+use Rattle.packet.proofs.Table.{or-false, Passed, all-passed}
+use Rattle.collector.specs.Refusals.{lastOf, beforeOf, cannotStand, tooSmall}
+use Rattle.collector.specs.Rules.{Kind, broken, skipped, done, Story, countOf, handOf, holding, joined, plain, payload, storyAfter, delivers}
+use Rattle.collector.specs.Answer.{Outcome}
+use Rattle.collector.specs.Collected.{bytesCounted, recordAfter, deliveredOf, outcomeAfter, outcomeOf, collected}
+use Rattle.collector.specs.declared.Record.{Record}
+use Rattle.collector.specs.declared.Last.the-variants.{Counter}
+use Rattle.collector.proofs.Counters.{counts-with}
+use Rattle.collector.proofs.StoryLaws.{all-delivered}
+use Rattle.history.specs.Run.{taken, fareOf, cut, handedBy}
+use Rattle.history.proofs.TestLaws.{and-none}
+use Rattle.history.proofs.LeftInHand.{Standing, stands-after}
+use Rattle.history.proofs.Agrees.{cut-whole, whole-taken}
+use Rattle.writer.specs.Packets.{headerOf}
+use Rattle.reverse.proofs.Carries.{Tells}
+
+-- ---- the header, read back
+
+-- a packet with 184 bytes of payload, whose pointer, where it has one, is not above 182
+module _ (pid counter : ℕ) (start : Bool) (body : List ℕ) (a-pid : pid ≤ 8191) (a-counter : counter ≤ 15)
+    (long : length body ≡ 184) (points : start ≡ true → getD body 0 0 ≤ 182) where
+  abbrev packet : List ℕ
+  packet = headerOf pid counter start ++ body
+
+  -- the high bits of byte 1
+  abbrev second : Bool → ℕ
+  second t = (if t then 0x40 else 0) + pid / 256
+
+  no-error : transportError packet ≡ false
+  no-error = at start
+    where
+      at : (t : Bool) → leb 128 (second t) ≡ false
+      at true = lt-leb 128 (0x40 + pid / 256) (omega arith)
+      at false = lt-leb 128 (0 + pid / 256) (omega arith)
+
+  flag-is : startFlag packet ≡ start
+  flag-is = at start
+    where
+      at : (t : Bool) → eqb (second t / 64 % 2) 1 ≡ t
+      at true = eq-eqb ((0x40 + pid / 256) / 64 % 2) 1 (omega arith)
+      at false = ne-eqb ((0 + pid / 256) / 64 % 2) 1 (λ e. omega arith)
+
+  pid-is : pidOf packet ≡ pid
+  pid-is = at start
+    where
+      at : (t : Bool) → second t % 32 * 256 + pid % 256 ≡ pid
+      at true = omega arith
+      at false = omega arith
+
+  clear : scrambling packet ≡ 0
+  clear = omega arith
+
+  control-is : control packet ≡ 1
+  control-is = omega arith
+
+  counter-is : counterOf packet ≡ counter
+  counter-is = omega arith
+
+  from-is : payloadFrom packet ≡ 4
+  from-is = ap (λ (z : ℕ). if eqb z 1 then 4 else 5 + adaptation packet) control-is
+
+  no-bit : discontinuity packet ≡ false
+  no-bit = ap (λ (z : ℕ). leb 2 z && bitOfField packet) control-is
+
+  -- ---- no row of the table applies
+
+  adapted : wrongAdaptation packet ≡ false
+  adapted =
+      ap
+      (λ (z : ℕ). eqb z 0
+      || ((eqb z 3 && ltb 182 (adaptation packet)) || (eqb z 2 && not (eqb (adaptation packet) 183))))
+      control-is
+
+  within : pointsPast packet ≡ false
+  within =
+      ap (λ (z : ℕ). not (eqb z 2) && (startFlag packet && ltb (length (payloadOf packet)) (pointerOf packet + 2)))
+      control-is
+      ∙ ap (λ (z : Bool). z && ltb (length (payloadOf packet)) (pointerOf packet + 2)) flag-is
+      ∙ ap (λ (z : ℕ). start && ltb (length (drop z packet)) (getD packet z 0 + 2)) from-is
+      ∙ at start refl
+    where
+      at : (t : Bool) → start ≡ t → (t && ltb (length body) (getD body 0 0 + 2)) ≡ false
+      at true e = le-ltb (length body) (getD body 0 0 + 2) (omega (arith, points e))
+      at false e = refl
+
+  passes : (small unfit : Bool) → small ≡ false → unfit ≡ false → Each Passed (refusals small unfit pid packet)
+  passes small unfit e w =
+      let size : eqb (length packet) 188 ≡ true = eq-eqb (length packet) 188 (omega arith) in
+      let ours = eq-eqb (pidOf packet) pid pid-is in
+      let unscrambled = eq-eqb (scrambling packet) 0 clear in
+      (ap not size, (e, (w, (refl, (no-error, (ap not ours, (ap not unscrambled, (adapted, (within, tt)))))))))
+
+  is-judged : (small unfit : Bool) → small ≡ false → unfit ≡ false
+      → judged small unfit pid packet ≡ has-payload 4 start counter false
+  unfolding judged
+  is-judged small unfit e w =
+      ap (λ (o : Option ℕ). judgedBy o packet) (all-passed (refusals small unfit pid packet) (passes small unfit e w))
+      ∙ ap
+      (λ (z : ℕ). if eqb z 2 then bare (discontinuity packet)
+      else has-payload (payloadFrom packet) (startFlag packet) (counterOf packet) (discontinuity packet))
+      control-is
+      ∙ (λ i. has-payload (from-is i) (flag-is i) (counter-is i) (no-bit i))
+
+  -- ---- it is taken
+
+  other-counter : (last : Option ℕ) → nextTo last counter ≡ true → equalTo last counter ≡ false
+  other-counter none e = refl
+  other-counter (some c) e = let next = eqb-true counter ((c + 1) % 16) e in ne-eqb counter c (λ w. omega arith)
+
+  abbrev load : Before → Carried ℕ
+  load before = loadOf (before .mark || false) packet 4 start counter
+
+  not-again : (before : Before) → nextTo (before .last) counter ≡ true
+      → repeats (before .last) (before .mark || false) counter ≡ false
+  unfolding repeats
+  not-again before e =
+      ap (λ (t : Bool). not (before .mark || false) && t) (other-counter (before .last) e)
+      ∙ and-none (not (before .mark || false))
+
+  ruled-taken : (small unfit : Bool) (before : Before) → small ≡ false → unfit ≡ false
+      → nextTo (before .last) counter ≡ true
+      → ruling small unfit pid before packet ≡ takes (load before)
+  ruled-taken small unfit before e w next =
+      ap (ruledBy before packet) (is-judged small unfit e w)
+      ∙ ap (λ (t : Bool). if t then repeated else takes (load before)) (not-again before next)
+
+-- ---- what is in hand goes on
+
+-- its counter is the next and no mark is set; or there is nothing to be broken off
+hand-goes-on : (counter : ℕ) (h : List ℕ) (last : Option ℕ) (mark : Bool) → nextTo last counter ≡ true
+    → (mark ≡ false) ⊎ (h ≡ [])
+    → joined (joins last (mark || false) counter) (holding h) ≡ holding h
+unfolding joins
+hand-goes-on counter h last mark next x =
+    ⊎-elim
+    (λ e. ap (λ (t : Bool). joined (not (t || false) && nextTo last counter) (holding h)) e
+    ∙ ap (λ (t : Bool). joined t (holding h)) next)
+    (λ e. ap (λ (l : List ℕ). joined (joins last (mark || false) counter) (holding l)) e
+    ∙ nothing (joins last (mark || false) counter)
+    ∙ ap (λ (l : List ℕ). holding l) (sym e))
+    x
+  where
+    nothing : (t : Bool) → joined t (holding {A = ℕ} []) ≡ holding []
+    nothing true = refl
+    nothing false = refl
+
+-- ---- a record between two packets
+
+-- it can stand, has these bytes in hand, and the packet with this counter is the next; where its mark is set nothing is
+-- in hand
+pub record Holds (pid counter : ℕ) (h : List ℕ) (r : Record) (hold : List ℕ) : Type 0 where
+  pub stands : cannotStand r hold ≡ false
+  pub pid-is : r .pid ≡ pid
+  pub in-hand-is : r .in_hand ≡ length h
+  pub hold-is : take (r .in_hand) hold ≡ h
+  pub next : nextTo (lastOf (r .last)) counter ≡ true
+  pub unmarked : (r .mark ≡ false) ⊎ (h ≡ [])
+  pub counters : (k : Kind) → bytesCounted (done k) r < 2 ^ 32
+  pub room : 4096 ≤ length hold
+
+-- what a call comes to: taken, these sections handed out, nothing broken off or skipped, and the record stands with
+-- these bytes in hand
+pub record Went (pid counter : ℕ) (sections : List (List ℕ)) (h : List ℕ) (r : Record) (o : Outcome) : Type 0 where
+  pub is-taken : fareOf (o .said) ≡ taken
+  pub handed-are : handedBy (o .said) (o .out) ≡ sections
+  pub none-broken : bytesCounted (done broken) (o .rec) ≡ bytesCounted (done broken) r
+  pub none-skipped : bytesCounted (done skipped) (o .rec) ≡ bytesCounted (done skipped) r
+  pub holds : Holds pid ((counter + 1) % 16) h (o .rec) (o .hold)
+
+a-pid-of : (r : Record) (hold : List ℕ) → cannotStand r hold ≡ false → r .pid ≤ 8191
+unfolding cannotStand
+a-pid-of r hold e = ltb-false 8191 (r .pid) (or-false (ltb 8191 (r .pid)) _ e .0)
+
+roomy : (hold out : ℕ) → 4096 ≤ hold → 4280 ≤ out → tooSmall hold out ≡ false
+roomy hold out k w = ap (λ (t : Bool). t || ltb out 4280) (le-ltb hold 4096 k) ∙ le-ltb out 4280 w
+
+-- a counter that no byte is added to stays
+stays : (c n : ℕ) → n ≡ 0 → c < 2 ^ 32 → (c + n) % 2 ^ 32 ≡ c
+stays c n e k = omega arith
+
+module _ {pid counter : ℕ} {h : List ℕ} {r : Record} {hold : List ℕ} (x : Holds pid counter h r hold)
+    (a-counter : counter ≤ 15) where
+  -- a story that tells so much, of which each whole section is delivered
+  went-by : (s : Story ℕ) (out : List ℕ) (sections : List (List ℕ)) (h′ : List ℕ) → Tells s sections h′ → Standing h′
+      → Each WholeSection (s .sections) → deliveredOf s ≡ s .sections
+      → Went pid counter sections h′ r (outcomeAfter r hold out counter s)
+  went-by s out sections h′ t standing whole all =
+      let d : List (List ℕ) = deliveredOf s in
+      let stand : Standing (handOf s) = subst Standing (sym (t .hand-is)) standing in
+      let counts : (k : Kind) → bytesCounted (done k) (recordAfter r counter s)
+      ≡ (bytesCounted (done k) r + countOf (done k) (s .marks)) % 2 ^ 32 =
+      counts-with (r .pid) (Counter counter) false (length (handOf s))
+      (λ k. (bytesCounted (done k) r + countOf (done k) (s .marks)) % 2 ^ 32) in
+      record {
+        is-taken = refl;
+        handed-are =
+            ap (cut (length d)) (take-append-seam (flatten d) (drop (length (flatten d)) out))
+            ∙ cut-whole d (subst (Each WholeSection) (sym all) whole)
+            ∙ all
+            ∙ t .sections-are;
+        none-broken = counts broken ∙ stays (bytesCounted (done broken) r) _ (t .none-broken) (x .counters broken);
+        none-skipped = counts skipped ∙ stays (bytesCounted (done skipped) r) _ (t .none-skipped) (x .counters skipped);
+        holds = record {
+          stands =
+              stands-after (recordAfter r counter s) counter refl a-counter (handOf s) stand refl
+              (drop (length (handOf s)) hold)
+              ∙ le-ltb 8191 (r .pid) (a-pid-of r hold (x .stands));
+          pid-is = x .pid-is;
+          in-hand-is = ap length (t .hand-is);
+          hold-is = take-append-seam (handOf s) (drop (length (handOf s)) hold) ∙ t .hand-is;
+          next = eq-eqb ((counter + 1) % 16) ((counter + 1) % 16) refl;
+          unmarked = inl refl;
+          counters = λ k. let e = counts k in omega arith;
+          room =
+              let more = length-append (handOf s) (drop (length (handOf s)) hold) in
+              let left = length-drop (length (handOf s)) hold in
+              let enough = x .room in
+              omega arith;
+        };
+      }
+
+  -- at today's value of what a whole section comes to
+  pub went : (start : Bool) (body out : List ℕ) → length body ≡ 184 → (start ≡ true → getD body 0 0 ≤ 182)
+      → 4280 ≤ length out → (sections : List (List ℕ)) (h′ : List ℕ)
+      → Tells (payload delivers plain start (holding h) body) sections h′ → Standing h′
+      → (o : Outcome) → o ≡ collected r hold out (headerOf pid counter start ++ body) → Went pid counter sections h′ r o
+  went start body out long points enough sections h′ t standing o e =
+      let a-pid : pid ≤ 8191 = subst (λ (n : ℕ). n ≤ 8191) (x .pid-is) (a-pid-of r hold (x .stands)) in
+      let p : List ℕ = headerOf pid counter start ++ body in
+      let q : Carried ℕ = loadOf (r .mark || false) p 4 start counter in
+      let ruled : ruling (tooSmall (length hold) (length out)) (cannotStand r hold) (r .pid) (beforeOf r) p ≡ takes q =
+      ap (λ (n : ℕ). ruling (tooSmall (length hold) (length out)) (cannotStand r hold) n (beforeOf r) p) (x .pid-is)
+      ∙ ruled-taken pid counter start body a-pid a-counter long points (tooSmall (length hold) (length out))
+      (cannotStand r hold) (beforeOf r) (roomy (length hold) (length out) (x .room) enough) (x .stands) (x .next) in
+      let s : Story ℕ = storyAfter delivers plain (lastOf (r .last)) (holding (take (r .in_hand) hold)) q in
+      let is : s ≡ payload delivers plain start (holding h) body =
+      ap (λ (l : List ℕ). storyAfter delivers plain (lastOf (r .last)) (holding l) q) (x .hold-is)
+      ∙ ap (λ (z : Story ℕ). payload delivers plain start z body)
+      (hand-goes-on counter h (lastOf (r .last)) (r .mark) (x .next) (x .unmarked)) in
+      subst (Went pid counter sections h′ r) (sym (e ∙ ap (outcomeOf r hold out) ruled))
+      (went-by s out sections h′ (subst (λ (z : Story ℕ). Tells z sections h′) (sym is) t) standing
+      (whole-taken delivers (lastOf (r .last)) (take (r .in_hand) hold) q) (all-delivered plain (s .sections)))

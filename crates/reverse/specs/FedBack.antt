@@ -1,0 +1,78 @@
+-- "A fresh collector fed these packets delivers exactly these sections and breaks off nothing."
+use mathlib.Core.Path.{_≡_}
+use mathlib.Core.Bool.{true, false}
+use mathlib.Core.List.{List, map}
+use Prim.Native.Nat.{ℕ, _+_, _%_, _^_, _≤_, _<_}
+use lib.ListN.{length, getD}
+use Rattle.wire.specs.Each.{Each}
+use Rattle.wire.specs.Sections.{WholeSection}
+use Rattle.packet.specs.Ruling.{nextTo}
+use Rattle.collector.specs.Rules.{Kind, broken, skipped, done}
+use Rattle.collector.specs.Refusals.{lastOf, cannotStand}
+use Rattle.collector.specs.Collected.{bytesCounted, freshRecord}
+use Rattle.collector.specs.declared.Record.{Record}
+use Rattle.history.specs.Run.{Promised, Call, Run, taken, fareOf, handed}
+use Rattle.writer.specs.Packets.{packetsOf}
+
+-- a section that is sent: it is whole by its own header, and does not begin 0xFF
+pub record Sendable (s : List ℕ) : Type 0 where
+  pub whole : WholeSection s
+  pub no-filler : getD s 0 0 ≡ 255 → ⊥
+
+-- a record that the packets with this PID and first counter go on from: it can stand, it is of the PID, nothing is in hand, it has no last
+-- counter or the one before, and its five counters are 32-bit ones. Its mark may be set.
+pub record Ready (pid counter : ℕ) (r : Record) (hold : List ℕ) : Type 0 where
+  pub stands : cannotStand r hold ≡ false
+  pub pid-is : r .pid ≡ pid
+  pub none-in-hand : r .in_hand ≡ 0
+  pub next : nextTo (lastOf (r .last)) counter ≡ true
+  pub counters : (k : Kind) → bytesCounted (done k) r < 2 ^ 32
+
+-- what comes of calls with these packets: each is taken, exactly these sections are handed out, none of their bytes is broken off or skipped,
+-- and the next packets can go on
+pub record Delivers (pid counter : ℕ) (sections : List (List ℕ)) (r : Record) (calls : List Call) (r′ : Record) (hold′ : List ℕ)
+    : Type 0 where
+  pub each-taken : Each (λ k. fareOf (k .said) ≡ taken) calls
+  pub handed-are : handed calls ≡ sections
+  pub none-broken : bytesCounted (done broken) r′ ≡ bytesCounted (done broken) r
+  pub none-skipped : bytesCounted (done skipped) r′ ≡ bytesCounted (done skipped) r
+  pub goes-on : Ready pid ((counter + length calls) % 16) r′ hold′
+
+-- of every run over these packets, with a hold and out rooms that are large enough, whatever they hold
+abbrev pub FedBack : Type 0
+FedBack = (pid counter : ℕ) (sections : List (List ℕ)) (r : Record) (hold : List ℕ) (calls : List Call) (r′ : Record) (hold′ : List ℕ)
+    → counter ≤ 15 → Each Sendable sections
+    → Ready pid counter r hold → 4096 ≤ length hold → Each (λ k. 4280 ≤ length (k .out)) calls
+    → Run Promised r hold calls r′ hold′ → map (λ k. k .packet) calls ≡ packetsOf pid counter sections
+    → Delivers pid counter sections r calls r′ hold′
+
+-- from a fresh record: every packet is taken, exactly these sections are handed out, no byte is broken off or skipped, and none is left in hand
+pub record AllDelivered (sections : List (List ℕ)) (calls : List Call) (r′ : Record) : Type 0 where
+  pub each-taken : Each (λ k. fareOf (k .said) ≡ taken) calls
+  pub handed-are : handed calls ≡ sections
+  pub none-broken : r′ .broken ≡ 0
+  pub none-skipped : r′ .skipped ≡ 0
+  pub none-in-hand : r′ .in_hand ≡ 0
+
+-- "A fresh collector fed these packets delivers exactly these sections and breaks off nothing."
+abbrev pub FreshDelivers : Type 0
+FreshDelivers = (pid counter : ℕ) (sections : List (List ℕ)) (hold : List ℕ) (calls : List Call) (r′ : Record) (hold′ : List ℕ)
+    → pid ≤ 8191 → counter ≤ 15 → Each Sendable sections
+    → 4096 ≤ length hold → Each (λ k. 4280 ≤ length (k .out)) calls
+    → Run Promised (freshRecord pid) hold calls r′ hold′ → map (λ k. k .packet) calls ≡ packetsOf pid counter sections
+    → AllDelivered sections calls r′
+
+-- calls with these packets and these out rooms, and where they lead
+pub record RunOver (r : Record) (hold : List ℕ) (packets outs : List (List ℕ)) : Type 0 where
+  pub calls : List Call
+  pub packets-are : map (λ k. k .packet) calls ≡ packets
+  pub outs-are : map (λ k. k .out) calls ≡ outs
+  pub rec : Record
+  pub last-hold : List ℕ
+  pub run : Run Promised r hold calls rec last-hold
+
+-- there is such a run, from every record and hold and for any out rooms, as many as the packets
+abbrev pub RunsOver : Type 0
+RunsOver = (pid counter : ℕ) (sections : List (List ℕ)) (r : Record) (hold : List ℕ) (outs : List (List ℕ))
+    → length outs ≡ length (packetsOf pid counter sections)
+    → RunOver r hold (packetsOf pid counter sections) outs

@@ -1,0 +1,7 @@
+-- Laws of where the packets begin, of the sizes of sections, of which can be sent, and of the room.
+pub mod TurnLaws
+pub mod SizeLaws
+pub mod CutLaws
+pub mod RoomLaws
+pub mod StepLaws
+pub mod Outcomes

@@ -1,0 +1,28 @@
+-- Contracts among this crate's own functions: nothing that a caller must believe.
+use mathlib.Core.Path.{_≡_}
+use mathlib.Core.Bool.{Bool, true}
+use mathlib.Core.List.{List}
+use Prim.Native.Nat.{ℕ, _+_, _≤_}
+use lib.ListN.{length, drop}
+use Rattle.wire.specs.If.{if_then_else_}
+use Rattle.wire.specs.Each.{Each}
+use Rattle.writer.specs.Layout as Layout
+use Rattle.writer.specs.declared.layout.Ahead.{Ahead}
+use Rattle.writer.specs.declared.layout.Turn.{Turn}
+
+-- what is ahead, by the sizes and the index of the first section that waits
+abbrev pub aheadOf : List ℕ → Ahead → Layout.Ahead
+aheadOf sizes a = record { left = a .left; waiting = drop (a .next) sizes }
+
+abbrev pub turnSaid : Turn → Layout.Turn
+turnSaid t = record { start = t .start; left = t .left; bytes = t .bytes }
+
+-- sizes that can be added with room to spare
+abbrev pub Few : List ℕ → Type 0
+Few sizes = Each (λ n. n ≤ 4096) sizes
+
+-- a packet's bytes are there, and it has place for them
+pub record Fits (t : Turn) (place bytes : ℕ) : Type 0 where
+  pub there : place + t .bytes ≤ bytes
+  pub in-payload : t .bytes + (if t .start then 1 else 0) ≤ 184
+  pub pointer-small : t .start ≡ true → t .left ≤ 183
