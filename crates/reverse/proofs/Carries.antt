@@ -19,7 +19,7 @@ use Rattle.collector.proofs.MarkLaws.{bytesOf-marked}
 use Rattle.collector.proofs.ByteRuns.{place, all, all-none, all-append, lt-or-ge, total-prefix, pass, grow-short, grow-going, law-whole}
 use Rattle.collector.proofs.SectionLoop.{Apart, wholes-settled, made, made-more, rest-of, turn-filler, turn-going, turn-whole}
 use Rattle.collector.proofs.PayloadLaws.{same-hand, front, back, whole, beside-back, sections-both, count-both}
-use Rattle.reverse.specs.FedBack.{Sendable}
+use Rattle.reverse.specs.Sent.{Sendable}
 use Rattle.reverse.proofs.CutSections.{Begun, none, part, unended, part-unfinished, Cut}
 
 -- ---- what a story tells

@@ -15,7 +15,7 @@ use Rattle.wire.specs.Sections.{Unfinished}
 use Rattle.collector.proofs.ByteRuns.{lt-or-ge, total-prefix}
 use Rattle.history.proofs.LeftInHand.{Standing, standing-none}
 use Rattle.writer.specs.Layout.{Ahead, sum, bytesAhead, opened}
-use Rattle.reverse.specs.FedBack.{Sendable}
+use Rattle.reverse.specs.Sent.{Sendable}
 
 -- ---- the section begun
 

@@ -21,7 +21,8 @@ use Rattle.history.proofs.TestLaws.{or-none}
 use Rattle.writer.specs.Layout.{bytesAhead, Turn, turnOf, turnsFrom, payloadOf, laidOut}
 use Rattle.writer.specs.Packets.{packetOf, packetsFrom, packetsOf}
 use Rattle.writer.proofs.TurnLaws.{turns-stop, turns-on, turn-takes}
-use Rattle.reverse.specs.FedBack.{Sendable, Ready, Delivers, FedBack, FreshDelivers, RunsOver}
+use Rattle.reverse.specs.Sent.{Sendable}
+use Rattle.reverse.specs.FedBack.{Ready, Delivers, FedBack, FreshDelivers, RunsOver}
 use Rattle.reverse.proofs.CutSections.{Begun, none, part, unended, aheadOf, begun-stands, ahead-long}
 use Rattle.reverse.proofs.OneTurn.{bodyOf, body-long, body-points, Step, step}
 use Rattle.reverse.proofs.Taken.{Holds, Went, went}

@@ -5,8 +5,14 @@ pub mod PacketLaws
 pub mod ObeysRule
 pub mod OnlyLayout
 pub mod NoneInside
+pub mod SentLaws
+pub mod RoomPackets
 pub mod CutSections
 pub mod Carries
 pub mod OneTurn
 pub mod Taken
 pub mod FedBack
+pub mod Writer
+pub mod Fixed
+pub mod AtWork
+pub mod Tied

@@ -10,7 +10,8 @@ use Rattle.wire.specs.Each.{Each}
 use Rattle.wire.proofs.EachLaws.{each-append, each-map}
 use Rattle.writer.specs.Layout.{Cell, byte, filler, Payload}
 use Rattle.reverse.specs.Places.{Place, placesOf, placedFrom, placed}
-use Rattle.reverse.specs.Rule.{bytesIn, FillerOnly, Obeys, NoneInside}
+use Rattle.reverse.specs.Rule.{bytesIn, FillerOnly, Obeys}
+use Rattle.reverse.specs.Packets.{NoFillerInside}
 use Rattle.reverse.proofs.CellLaws.{Cells, none-there, bytesIn-append, bytesIn-all, each-at, byte-there}
 
 -- ---- the sections in their order
@@ -169,8 +170,7 @@ module _ (pid counter : ℕ) (sections packets : List (List ℕ)) (o : Obeys pid
       ⊎-elim (λ w. byte-there m₂ y c w) (λ z. omega (arith, s, later-section z))
       (filler-where (o .payloads) (o .fillers) u v e)
 
-pub none-inside : (pid counter : ℕ) (sections packets : List (List ℕ)) → (o : Obeys pid counter sections packets)
-    → NoneInside (o .payloads)
+pub none-inside : NoFillerInside
 none-inside pid counter sections packets o a m c x y e s m₁ m₂ f =
     apart pid counter sections packets o a m₁ m₂ c x y
     (e ∙ ap (λ (l : Cells). a ++ (byte x ∷ (l ++ (byte y ∷ c)))) f

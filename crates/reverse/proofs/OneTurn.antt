@@ -15,7 +15,7 @@ use Rattle.collector.proofs.SectionLoop.{Apart}
 use Rattle.writer.specs.Layout.{bytesAhead, opened, Turn, least, waits, turnOf, Cell, pointer, byte, filler, pointed, filledUp, payloadOf}
 use Rattle.writer.specs.Packets.{valueOf}
 use Rattle.writer.proofs.TurnLaws.{least-law, Unflagged, TurnIs, flagged, unflagged, turn-is}
-use Rattle.reverse.specs.FedBack.{Sendable}
+use Rattle.reverse.specs.Sent.{Sendable}
 use Rattle.reverse.proofs.CutSections.{Begun, none, part, unended, aheadOf, unended-first, begun-some, begun-none, sum-long, opened-within, cut-at}
 use Rattle.reverse.proofs.Carries.{Tells, flagged-tells, going-tells, ending-tells}
 

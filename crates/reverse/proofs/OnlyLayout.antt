@@ -3,7 +3,7 @@
 use mathlib.Core.Path.{_≡_, refl, sym, ap, _∙_, subst}
 use mathlib.Core.Bool.{Bool, true, false, true≢false}
 use mathlib.Core.List.{List, [], _∷_, _++_, append-assoc, append-nil, append-cancel-left, map, flatten}
-use mathlib.Core.Logic.{_⊎_, inl, inr, ⊎-elim, _↔_}
+use mathlib.Core.Logic.{_⊎_, inl, inr, ⊎-elim}
 use Prim.Native.Nat.{ℕ, suc, _+_, _-_, _≤_, _<_}
 use native.Mathlib.Omega.{arith}
 use lib.ListN.{length, take, drop, replicate, length-append, length-map, length-replicate, take-append-drop}
@@ -13,6 +13,7 @@ use Rattle.wire.proofs.EachLaws.{each-append, each-map}
 use Rattle.writer.specs.Layout.{Ahead, sum, bytesAhead, Turn, least, waits, turnOf, behind, turnsFrom, unbegun, Cell, pointer, byte, filler, Payload, filledUp, payloadOf, laidOut}
 use Rattle.writer.specs.Packets.{packetsFrom, packetsOf}
 use Rattle.writer.proofs.TurnLaws.{least-law, TurnIs, flagged, unflagged, turn-is, turns-stop, turns-on}
+use Rattle.reverse.specs.Packets.{RuleExactly}
 use Rattle.reverse.specs.Places.{Place, placed}
 use Rattle.reverse.specs.Rule.{bytesIn, NoPointer, BeginsNothing, FlagBy, NoneWaits, OneLeft, FillerOnly, Obeys}
 use Rattle.reverse.proofs.CellLaws.{Cells, bytesIn-append, bytesIn-bytes, bytesIn-filled, NoBegin, begins-none, no-pointer-cell, only-fillers, FirstFiller, first-filler, all-bytes-before}
@@ -280,9 +281,9 @@ only-payloads (p ∷ ps) bytes a h long laid busy flags fills =
 
 -- ---- the packets
 
-pub only-layout : (pid counter : ℕ) (sections packets : List (List ℕ)) → pid ≤ 8191 → counter ≤ 15
-    → Each (λ s. 0 < length s) sections → Obeys pid counter sections packets → packets ≡ packetsOf pid counter sections
-only-layout pid counter sections packets k j x o =
+pub only-layout : (pid counter : ℕ) (sections packets : List (List ℕ)) → Each (λ s. 0 < length s) sections
+    → Obeys pid counter sections packets → packets ≡ packetsOf pid counter sections
+only-layout pid counter sections packets x o =
     let a : Ahead = unbegun (map length sections) in
     let are : o .payloads ≡ laidOut (turnsFrom a) (flatten (placed sections)) =
     only-payloads (o .payloads) (flatten (placed sections)) a (ahead-first sections x) (o .long) (o .laid-once)
@@ -291,11 +292,8 @@ only-layout pid counter sections packets k j x o =
     ∙ ap (λ (ps : List (Payload Place)). packetsFrom pid counter (map valued ps)) are
     ∙ ap (packetsFrom pid counter) (valued-layout sections)
 
--- the rule says exactly which packets they are
-pub rule-exactly : (pid counter : ℕ) (sections packets : List (List ℕ)) → pid ≤ 8191 → counter ≤ 15
-    → Each (λ s. 0 < length s) sections
-    → Obeys pid counter sections packets ↔ (packets ≡ packetsOf pid counter sections)
+pub rule-exactly : RuleExactly
 rule-exactly pid counter sections packets k j x = (
-  only-layout pid counter sections packets k j x,
+  only-layout pid counter sections packets x,
   λ e. subst (Obeys pid counter sections) (sym e) (our-layout pid counter sections k j x),
 )

@@ -3,9 +3,8 @@ use mathlib.Core.Path.{_≡_}
 use mathlib.Core.Bool.{true, false}
 use mathlib.Core.List.{List, map}
 use Prim.Native.Nat.{ℕ, _+_, _%_, _^_, _≤_, _<_}
-use lib.ListN.{length, getD}
+use lib.ListN.{length}
 use Rattle.wire.specs.Each.{Each}
-use Rattle.wire.specs.Sections.{WholeSection}
 use Rattle.packet.specs.Ruling.{nextTo}
 use Rattle.collector.specs.Rules.{Kind, broken, skipped, done}
 use Rattle.collector.specs.Refusals.{lastOf, cannotStand}
@@ -13,11 +12,7 @@ use Rattle.collector.specs.Collected.{bytesCounted, freshRecord}
 use Rattle.collector.specs.declared.Record.{Record}
 use Rattle.history.specs.Run.{Promised, Call, Run, taken, fareOf, handed}
 use Rattle.writer.specs.Packets.{packetsOf}
-
--- a section that is sent: it is whole by its own header, and does not begin 0xFF
-pub record Sendable (s : List ℕ) : Type 0 where
-  pub whole : WholeSection s
-  pub no-filler : getD s 0 0 ≡ 255 → ⊥
+use Rattle.reverse.specs.Sent.{Sendable}
 
 -- a record that the packets with this PID and first counter go on from: it can stand, it is of the PID, nothing is in hand, it has no last
 -- counter or the one before, and its five counters are 32-bit ones. Its mark may be set.

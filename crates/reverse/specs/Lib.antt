@@ -1,4 +1,8 @@
--- What the packets of the writer are, byte by byte, and what the collector makes of them.
+-- What the packets of the writer are, byte by byte, what the collector makes of them, and what is asked of a writer.
+pub mod Sent
 pub mod Places
 pub mod Rule
+pub mod Packets
 pub mod FedBack
+pub mod Writer
+pub mod AtWork
