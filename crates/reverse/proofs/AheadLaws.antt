@@ -14,6 +14,7 @@ use borrow.Author.Tests.{ltb-true, ltb-false}
 use Rattle.wire.specs.If.{if_then_else_}
 use Rattle.wire.specs.Each.{Each}
 use Rattle.writer.specs.Layout.{Ahead, sum, bytesAhead, opened, waits, unbegun}
+use Rattle.writer.proofs.SizeLaws.{sum-long}
 use Rattle.reverse.specs.Places.{Place, placesOf, placedFrom, placed}
 use Rattle.reverse.proofs.CellLaws.{NoBegin}
 
@@ -46,16 +47,11 @@ pub tail-begins-none : (l : List Place) → Tail l → Each NoBegin l
 tail-begins-none [] x = tt
 tail-begins-none (b ∷ l) x = (x .0, tail-begins-none l (x .2))
 
-length-flatten : (ws : List (List Place)) → length (flatten ws) ≡ sum (map length ws)
-unfolding flatten
-length-flatten [] = refl
-length-flatten (w ∷ ws) = length-append w (flatten ws) ∙ ap (λ (n : ℕ). length w + n) (length-flatten ws)
-
 pub ahead-length : (bytes : List Place) (a : Ahead) → AheadOf bytes a → length bytes ≡ bytesAhead a
 ahead-length bytes a h =
     ap length (h .are)
     ∙ length-append (h .rest) (flatten (h .wholes))
-    ∙ (λ i. h .left-is i + (length-flatten (h .wholes) ∙ ap sum (h .waiting-are)) i)
+    ∙ (λ i. h .left-is i + (sym (sum-long (h .wholes)) ∙ ap sum (h .waiting-are)) i)
 
 -- ---- before the first packet
 

@@ -53,7 +53,8 @@ calls-at-work = record {
 }
 
 small : (r : Record) → bytesCounted (done pointer) r < 2 ^ 32 → bytesCounted (done delivered) r < 2 ^ 32
-    → bytesCounted (done broken) r < 2 ^ 32 → bytesCounted (done filler) r < 2 ^ 32 → bytesCounted (done skipped) r < 2 ^ 32
+    → bytesCounted (done broken) r < 2 ^ 32 → bytesCounted (done filler) r < 2 ^ 32
+    → bytesCounted (done skipped) r < 2 ^ 32
     → (k : Kind) → bytesCounted (done k) r < 2 ^ 32
 small r p d b f s = byKind (λ k. bytesCounted (done k) r < 2 ^ 32) p d b f s
 

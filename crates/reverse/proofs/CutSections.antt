@@ -1,20 +1,19 @@
 -- So many bytes of sections that stand end to end: the sections that end in them, the first part of one that they cut,
 -- and what is behind. The writer's `opened` says of the sizes what is behind.
 use mathlib.Core.Path.{_≡_, refl, sym, ap, _∙_, subst}
-use mathlib.Core.Bool.{Bool}
 use mathlib.Core.List.{List, [], _∷_, _++_, append-assoc, map, flatten}
 use mathlib.Core.Logic.{⊎-elim}
 use Prim.Native.Nat.{ℕ, zero, suc, _+_, _-_, _≤_, _<_}
 use native.Mathlib.Omega.{arith}
 use lib.ListN.{length, take, drop, getD, length-append, length-drop, take-append-drop, List·getD-append}
 use lib.Seq.{length-take-le, take-nil, drop-nil, take-append-le, drop-append-le, take-append-add, drop-append-add}
-use borrow.Author.Tests.{lt-ltb, le-ltb}
-use Rattle.wire.specs.If.{if_then_else_}
 use Rattle.wire.specs.Each.{Each}
 use Rattle.wire.specs.Sections.{Unfinished}
 use Rattle.collector.proofs.ByteRuns.{lt-or-ge, total-prefix}
 use Rattle.history.proofs.LeftInHand.{Standing, standing-none}
-use Rattle.writer.specs.Layout.{Ahead, sum, bytesAhead, opened}
+use Rattle.writer.specs.Layout.{Ahead, bytesAhead, opened}
+use Rattle.writer.proofs.TurnLaws.{opened-here, opened-next}
+use Rattle.writer.proofs.SizeLaws.{sum-long}
 use Rattle.reverse.specs.Sent.{Sendable}
 
 -- ---- the section begun
@@ -73,29 +72,8 @@ begun-stands (part b h c rest x) = record {
 
 -- ---- sizes
 
-pub sum-long : (ws : List (List ℕ)) → sum (map length ws) ≡ length (flatten ws)
-unfolding flatten
-sum-long [] = refl
-sum-long (s ∷ ws) = omega (arith, sum-long ws, length-append s (flatten ws))
-
 pub ahead-long : (rest : List ℕ) (ws : List (List ℕ)) → bytesAhead (aheadOf rest ws) ≡ length (rest ++ flatten ws)
 ahead-long rest ws = omega (arith, sum-long ws, length-append rest (flatten ws))
-
-abbrev openedIf : Bool → ℕ → ℕ → ℕ → List ℕ → Ahead
-openedIf t n left size waiting =
-    if t then opened n (left + size) waiting else record { left = left - n; waiting = size ∷ waiting }
-
--- bytes that are all of the section begun leave the others as they are
-pub opened-within : (n left : ℕ) (waiting : List ℕ) → n ≤ left
-    → opened n left waiting ≡ record { left = left - n; waiting = waiting }
-opened-within n left [] k = refl
-opened-within n left (size ∷ waiting) k =
-    ap (λ (t : Bool). openedIf t n left size waiting) (le-ltb left n k)
-
-opened-beyond : (n left size : ℕ) (waiting : List ℕ) → left < n
-    → opened n left (size ∷ waiting) ≡ opened n (left + size) waiting
-opened-beyond n left size waiting k =
-    ap (λ (t : Bool). openedIf t n left size waiting) (lt-ltb left n k)
 
 -- ---- m bytes of the sections ws
 
@@ -147,7 +125,7 @@ cut-first zero s ws x y k = record {
   laid = refl;
   not-laid = refl;
   sizes = λ n.
-      opened-within (n + 0) n (map length (s ∷ ws)) (omega arith)
+      opened-here (n + 0) n (map length (s ∷ ws)) (omega arith)
       ∙ (λ i. record { left = same n i; waiting = map length (s ∷ ws) });
 }
   where
@@ -172,8 +150,8 @@ cut-first (suc m) s ws x y k =
       not-laid = drop-append-le (suc m) s (flatten ws) (omega arith);
       sizes = λ n.
           let left : n + length s - (n + suc m) ≡ length (drop (suc m) s) = omega arith in
-          opened-beyond (n + suc m) n (length s) (map length ws) (omega arith)
-          ∙ opened-within (n + suc m) (n + length s) (map length ws) (omega arith)
+          opened-next (n + suc m) n (length s) (map length ws) (omega arith)
+          ∙ opened-here (n + suc m) (n + length s) (map length ws) (omega arith)
           ∙ (λ i. record { left = left i; waiting = map length ws });
     }
 
@@ -204,7 +182,7 @@ cut-behind m s ws x k c =
       sizes = λ n.
           let some = x .whole .header in
           let same : n + m ≡ n + length s + (m - length s) = omega arith in
-          opened-beyond (n + m) n (length s) (map length ws) (omega arith)
+          opened-next (n + m) n (length s) (map length ws) (omega arith)
           ∙ ap (λ (z : ℕ). opened z (n + length s) (map length ws)) same
           ∙ c .sizes (n + length s);
     }

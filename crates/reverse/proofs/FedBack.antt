@@ -21,10 +21,11 @@ use Rattle.history.proofs.TestLaws.{or-none}
 use Rattle.writer.specs.Layout.{bytesAhead, Turn, turnOf, turnsFrom, payloadOf, laidOut}
 use Rattle.writer.specs.Packets.{packetOf, packetsFrom, packetsOf}
 use Rattle.writer.proofs.TurnLaws.{turns-stop, turns-on, turn-takes}
+use Rattle.writer.proofs.PayloadLaws.{payload-long}
 use Rattle.reverse.specs.Sent.{Sendable}
 use Rattle.reverse.specs.FedBack.{Ready, Delivers, FedBack, FreshDelivers, RunsOver}
 use Rattle.reverse.proofs.CutSections.{Begun, none, part, unended, aheadOf, begun-stands, ahead-long}
-use Rattle.reverse.proofs.OneTurn.{bodyOf, body-long, body-points, Step, step}
+use Rattle.reverse.proofs.OneTurn.{bodyOf, body-points, Step, step}
 use Rattle.reverse.proofs.Taken.{Holds, Went, went}
 
 -- ---- the packets of what is ahead
@@ -135,7 +136,7 @@ first-call pid counter {h} {rest} ws out few x enough s o e =
     let small = takes .pointer-small w in
     let is = body-points t bytes w in
     omega arith in
-    went x few (t .start) (bodyOf t bytes) out (body-long t bytes there (takes .in-payload)) points enough
+    went x few (t .start) (bodyOf t bytes) out (payload-long t bytes there (takes .in-payload)) points enough
     (s .ended) (s .hand) (s .tells) (begun-stands (s .begun)) o e
 
 -- from any place between two packets, with what is laid of a section in hand

@@ -1,15 +1,12 @@
 -- That what is asked of a writer leaves one: the answer, and every byte of the room.
-use mathlib.Core.Path.{_≡_, refl, sym, ap, _∙_, subst}
+use mathlib.Core.Path.{_≡_, refl, sym, ap, _∙_}
 use mathlib.Core.Logic.{_⊎_, inl, inr}
 use mathlib.Core.List.{List, _++_, flatten}
-use Prim.Native.Nat.{ℕ, _*_}
-use lib.ListN.{length, drop}
-use Rattle.writer.specs.Cut.{cutBy}
-use Rattle.writer.specs.Packets.{packetsOf}
+use Prim.Native.Nat.{ℕ}
 use Rattle.writer.specs.Answer.{Reply, wrote, refusedWith, Outcome}
 use Rattle.writer.specs.Written.{written}
 use Rattle.writer.proofs.Outcomes.{outcome}
-use Rattle.reverse.specs.Writer.{Writer, Promised, packetsIn, Asked, OnlyAsPromised}
+use Rattle.reverse.specs.Writer.{Writer, packetsIn, Asked, OnlyAsPromised}
 use Rattle.reverse.proofs.SentLaws.{each-some}
 use Rattle.reverse.proofs.RoomPackets.{room-packets}
 use Rattle.reverse.proofs.OnlyLayout.{only-layout}

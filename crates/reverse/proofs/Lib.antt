@@ -1,6 +1,7 @@
 -- That the writer's packets obey the rule, that no others do, and that the collector gives their sections back.
 pub mod CellLaws
 pub mod AheadLaws
+pub mod HeaderLaws
 pub mod PacketLaws
 pub mod ObeysRule
 pub mod OnlyLayout

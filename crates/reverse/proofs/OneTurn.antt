@@ -1,86 +1,42 @@
 -- One turn of the writer beside one payload of the collector: what the payload tells, and where both stand behind it.
 use mathlib.Core.Path.{_≡_, refl, sym, ap, _∙_, subst}
 use mathlib.Core.Bool.{Bool, true, false}
-use mathlib.Core.List.{List, [], _∷_, _++_, append-assoc, append-nil, map, map-append, flatten}
+use mathlib.Core.List.{List, [], _∷_, _++_, append-assoc, append-nil, map, flatten}
 use mathlib.Core.Logic.{⊎-elim}
-use Prim.Native.Nat.{ℕ, zero, suc, _+_, _-_, _≤_, _<_}
+use Prim.Native.Nat.{ℕ, _+_, _-_, _≤_, _<_}
 use native.Mathlib.Omega.{arith}
-use lib.ListN.{length, take, drop, getD, replicate, length-append, length-drop, length-map, length-replicate, take-append-drop}
+use lib.ListN.{length, take, drop, getD, replicate, length-append, length-drop, take-append-drop}
 use lib.Seq.{length-take-le, take-append-le, take-append-add, take-append-seam, drop-append-le, drop-append-add, drop-append-seam}
-use Rattle.wire.specs.If.{if_then_else_}
 use Rattle.wire.specs.Each.{Each}
 use Rattle.collector.specs.Rules.{Kind, holding, plain, payload}
 use Rattle.collector.proofs.ByteRuns.{lt-or-ge}
 use Rattle.collector.proofs.SectionLoop.{Apart}
-use Rattle.writer.specs.Layout.{bytesAhead, opened, Turn, least, waits, turnOf, Cell, pointer, byte, filler, pointed, filledUp, payloadOf}
+use Rattle.writer.specs.Layout.{bytesAhead, opened, Turn, least, waits, turnOf, payloadOf}
 use Rattle.writer.specs.Packets.{valueOf}
-use Rattle.writer.proofs.TurnLaws.{least-law, Unflagged, TurnIs, flagged, unflagged, turn-is}
+use Rattle.writer.proofs.TurnLaws.{least-law, Unflagged, TurnIs, flagged, unflagged, turn-is, opened-here}
+use Rattle.writer.proofs.SizeLaws.{sum-long}
+use Rattle.writer.proofs.PayloadLaws.{pointerOf, fillers, payload-bytes}
 use Rattle.reverse.specs.Sent.{Sendable}
-use Rattle.reverse.proofs.CutSections.{Begun, none, part, unended, aheadOf, unended-first, begun-some, begun-none, sum-long, opened-within, cut-at}
+use Rattle.reverse.proofs.CutSections.{Begun, none, part, unended, aheadOf, unended-first, begun-some, begun-none, cut-at}
 use Rattle.reverse.proofs.Carries.{Tells, flagged-tells, going-tells, ending-tells}
 
 -- ---- the bytes of a payload
-
-values-byte : (l : List ℕ) → map valueOf (map byte l) ≡ l
-values-byte [] = refl
-values-byte (b ∷ l) = ap (λ (z : List ℕ). b ∷ z) (values-byte l)
-
-values-filler : (k : ℕ) → map valueOf (replicate k filler) ≡ replicate k 255
-values-filler zero = refl
-values-filler (suc k) = ap (λ (z : List ℕ). 255 ∷ z) (values-filler k)
 
 -- the bytes of the payload, as the packet has them
 abbrev pub bodyOf : Turn → List ℕ → List ℕ
 bodyOf t bytes = map valueOf (payloadOf t bytes .cells)
 
--- the bytes of filler in it
-abbrev fillers : Turn → List ℕ → ℕ
-fillers t bytes = 184 - length (pointed t ++ map byte (take (t .bytes) bytes))
-
 body-is : (t : Turn) (bytes : List ℕ)
-    → bodyOf t bytes ≡ map valueOf (pointed t) ++ (take (t .bytes) bytes ++ replicate (fillers t bytes) 255)
+    → bodyOf t bytes ≡ pointerOf (t .start) (t .left) ++ (take (t .bytes) bytes ++ replicate (fillers t bytes) 255)
 body-is t bytes =
-    let laid : List (Cell ℕ) = map byte (take (t .bytes) bytes) in
-    map-append valueOf (pointed t ++ laid) (replicate (fillers t bytes) filler)
-    ∙ ap (λ (z : List ℕ). z ++ map valueOf (replicate (fillers t bytes) filler)) (map-append valueOf (pointed t) laid)
-    ∙ ap (λ (z : List ℕ). (map valueOf (pointed t) ++ z) ++ map valueOf (replicate (fillers t bytes) filler))
-    (values-byte (take (t .bytes) bytes))
-    ∙ ap (λ (z : List ℕ). (map valueOf (pointed t) ++ take (t .bytes) bytes) ++ z) (values-filler (fillers t bytes))
-    ∙ append-assoc (map valueOf (pointed t)) (take (t .bytes) bytes) (replicate (fillers t bytes) 255)
-
-laid-long : (n : ℕ) (bytes : List ℕ) → n ≤ length bytes → length (map byte (take n bytes)) ≡ n
-laid-long n bytes k = length-map (take n bytes) byte ∙ length-take-le n bytes k
-
--- one pointer, where the flag stands
-abbrev pointerIf : ℕ → Bool → List (Cell ℕ)
-pointerIf left b = if b then pointer left ∷ [] else []
-
-pointer-long : (left : ℕ) (b : Bool) → length (pointerIf left b) ≡ (if b then 1 else 0)
-pointer-long left true = refl
-pointer-long left false = refl
-
-pub body-long : (t : Turn) (bytes : List ℕ) → t .bytes ≤ length bytes → t .bytes + (if t .start then 1 else 0) ≤ 184
-    → length (bodyOf t bytes) ≡ 184
-body-long t bytes there k =
-    let laid : List (Cell ℕ) = map byte (take (t .bytes) bytes) in
-    let no-byte : Cell ℕ = filler in
-    let few : length (pointed t ++ laid) ≤ 184 =
-    omega (
-      arith,
-      length-append (pointed t) laid,
-      pointer-long (t .left) (t .start),
-      laid-long (t .bytes) bytes there,
-    ) in
-    length-map (payloadOf t bytes .cells) valueOf
-    ∙ omega (
-      arith,
-      length-append (pointed t ++ laid) (replicate (fillers t bytes) filler),
-      length-replicate (fillers t bytes) no-byte,
-    )
+    payload-bytes t bytes
+    ∙ append-assoc (pointerOf (t .start) (t .left)) (take (t .bytes) bytes) (replicate (fillers t bytes) 255)
 
 pub body-points : (t : Turn) (bytes : List ℕ) → t .start ≡ true → getD (bodyOf t bytes) 0 0 ≡ t .left
 body-points t bytes e =
-    ap (λ (b : Bool). getD (map valueOf (filledUp (pointerIf (t .left) b ++ map byte (take (t .bytes) bytes)))) 0 0) e
+    ap (λ (l : List ℕ). getD l 0 0) (body-is t bytes)
+    ∙ ap (λ (b : Bool). getD (pointerOf b (t .left) ++ (take (t .bytes) bytes ++ replicate (fillers t bytes) 255)) 0 0)
+    e
 
 -- ---- one turn
 
@@ -124,7 +80,7 @@ module _ (comes : List ℕ → Kind) where
         let c = cut-at m ws each (omega (arith, all-long)) in
         let k : ℕ = fillers (started n) bytes in
         let both : n ≡ length rest + m = omega arith in
-        let long = laid-long n bytes (omega (arith, bytes-long)) in
+        let long = length-take-le n bytes (omega (arith, bytes-long)) in
         let none-left : 0 < k → length (c .rest) ≡ 0 = λ w.
         let whole : n ≡ all = full (omega arith) in
         omega (
@@ -173,7 +129,7 @@ module _ (comes : List ℕ → Kind) where
     step-going : (n : ℕ) → n < length rest → n ≡ 184 → Step (b ∷ h) rest ws (unstarted rest n)
     step-going n k full =
         let cut : take n rest ++ drop n rest ≡ rest = take-append-drop n rest in
-        let long = laid-long n behind (omega (arith, length-append rest (flatten ws))) in
+        let long = length-take-le n behind (omega (arith, length-append rest (flatten ws))) in
         let none-left : fillers (unstarted rest n) behind ≡ 0 = omega arith in
         let body : bodyOf (unstarted rest n) behind ≡ take n rest =
         body-is (unstarted rest n) behind
@@ -197,7 +153,7 @@ module _ (comes : List ℕ → Kind) where
           sections-are = ap (λ (z : List ℕ). z ∷ ws) (sym (joined ∙ more));
           not-laid = drop-append-le n rest (flatten ws) (omega arith);
           sizes =
-              opened-within n (length rest) (map length ws) (omega arith)
+              opened-here n (length rest) (map length ws) (omega arith)
               ∙ (λ i. record { left = left-is i; waiting = map length ws });
           tells =
               subst
@@ -225,7 +181,7 @@ module _ (comes : List ℕ → Kind) where
           sections-are = refl;
           not-laid = ap (λ (z : ℕ). drop z behind) full ∙ drop-append-seam rest (flatten ws);
           sizes =
-              opened-within n (length rest) (map length ws) (omega arith)
+              opened-here n (length rest) (map length ws) (omega arith)
               ∙ (λ i. record { left = none-left i; waiting = map length ws });
           tells =
               subst

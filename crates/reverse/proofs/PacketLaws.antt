@@ -3,20 +3,18 @@
 use mathlib.Core.Path.{_≡_, refl, sym, ap, _∙_}
 use mathlib.Core.Bool.{Bool, true, false}
 use mathlib.Core.List.{List, [], _∷_, _++_, map, map-append, flatten}
-use Prim.Native.Nat.{ℕ, zero, suc, _+_, _-_, _*_, _/_, _%_, _≤_, _<_}
+use Prim.Native.Nat.{ℕ, zero, suc, _+_, _-_, _/_, _%_, _≤_}
 use native.Mathlib.Omega.{arith}
 use lib.ListN.{length, take, drop, replicate, length-map}
-use lib.Dec.{leb, eqb}
-use borrow.Author.Tests.{leb-false, eqb-true, eqb-false, lt-leb, eq-eqb, ne-eqb}
 use Rattle.wire.specs.If.{if_then_else_}
 use Rattle.wire.specs.Each.{Each}
-use Rattle.packet.specs.Header as Header
 use Rattle.writer.specs.Layout.{Cell, pointer, byte, filler, Payload, Turn, pointed, filledUp, payloadOf, laidOut, turnsFrom, unbegun, layout}
 use Rattle.writer.specs.Packets.{packetOf, packetsFrom}
 use Rattle.writer.specs.Packets as Packets
 use Rattle.reverse.specs.Places.{Place, placesOf, placedFrom, placed}
 use Rattle.reverse.specs.Rule.{valueOf, Headed, AllHeaded}
 use Rattle.reverse.proofs.CellLaws.{Cells}
+use Rattle.reverse.proofs.HeaderLaws.{flag-byte, payload-at, packet-long, no-error, flag-is, pid-is, clear, control-is, counter-is, high-bits, flags-are}
 
 -- ---- the payloads, by the bytes' values
 
@@ -36,47 +34,23 @@ values-are (filler ∷ c) = ap (λ (l : List ℕ). 255 ∷ l) (values-are c)
 
 -- ---- the header
 
--- the byte with the flags, for a PID of 13 bits
-record FlagByte (pid : ℕ) (start : Bool) (b : ℕ) : Type 0 where
-  no-error : leb 128 b ≡ false
-  flag : eqb (b / 64 % 2) 1 ≡ start
-  no-priority : b / 32 % 2 ≡ 0
-  high : b % 32 ≡ pid / 256
-
-flag-byte : (pid : ℕ) → pid ≤ 8191 → (start : Bool) → FlagByte pid start ((if start then 64 else 0) + pid / 256)
-flag-byte pid k true = record {
-  no-error = lt-leb 128 (64 + pid / 256) (omega arith);
-  flag = eq-eqb ((64 + pid / 256) / 64 % 2) 1 (omega arith);
-  no-priority = omega arith;
-  high = omega arith;
-}
-flag-byte pid k false = record {
-  no-error = lt-leb 128 (0 + pid / 256) (omega arith);
-  flag = ne-eqb ((0 + pid / 256) / 64 % 2) 1 (λ w. omega arith);
-  no-priority = omega arith;
-  high = omega arith;
-}
-
--- the payload begins at byte 4
-payload-at : (x : List ℕ) → Header.control x ≡ 1 → Header.payloadOf x ≡ drop 4 x
-payload-at x e = ap (λ (t : Bool). drop (if t then 4 else 5 + Header.adaptation x) x) (eq-eqb (Header.control x) 1 e)
-
 header-is : (pid counter : ℕ) → pid ≤ 8191 → counter ≤ 15 → (p : Payload Place) → length (p .cells) ≡ 184
     → Headed pid counter p (packetOf pid counter (valued p))
 header-is pid counter k j p e =
-    let first = flag-byte pid k (p .start) in
-    let field : (16 + counter) / 16 % 4 ≡ 1 = omega arith in
+    let body : List ℕ = map Packets.valueOf (map valuedCell (p .cells)) in
+    let field = control-is pid counter (p .start) body k j in
     record {
-      long = omega (arith, e, length-map (map valuedCell (p .cells)) Packets.valueOf, length-map (p .cells) valuedCell);
+      long = packet-long pid counter (p .start) body k j
+          (omega (arith, e, length-map (map valuedCell (p .cells)) Packets.valueOf, length-map (p .cells) valuedCell));
       sync = refl;
-      no-error = first .no-error;
-      flag = first .flag;
-      no-priority = first .no-priority;
+      no-error = no-error pid counter (p .start) body k j;
+      flag = flag-is pid counter (p .start) body k j;
+      no-priority = flag-byte pid k (p .start) .no-priority;
       a-byte = omega arith;
-      pid-is = omega (arith, first .high);
-      clear = omega arith;
+      pid-is = pid-is pid counter (p .start) body k j;
+      clear = clear pid counter (p .start) body k j;
       no-field = field;
-      counter-is = omega arith;
+      counter-is = counter-is pid counter (p .start) body k j;
       payload-is = payload-at (packetOf pid counter (valued p)) field ∙ values-are (p .cells);
     }
 
@@ -89,25 +63,6 @@ all-headed pid counter k j (p ∷ ps) x = (
 )
 
 -- ---- and no other
-
-high-bits : (a c pid : ℕ) → a * 256 + c ≡ pid → c < 256 → a ≡ pid / 256
-high-bits a c pid h k = omega arith
-
-not-one : (n : ℕ) → n < 2 → (n % 2 ≡ 1 → ⊥) → n ≡ 0
-not-one zero k e = refl
-not-one (suc zero) k e = absurd (e refl)
-not-one (suc (suc n)) k e = absurd (omega arith)
-
-flags-are : (b pid : ℕ) (start : Bool) → FlagByte pid start b → b ≡ (if start then 64 else 0) + pid / 256
-flags-are b pid true f =
-    let small : b < 128 = leb-false 128 b (f .no-error) in
-    let bit : b / 64 % 2 ≡ 1 = eqb-true (b / 64 % 2) 1 (f .flag) in
-    let one : b / 64 ≡ 1 = omega (arith, small, bit) in
-    omega (arith, small, one, f .no-priority, f .high)
-flags-are b pid false f =
-    let small : b < 128 = leb-false 128 b (f .no-error) in
-    let none : b / 64 ≡ 0 = not-one (b / 64) (omega (arith, small)) (eqb-false (b / 64 % 2) 1 (f .flag)) in
-    omega (arith, small, none, f .no-priority, f .high)
 
 headed-only : (pid counter : ℕ) (p : Payload Place) (x : List ℕ) → Headed pid counter p x
     → x ≡ packetOf pid counter (valued p)

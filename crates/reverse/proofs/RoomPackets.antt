@@ -51,7 +51,8 @@ room-packets (suc n) room =
     ∙ take-append-drop 188 room
 
 -- packets with the rule's header have 188 bytes
-pub headed-long : (pid counter : ℕ) (ps : List (Payload Place)) (packets : List (List ℕ)) → AllHeaded pid counter ps packets
+pub headed-long : (pid counter : ℕ) (ps : List (Payload Place)) (packets : List (List ℕ))
+    → AllHeaded pid counter ps packets
     → Each Long packets
 headed-long pid counter [] [] x = tt
 headed-long pid counter [] (p ∷ packets) x = absurd x

@@ -1,13 +1,13 @@
 -- The writer's test of bytes and sizes says that they are sections to send, and which.
-use mathlib.Core.Path.{_≡_, refl, sym, ap, _∙_, subst}
+use mathlib.Core.Path.{_≡_, refl, sym, ap, _∙_}
 use mathlib.Core.Bool.{true, not}
 use mathlib.Core.List.{List, [], _∷_, _++_, map, flatten}
-use Prim.Native.Nat.{ℕ, _+_, _≤_, _<_}
+use Prim.Native.Nat.{ℕ, _<_}
 use native.Mathlib.Omega.{arith}
 use lib.ListN.{length, take, drop, getD, length-append}
 use lib.Seq.{take-append-seam, drop-append-seam}
 use lib.Dec.{eqb}
-use borrow.Author.Tests.{eqb-false, eq-eqb, ne-eqb, not-true}
+use borrow.Author.Tests.{eqb-false, ne-eqb, not-true}
 use Rattle.wire.specs.Each.{Each}
 use Rattle.writer.specs.Cut.{sendable, cutBy, fit}
 use Rattle.writer.proofs.CutLaws.{by-first, fit-goes, fit-end, fit-parts, goes-parts, cut-sizes, cut-bytes}
@@ -58,7 +58,8 @@ fit-back : (sections : List (List ℕ)) → Each Sendable sections → fit (map 
 unfolding flatten
 fit-back [] x = fit-end []
 fit-back (s ∷ sections) x =
-    fit-goes (length s) (map length sections) (s ++ flatten sections) (omega (arith, length-append s (flatten sections)))
+    fit-goes (length s) (map length sections) (s ++ flatten sections)
+    (omega (arith, length-append s (flatten sections)))
     (ap sendable (take-append-seam s (flatten sections)) ∙ sendable-goes s (x .0))
     ∙ ap (fit (map length sections)) (drop-append-seam s (flatten sections))
     ∙ fit-back sections (x .1)
@@ -68,7 +69,8 @@ sent-fit {bytes} {sizes} {sections} x =
     sym (λ i. fit (x .sizes-are i) (x .bytes-are i)) ∙ fit-back sections (x .each)
 
 -- there is one way to cut them
-pub sent-once : {bytes sizes : List ℕ} {sections : List (List ℕ)} → Sent bytes sizes sections → cutBy sizes bytes ≡ sections
+pub sent-once : {bytes sizes : List ℕ} {sections : List (List ℕ)} → Sent bytes sizes sections
+    → cutBy sizes bytes ≡ sections
 sent-once {bytes} {sizes} {sections} x = sym (λ i. cutBy (x .sizes-are i) (x .bytes-are i)) ∙ cut-back sections
 
 -- a section that is sent has bytes

@@ -5,16 +5,16 @@ use mathlib.Core.Bool.{Bool, true, false, not, _&&_, _||_}
 use mathlib.Core.List.{List, [], _++_, flatten}
 use mathlib.Core.Logic.{_⊎_, inl, ⊎-elim}
 use mathlib.Core.Option.{Option, none, some}
-use Prim.Native.Nat.{ℕ, _+_, _-_, _*_, _/_, _%_, _^_, _≤_, _<_}
+use Prim.Native.Nat.{ℕ, _+_, _%_, _^_, _≤_, _<_}
 use native.Mathlib.Omega.{arith}
 use lib.ListN.{length, take, drop, getD, length-append, length-drop}
 use lib.Seq.{take-append-seam}
-use lib.Dec.{ltb, leb, eqb}
-use borrow.Author.Tests.{ltb-false, eqb-true, le-ltb, lt-leb, eq-eqb, ne-eqb}
+use lib.Dec.{ltb, eqb}
+use borrow.Author.Tests.{ltb-false, eqb-true, le-ltb, eq-eqb, ne-eqb}
 use Rattle.wire.specs.If.{if_then_else_}
 use Rattle.wire.specs.Each.{Each}
 use Rattle.wire.specs.Sections.{WholeSection}
-use Rattle.packet.specs.Header.{transportError, startFlag, pidOf, scrambling, control, counterOf, adaptation, bitOfField, discontinuity, payloadFrom, payloadOf, pointerOf}
+use Rattle.packet.specs.Header.{startFlag, pidOf, scrambling, control, counterOf, adaptation, discontinuity, payloadFrom, payloadOf, pointerOf}
 use Rattle.packet.specs.Refusals.{wrongAdaptation, pointsPast, refusals, bare, has-payload, judgedBy, judged}
 use Rattle.packet.specs.Ruling.{Before, equalTo, nextTo, repeats, joins, Carried, loadOf, repeated, takes, ruledBy, ruling}
 use Rattle.packet.proofs.Table.{or-false, Passed, all-passed}
@@ -31,55 +31,25 @@ use Rattle.history.proofs.TestLaws.{and-none}
 use Rattle.history.proofs.LeftInHand.{Standing, stands-after}
 use Rattle.history.proofs.Agrees.{cut-whole, whole-taken}
 use Rattle.writer.specs.Packets.{headerOf}
+use Rattle.reverse.proofs.HeaderLaws.{packet-long, no-error, flag-is, pid-is, clear, control-is, counter-is, from-is, no-bit}
 use Rattle.reverse.proofs.Carries.{Tells}
 
--- ---- the header, read back
+-- ---- a packet of the writer
 
--- a packet with 184 bytes of payload, whose pointer, where it has one, is not above 182
+-- with 184 bytes of payload, whose pointer, where it has one, is not above 182
 module _ (pid counter : ℕ) (start : Bool) (body : List ℕ) (a-pid : pid ≤ 8191) (a-counter : counter ≤ 15)
     (long : length body ≡ 184) (points : start ≡ true → getD body 0 0 ≤ 182) where
   abbrev packet : List ℕ
   packet = headerOf pid counter start ++ body
 
-  -- the high bits of byte 1
-  abbrev second : Bool → ℕ
-  second t = (if t then 0x40 else 0) + pid / 256
+  flag : startFlag packet ≡ start
+  flag = flag-is pid counter start body a-pid a-counter
 
-  no-error : transportError packet ≡ false
-  no-error = at start
-    where
-      at : (t : Bool) → leb 128 (second t) ≡ false
-      at true = lt-leb 128 (0x40 + pid / 256) (omega arith)
-      at false = lt-leb 128 (0 + pid / 256) (omega arith)
+  field : control packet ≡ 1
+  field = control-is pid counter start body a-pid a-counter
 
-  flag-is : startFlag packet ≡ start
-  flag-is = at start
-    where
-      at : (t : Bool) → eqb (second t / 64 % 2) 1 ≡ t
-      at true = eq-eqb ((0x40 + pid / 256) / 64 % 2) 1 (omega arith)
-      at false = ne-eqb ((0 + pid / 256) / 64 % 2) 1 (λ e. omega arith)
-
-  pid-is : pidOf packet ≡ pid
-  pid-is = at start
-    where
-      at : (t : Bool) → second t % 32 * 256 + pid % 256 ≡ pid
-      at true = omega arith
-      at false = omega arith
-
-  clear : scrambling packet ≡ 0
-  clear = omega arith
-
-  control-is : control packet ≡ 1
-  control-is = omega arith
-
-  counter-is : counterOf packet ≡ counter
-  counter-is = omega arith
-
-  from-is : payloadFrom packet ≡ 4
-  from-is = ap (λ (z : ℕ). if eqb z 1 then 4 else 5 + adaptation packet) control-is
-
-  no-bit : discontinuity packet ≡ false
-  no-bit = ap (λ (z : ℕ). leb 2 z && bitOfField packet) control-is
+  from : payloadFrom packet ≡ 4
+  from = from-is pid counter start body a-pid a-counter
 
   -- ---- no row of the table applies
 
@@ -88,14 +58,14 @@ module _ (pid counter : ℕ) (start : Bool) (body : List ℕ) (a-pid : pid ≤ 8
       ap
       (λ (z : ℕ). eqb z 0
       || ((eqb z 3 && ltb 182 (adaptation packet)) || (eqb z 2 && not (eqb (adaptation packet) 183))))
-      control-is
+      field
 
   within : pointsPast packet ≡ false
   within =
       ap (λ (z : ℕ). not (eqb z 2) && (startFlag packet && ltb (length (payloadOf packet)) (pointerOf packet + 2)))
-      control-is
-      ∙ ap (λ (z : Bool). z && ltb (length (payloadOf packet)) (pointerOf packet + 2)) flag-is
-      ∙ ap (λ (z : ℕ). start && ltb (length (drop z packet)) (getD packet z 0 + 2)) from-is
+      field
+      ∙ ap (λ (z : Bool). z && ltb (length (payloadOf packet)) (pointerOf packet + 2)) flag
+      ∙ ap (λ (z : ℕ). start && ltb (length (drop z packet)) (getD packet z 0 + 2)) from
       ∙ at start refl
     where
       at : (t : Bool) → start ≡ t → (t && ltb (length body) (getD body 0 0 + 2)) ≡ false
@@ -104,10 +74,12 @@ module _ (pid counter : ℕ) (start : Bool) (body : List ℕ) (a-pid : pid ≤ 8
 
   passes : (small unfit : Bool) → small ≡ false → unfit ≡ false → Each Passed (refusals small unfit pid packet)
   passes small unfit e w =
-      let size : eqb (length packet) 188 ≡ true = eq-eqb (length packet) 188 (omega arith) in
-      let ours = eq-eqb (pidOf packet) pid pid-is in
-      let unscrambled = eq-eqb (scrambling packet) 0 clear in
-      (ap not size, (e, (w, (refl, (no-error, (ap not ours, (ap not unscrambled, (adapted, (within, tt)))))))))
+      let size : eqb (length packet) 188 ≡ true =
+      eq-eqb (length packet) 188 (packet-long pid counter start body a-pid a-counter long) in
+      let ours = eq-eqb (pidOf packet) pid (pid-is pid counter start body a-pid a-counter) in
+      let unscrambled = eq-eqb (scrambling packet) 0 (clear pid counter start body a-pid a-counter) in
+      let right = no-error pid counter start body a-pid a-counter in
+      (ap not size, (e, (w, (refl, (right, (ap not ours, (ap not unscrambled, (adapted, (within, tt)))))))))
 
   is-judged : (small unfit : Bool) → small ≡ false → unfit ≡ false
       → judged small unfit pid packet ≡ has-payload 4 start counter false
@@ -117,8 +89,9 @@ module _ (pid counter : ℕ) (start : Bool) (body : List ℕ) (a-pid : pid ≤ 8
       ∙ ap
       (λ (z : ℕ). if eqb z 2 then bare (discontinuity packet)
       else has-payload (payloadFrom packet) (startFlag packet) (counterOf packet) (discontinuity packet))
-      control-is
-      ∙ (λ i. has-payload (from-is i) (flag-is i) (counter-is i) (no-bit i))
+      field
+      ∙ (λ i. has-payload (from i) (flag i) (counter-is pid counter start body a-pid a-counter i)
+      (no-bit pid counter start body a-pid a-counter i))
 
   -- ---- it is taken
 

@@ -1,21 +1,21 @@
 -- That the promise of `writer::write` gives each statement about a writer.
 use mathlib.Core.Path.{_≡_, refl, sym, ap, _∙_, subst}
 use mathlib.Core.Bool.{Bool, true, false, not, _||_, false≢true}
-use mathlib.Core.Logic.{_⊎_, inl, inr, ⊎-elim, _↔_}
-use mathlib.Core.List.{List, [], _∷_, _++_, map, flatten}
+use mathlib.Core.Logic.{_⊎_, inl, inr}
+use mathlib.Core.List.{List, [], _∷_, _++_, flatten}
 use Prim.Native.Nat.{ℕ, _*_, _≤_, _<_}
 use native.Mathlib.Omega.{arith}
 use lib.ListN.{length, drop, length-append, length-drop}
 use lib.Seq.{drop-append-seam}
 use lib.Dec.{ltb}
-use borrow.Author.Tests.{ltb-true, ltb-false, lt-ltb, le-ltb}
+use borrow.Author.Tests.{ltb-true, ltb-false}
 use Rattle.wire.specs.Each.{Each}
 use Rattle.copy.specs.Laid.{over}
 use Rattle.packet.specs.Refusals.{_when_, firstOf}
 use Rattle.writer.specs.Cut.{cutBy, fit}
 use Rattle.writer.specs.Packets.{packetsOf}
 use Rattle.writer.specs.Answer.{Reply, wrote, refusedWith, Outcome}
-use Rattle.writer.specs.Written.{packetCount, outcomeBy, written}
+use Rattle.writer.specs.Written.{packetCount, outcomeBy}
 use Rattle.writer.proofs.Outcomes.{outcome}
 use Rattle.reverse.specs.Sent.{Sent}
 use Rattle.reverse.specs.Rule.{Obeys}
@@ -38,7 +38,8 @@ pub data Comes (pid counter : ℕ) (bytes sizes room : List ℕ) (o : Outcome) :
   room-short : RightStart pid counter → fit sizes bytes ≡ true → length room < packetCount sizes * 188
       → o ≡ outcome room (refusedWith 103) → Comes pid counter bytes sizes room o
   all-right : RightStart pid counter → fit sizes bytes ≡ true → packetCount sizes * 188 ≤ length room
-      → o ≡ outcome (roomWith pid counter bytes sizes room) (wrote (packetCount sizes)) → Comes pid counter bytes sizes room o
+      → o ≡ outcome (roomWith pid counter bytes sizes room) (wrote (packetCount sizes))
+      → Comes pid counter bytes sizes room o
 
 module _ (pid counter : ℕ) (bytes sizes room : List ℕ) where
   abbrev by : Bool → Bool → Bool → Bool → Outcome
@@ -59,7 +60,8 @@ module _ (pid counter : ℕ) (bytes sizes room : List ℕ) where
 
   pub comes : (o : Outcome) → Promised pid counter bytes sizes room o → Comes pid counter bytes sizes room o
   comes o e =
-      comes-by o (ltb 8191 pid) (ltb 15 counter) (fit sizes bytes) (ltb (length room) (packetCount sizes * 188)) refl refl
+      comes-by o (ltb 8191 pid) (ltb 15 counter) (fit sizes bytes) (ltb (length room) (packetCount sizes * 188)) refl
+      refl
       refl refl e
 
 -- ---- answers apart
@@ -129,7 +131,8 @@ module _ (pid counter : ℕ) (bytes sizes : List ℕ) where
   -- whatever packets obey the rule, there are so many of them
   pub carries-many : (n : ℕ) → Carries pid counter bytes sizes n → (fit sizes bytes ≡ true) × (n ≡ packetCount sizes)
   carries-many n c =
-      let is = only-layout pid counter (c .sections) (c .packets) (each-some (c .sections) (c .sent .each)) (c .obeys) in (
+      let is = only-layout pid counter (c .sections) (c .packets) (each-some (c .sections) (c .sent .each))
+      (c .obeys) in (
         sent-fit (c .sent),
         sym (c .many) ∙ ap length is ∙ count-is pid counter (c .sections) ∙ ap packetCount (c .sent .sizes-are),
       )
@@ -166,7 +169,8 @@ bad-section-exactly-if pid counter bytes sizes room o e =
     forth (all-right r k w f) g = apart f g (λ z. omega arith)
 
     back : Comes pid counter bytes sizes room o
-        → RightStart pid counter × ((sections : List (List ℕ)) → Sent bytes sizes sections → ⊥) → o .said ≡ refusedWith 102
+        → RightStart pid counter × ((sections : List (List ℕ)) → Sent bytes sizes sections → ⊥)
+        → o .said ≡ refusedWith 102
     back (start-bad k f) g = not-both k (g .0)
     back (section-bad r k f) g = said-is f
     back (room-short r k w f) g = absurd (g .1 (cutBy sizes bytes) (fit-sent sizes bytes k))
@@ -260,10 +264,12 @@ writes-by pid counter bytes sizes room o n g (all-right r k w f) = record {
 
 pub writes-at : (pid counter : ℕ) (bytes sizes room : List ℕ) (o : Outcome) → Promised pid counter bytes sizes room o
     → (n : ℕ) → o .said ≡ wrote n → Writes pid counter bytes sizes room o n
-writes-at pid counter bytes sizes room o e n g = writes-by pid counter bytes sizes room o n g (comes pid counter bytes sizes room o e)
+writes-at pid counter bytes sizes room o e n g =
+    writes-by pid counter bytes sizes room o n g (comes pid counter bytes sizes room o e)
 
 -- the packets of its room are those of the layout
-pub packets-are : {pid counter : ℕ} {bytes sizes room : List ℕ} {o : Outcome} {n : ℕ} → Writes pid counter bytes sizes room o n
+pub packets-are : {pid counter : ℕ} {bytes sizes room : List ℕ} {o : Outcome} {n : ℕ}
+    → Writes pid counter bytes sizes room o n
     → (sections : List (List ℕ)) → Sent bytes sizes sections → packetsIn n (o .room) ≡ packetsOf pid counter sections
 packets-are {pid} {counter} {bytes} {sizes} {room} w sections x =
     sym (λ i. packetsIn (w .many i) (sym (w .room-is) i))
@@ -280,7 +286,8 @@ pub later-stay : LaterStay Promised
 later-stay pid counter bytes sizes room o e n g =
     let w = writes-at pid counter bytes sizes room o e n g in
     let all : List ℕ = flatten (packetsOf pid counter (cutBy sizes bytes)) in
-    let long : length all ≡ n * 188 = all-long pid counter bytes sizes (w .right) (w .fits) ∙ ap (λ (m : ℕ). m * 188) (w .many) in
+    let long : length all ≡ n * 188 =
+    all-long pid counter bytes sizes (w .right) (w .fits) ∙ ap (λ (m : ℕ). m * 188) (w .many) in
     let enough = w .enough in
     let many = w .many in (
       ap (drop (n * 188)) (w .room-is)

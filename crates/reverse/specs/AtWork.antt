@@ -3,7 +3,7 @@ use mathlib.Core.Path.{_≡_}
 use mathlib.Core.Bool.{true, false}
 use mathlib.Core.List.{List, [], _∷_, _++_, map}
 use Prim.Native.Nat.{ℕ}
-use lib.ListN.{length, take, replicate}
+use lib.ListN.{take, replicate}
 use Rattle.collector.specs.Collected.{freshRecord, recordWith}
 use Rattle.collector.specs.declared.Record.{Record}
 use Rattle.collector.specs.declared.Last.the-variants.{Counter}

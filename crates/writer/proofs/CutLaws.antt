@@ -3,7 +3,7 @@
 use mathlib.Core.Path.{_≡_, refl, sym, ap, _∙_}
 use mathlib.Core.Bool.{Bool, true, false, not, _&&_, false≢true}
 use mathlib.Core.List.{List, [], _∷_, _++_, map, flatten}
-use Prim.Native.Nat.{ℕ, _+_, _-_, _≤_, _<_}
+use Prim.Native.Nat.{ℕ, _+_, _≤_, _<_}
 use native.Mathlib.Omega.{arith}
 use lib.ListN.{length, take, drop, getD, length-drop, take-append-drop}
 use lib.Seq.{length-take-le, getD-take, getD-drop}
@@ -26,7 +26,8 @@ other-length-stays s k e = simp (le-leb 3 (length s) k, ne-eqb (length s) (total
 pub over-stays : (s : List ℕ) → 3 ≤ length s → length s ≡ totalOf s → 4096 < length s → sendable s ≡ false
 over-stays s k e w = simp (le-leb 3 (length s) k, eq-eqb (length s) (totalOf s) e, lt-leb (length s) 4096 w)
 
-pub by-first : (s : List ℕ) → 3 ≤ length s → length s ≡ totalOf s → length s ≤ 4096 → sendable s ≡ not (eqb (getD s 0 0) 255)
+pub by-first : (s : List ℕ) → 3 ≤ length s → length s ≡ totalOf s → length s ≤ 4096
+    → sendable s ≡ not (eqb (getD s 0 0) 255)
 by-first s k e w = simp (le-leb 3 (length s) k, eq-eqb (length s) (totalOf s) e, le-leb (length s) 4096 w)
 
 -- ---- a section in the bytes

@@ -1,7 +1,8 @@
--- Laws of where the packets begin, of the sizes of sections, of which can be sent, and of the room.
+-- Laws of where the packets begin, of the sizes of sections, of which can be sent, of a payload's bytes, and of the room.
 pub mod TurnLaws
 pub mod SizeLaws
 pub mod CutLaws
+pub mod PayloadLaws
 pub mod RoomLaws
 pub mod StepLaws
 pub mod Outcomes

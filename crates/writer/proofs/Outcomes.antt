@@ -2,19 +2,18 @@
 use mathlib.Core.Path.{_≡_, refl, sym, ap, _∙_}
 use mathlib.Core.Bool.{Bool, true, false, not, _||_}
 use mathlib.Core.List.{List, [], _∷_, flatten}
-use mathlib.Core.Option.{Option, none, some}
 use Prim.Native.Nat.{ℕ, _*_, _/_, _≤_, _<_}
 use native.Mathlib.Omega.{arith}
 use lib.ListN.{length}
 use lib.Dec.{ltb}
 use borrow.Author.Tests.{lt-ltb, le-ltb}
 use Rattle.copy.specs.Laid.{over}
-use Rattle.packet.specs.Refusals.{Row, _when_, firstOf}
+use Rattle.packet.specs.Refusals.{_when_, firstOf}
 use Rattle.writer.specs.Cut.{fit, cutBy}
-use Rattle.writer.specs.Layout.{Turn, unbegun, turnsFrom, laidOut, layout}
+use Rattle.writer.specs.Layout.{unbegun, turnsFrom, laidOut}
 use Rattle.writer.specs.Packets.{packetsFrom, packetsOf}
 use Rattle.writer.specs.Answer.{Outcome, Reply, wrote, refusedWith}
-use Rattle.writer.specs.Written.{packetCount, refusals, outcomeBy, written}
+use Rattle.writer.specs.Written.{packetCount, outcomeBy, written}
 use Rattle.writer.proofs.CutLaws.{cut-sizes, cut-bytes}
 
 abbrev pub outcome : List ℕ → Reply → Outcome
@@ -51,9 +50,11 @@ module _ (pid counter : ℕ) (bytes sizes room : List ℕ) where
         room-enough k = omega (arith, e)
 
         -- the layout of the sections is that of their sizes
-        same-packets : packetsFrom pid counter (laidOut (turnsFrom (unbegun sizes)) bytes) ≡ packetsOf pid counter (cutBy sizes bytes)
+        same-packets : packetsFrom pid counter (laidOut (turnsFrom (unbegun sizes)) bytes)
+            ≡ packetsOf pid counter (cutBy sizes bytes)
         same-packets =
-            sym (λ i. packetsFrom pid counter (laidOut (turnsFrom (unbegun (cut-sizes sizes bytes fits i))) (cut-bytes sizes bytes fits i)))
+            sym (λ i. packetsFrom pid counter
+            (laidOut (turnsFrom (unbegun (cut-sizes sizes bytes fits i))) (cut-bytes sizes bytes fits i)))
 
         pub all-written : n ≤ length room / 188 → (room′ : List ℕ)
             → room′ ≡ over (flatten (packetsFrom pid counter (laidOut (turnsFrom (unbegun sizes)) bytes))) room

@@ -1,23 +1,24 @@
--- Laws of bytes that are laid into a room one behind the other, and of the bytes of a packet.
+-- Laws of bytes that are laid into a room one behind the other.
 use mathlib.Core.Path.{_≡_, refl, sym, ap, _∙_}
-use mathlib.Core.Bool.{Bool, true, false}
-use mathlib.Core.List.{List, [], _∷_, _++_, append-assoc, map, map-append}
+use mathlib.Core.List.{List, [], _∷_, _++_, append-assoc}
 use Prim.Native.Nat.{ℕ, zero, suc, _+_, _-_, _≤_, _<_}
 use native.Mathlib.Numerals.{add-one}
 use native.Mathlib.Omega.{arith}
-use lib.ListN.{length, take, drop, set, replicate, length-append, length-take, length-drop, length-map, length-replicate}
-use lib.Seq.{paste, set-split, take-all, length-take-le}
+use lib.ListN.{length, take, drop, set, replicate, length-append, length-drop}
+use lib.Seq.{set-split, take-all, length-take-le}
 use Rattle.wire.specs.If.{if_then_else_}
 use Rattle.copy.specs.Copy.{copied}
 use Rattle.copy.specs.Laid.{laid}
 use Rattle.copy.proofs.Copies.{copied-yes}
 use Rattle.copy.proofs.LaidLaws.{laid-more, pasted}
-use Rattle.writer.specs.Layout.{Turn, Cell, pointer, byte, filler, pointed, payloadOf}
-use Rattle.writer.specs.Packets.{valueOf, headerOf, packetOf}
+use Rattle.writer.specs.Layout.{Turn, payloadOf}
+use Rattle.writer.specs.Packets.{headerOf, packetOf}
+use Rattle.writer.proofs.PayloadLaws.{pointerOf, pointers, payload-bytes}
 
 -- ---- a room
 
-pub laid-length : (room : List ℕ) (at : ℕ) (bytes : List ℕ) → at + length bytes ≤ length room → length (laid room at bytes) ≡ length room
+pub laid-length : (room : List ℕ) (at : ℕ) (bytes : List ℕ) → at + length bytes ≤ length room
+    → length (laid room at bytes) ≡ length room
 laid-length room at bytes k =
     omega (
       arith,
@@ -56,47 +57,7 @@ pub replicate-more : (n v : ℕ) → replicate n v ++ (v ∷ []) ≡ replicate (
 replicate-more zero v = refl
 replicate-more (suc n) v = ap (λ (l : List ℕ). v ∷ l) (replicate-more n v)
 
--- ---- a packet's bytes
-
--- the pointer's byte
-abbrev pub pointerOf : Bool → ℕ → List ℕ
-pointerOf start left = if start then left ∷ [] else []
-
-byte-values : (l : List ℕ) → map valueOf (map byte l) ≡ l
-byte-values [] = refl
-byte-values (v ∷ l) = ap (λ (z : List ℕ). v ∷ z) (byte-values l)
-
-filler-values : (n : ℕ) → map valueOf (replicate n filler) ≡ replicate n 0xFF
-filler-values zero = refl
-filler-values (suc n) = ap (λ (z : List ℕ). 0xFF ∷ z) (filler-values n)
-
-pointed-values : (start : Bool) (left : ℕ)
-    → map valueOf (if start then pointer left ∷ [] else []) ≡ pointerOf start left
-pointed-values true left = refl
-pointed-values false left = refl
-
--- how many cells a pointer is
-pub pointers : (start : Bool) (left : ℕ) → length (pointerOf start left) ≡ (if start then 1 else 0)
-pointers true left = refl
-pointers false left = refl
-
--- a payload's bytes: the pointer, bytes of sections, and filler
-pub payload-bytes : (t : Turn) (bytes : List ℕ)
-    → map valueOf (payloadOf t bytes .cells)
-    ≡ (pointerOf (t .start) (t .left) ++ take (t .bytes) bytes)
-    ++ replicate (184 - length (pointerOf (t .start) (t .left) ++ take (t .bytes) bytes)) 0xFF
-payload-bytes t bytes =
-    let cells : List (Cell ℕ) = pointed t ++ map byte (take (t .bytes) bytes) in
-    let values : List ℕ = pointerOf (t .start) (t .left) ++ take (t .bytes) bytes in
-    let are : map valueOf cells ≡ values =
-    map-append valueOf (pointed t) (map byte (take (t .bytes) bytes))
-    ∙ ap (λ (l : List ℕ). l ++ map valueOf (map byte (take (t .bytes) bytes))) (pointed-values (t .start) (t .left))
-    ∙ ap (λ (l : List ℕ). pointerOf (t .start) (t .left) ++ l) (byte-values (take (t .bytes) bytes)) in
-    let long : length cells ≡ length values = sym (length-map cells valueOf) ∙ ap length are in
-    map-append valueOf cells (replicate (184 - length cells) filler)
-    ∙ ap (λ (l : List ℕ). l ++ map valueOf (replicate (184 - length cells) filler)) are
-    ∙ ap (λ (l : List ℕ). values ++ l) (filler-values (184 - length cells))
-    ∙ ap (λ (n : ℕ). values ++ replicate (184 - n) 0xFF) long
+-- ---- a packet
 
 -- header, pointer, bytes and filler, laid one behind the other, are a packet
 pub packet-laid : (room : List ℕ) (at pid counter : ℕ) (t : Turn) (bytes : List ℕ) → at + 188 ≤ length room
@@ -122,7 +83,8 @@ packet-laid room at pid counter t bytes k there in-payload from e room₁ room�
     ∙ ap (λ (n : ℕ). laid (laid room at (header ++ point)) n some) from-is
     ∙ laid-then room at (header ++ point) some (omega arith) in
     let front : List ℕ = (header ++ point) ++ some in
-    let end-is : from + t .bytes ≡ at + length front = omega (arith, from-is, long, length-append (header ++ point) some) in
+    let end-is : from + t .bytes ≡ at + length front =
+    omega (arith, from-is, long, length-append (header ++ point) some) in
     let rest-is : at + 188 - (from + t .bytes) ≡ 184 - length (point ++ some) =
     omega (arith, e, one, long, length-append point some) in
     let fill : List ℕ = replicate (184 - length (point ++ some)) 0xFF in
@@ -133,22 +95,3 @@ packet-laid room at pid counter t bytes k there in-payload from e room₁ room�
     ∙ laid-then room at front fill (omega arith)
     ∙ ap (laid room at) (append-assoc (header ++ point) some fill ∙ append-assoc header point (some ++ fill))
     ∙ ap (λ (l : List ℕ). laid room at (header ++ l)) (sym (append-assoc point some fill) ∙ sym (payload-bytes t bytes))
-
--- a packet has 188 bytes
-pub packet-long : (pid counter : ℕ) (t : Turn) (bytes : List ℕ) → t .bytes ≤ length bytes
-    → t .bytes + (if t .start then 1 else 0) ≤ 184 → length (packetOf pid counter (payloadOf t bytes)) ≡ 188
-packet-long pid counter t bytes there in-payload =
-    let point : List ℕ = pointerOf (t .start) (t .left) in
-    let some : List ℕ = take (t .bytes) bytes in
-    let fill : List ℕ = replicate (184 - length (point ++ some)) 0xFF in
-    let long : length (map valueOf (payloadOf t bytes .cells)) ≡ 184 =
-    ap length (payload-bytes t bytes)
-    ∙ omega (
-      arith,
-      length-append (point ++ some) fill,
-      length-append point some,
-      pointers (t .start) (t .left),
-      length-take-le (t .bytes) bytes there,
-      length-replicate {A = ℕ} (184 - length (point ++ some)) 0xFF,
-    ) in
-    omega (arith, long, length-append (headerOf pid counter (t .start)) (map valueOf (payloadOf t bytes .cells)))

@@ -7,7 +7,6 @@ use native.Mathlib.Omega.{arith}
 use lib.ListN.{length, drop, length-drop}
 use lib.Dec.{ltb}
 use borrow.Author.Tests.{ltb-true, ltb-false}
-use Rattle.wire.specs.If.{if_then_else_}
 use Rattle.writer.specs.Layout as Layout
 use Rattle.writer.specs.Layout.{bytesAhead, opened, turnWith, turnOf, behind, turnsFrom, waits}
 use Rattle.writer.specs.Inner.{aheadOf, turnSaid, Fits}

@@ -1,5 +1,5 @@
--- Laws of where each packet begins: the turns are what the first of them leads to; each has some of the bytes ahead, no more than there are and
--- no more than a payload takes; and as many fewer are ahead of the next.
+-- Laws of where each packet begins: the turns are what the first of them leads to; each has some of the bytes ahead,
+-- no more than there are and no more than a payload takes; and as many fewer are ahead of the next.
 use mathlib.Core.Path.{_≡_, refl, sym, ap, _∙_, subst}
 use mathlib.Core.Bool.{Bool, true, false, _&&_, false≢true}
 use mathlib.Core.List.{List, [], _∷_}
@@ -10,7 +10,7 @@ use borrow.Author.Tests.{ltb-true, ltb-false, lt-ltb, le-ltb, leb-true, leb-fals
 use Rattle.wire.specs.If.{if_then_else_}
 use Rattle.wire.specs.Trail.{Trail, Pace, on, stop, onward, trail}
 use Rattle.wire.proofs.TrailLaws.{trail-by}
-use Rattle.writer.specs.Layout.{Ahead, sum, bytesAhead, opened, Turn, least, waits, turnWith, turnOf, behind, pace, turnsFrom}
+use Rattle.writer.specs.Layout.{Ahead, sum, bytesAhead, opened, Turn, least, waits, turnOf, behind, pace, turnsFrom}
 
 -- ---- the lesser of two numbers
 
@@ -55,7 +55,8 @@ module _ (a : Ahead) where
   abbrev without-flag : Turn
   without-flag = record { start = false; left = a .left; bytes = least 184 (a .left) }
 
-  turn-by : (w l : Bool) → waits (a .waiting) ≡ w → ltb (a .left) 183 ≡ l → TurnIs a (if w && l then with-flag else without-flag)
+  turn-by : (w l : Bool) → waits (a .waiting) ≡ w → ltb (a .left) 183 ≡ l
+      → TurnIs a (if w && l then with-flag else without-flag)
   turn-by true true e f = flagged (record { is = refl; one-waits = e; few = ltb-true (a .left) 183 f })
   turn-by true false e f = unflagged (record { is = refl; full = λ w. ltb-false (a .left) 183 f })
   turn-by false true e f = unflagged (record { is = refl; full = λ w. absurd (false≢true (sym e ∙ w)) })
@@ -102,7 +103,8 @@ takes-by a t (unflagged u) =
     let l = least-law 184 (a .left) in
     subst (Takes a) (sym (u .is)) (record {
       there = omega (arith, l .second);
-      some = λ w. waits-or (waits (a .waiting)) (0 < least 184 (a .left)) (λ e. more (a .left) (omega (arith, u .full e)))
+      some = λ w. waits-or (waits (a .waiting)) (0 < least 184 (a .left))
+          (λ e. more (a .left) (omega (arith, u .full e)))
           (λ e. more (a .left) (omega (arith, w, none-ahead (a .waiting) e)));
       in-payload = omega (arith, l .first);
       left-is = refl;
@@ -126,14 +128,16 @@ pub opened-here : (n left : ℕ) (waiting : List ℕ) → n ≤ left
     → opened n left waiting ≡ record { left = left - n; waiting = waiting }
 opened-here n left [] k = refl
 opened-here n left (size ∷ waiting) k =
-    ap (λ (t : Bool). if t then opened n (left + size) waiting else record { left = left - n; waiting = size ∷ waiting })
+    ap (λ (t : Bool). if t then opened n (left + size) waiting else
+    record { left = left - n; waiting = size ∷ waiting })
     (le-ltb left n k)
 
 -- one is begun, where it has not
 pub opened-next : (n left size : ℕ) (waiting : List ℕ) → left < n
     → opened n left (size ∷ waiting) ≡ opened n (left + size) waiting
 opened-next n left size waiting k =
-    ap (λ (t : Bool). if t then opened n (left + size) waiting else record { left = left - n; waiting = size ∷ waiting })
+    ap (λ (t : Bool). if t then opened n (left + size) waiting else
+    record { left = left - n; waiting = size ∷ waiting })
     (lt-ltb left n k)
 
 -- so many fewer bytes, once n are laid
@@ -143,7 +147,9 @@ opened-ahead n left [] k = omega arith
 opened-ahead n left (size ∷ waiting) k = at (opened-ahead n (left + size) waiting (omega arith)) (ltb left n) refl
   where
     at : bytesAhead (opened n (left + size) waiting) + n ≡ left + size + sum waiting → (t : Bool) → ltb left n ≡ t
-        → bytesAhead (if t then opened n (left + size) waiting else record { left = left - n; waiting = size ∷ waiting }) + n
+        → bytesAhead (if t then opened n (left + size) waiting else
+        record { left = left - n; waiting = size ∷ waiting })
+        + n
         ≡ left + (size + sum waiting)
     at more true e = omega (arith, more)
     at more false e = omega (arith, ltb-false left n e)

@@ -67,20 +67,29 @@ length12-requires c κs = search needs
 add-if2 : tie.Need-add-if2
 add-if2 c = search needs
 
+-- the header is read
+module _ (b : tie.After-length12) where
+  abbrev First : tie.Else1
+  First = b .before .before .before
+
+  abbrev Begin : tie.Start
+  Begin = First .before .before
+
+  three-there : 3 ≤ Begin .args .size
+  three-there = First .if1 .left
+
 returns-2 : tie.Need-returns-2
 returns-2 c =
     let read = c .before in
-    let first = read .before .before .before in
-    let s = first .before .before in
-    stays-other _ (s .args .at) (s .args .size) (s .pre) (first .if1 .left) (read .length12 .result)
+    let s = Begin read in
+    stays-other _ (s .args .at) (s .args .size) (s .pre) (three-there read) (read .length12 .result)
     (read .length12 .ensures .same) (c .if2 .taken)
 
 returns-3 : tie.Need-returns-3
 returns-3 c =
     let read = c .before .before in
-    let first = read .before .before .before in
-    let s = first .before .before in
-    stays-over _ (s .args .at) (s .args .size) (s .pre) (first .if1 .left) (read .length12 .result)
+    let s = Begin read in
+    stays-over _ (s .args .at) (s .args .size) (s .pre) (three-there read) (read .length12 .result)
     (read .length12 .ensures .same) (c .before .if2 .left) (c .if3 .taken)
 
 shared-slice-read-result : tie.Need-shared-slice-read-result
@@ -90,9 +99,8 @@ returns-4 : tie.Need-returns-4
 returns-4 c =
     let test = c .before in
     let read = test .before .before in
-    let first = read .before .before .before in
-    let s = first .before .before in
-    goes-by _ (s .args .at) (s .args .size) (s .pre) (first .if1 .left) (read .length12 .result)
+    let s = Begin read in
+    goes-by _ (s .args .at) (s .args .size) (s .pre) (three-there read) (read .length12 .result)
     (read .length12 .ensures .same) (test .before .if2 .left) (test .if3 .left)
 
 pub can-go-spec : {M : Type 1} → statement M

@@ -1,7 +1,7 @@
 -- `writer::cut::fits` meets its contract: what is asked of all sections is asked of those that are left.
-use mathlib.Core.Path.{_≡_, refl, sym, ap, _∙_, subst}
+use mathlib.Core.Path.{_≡_, refl, sym, ap, _∙_}
 use mathlib.Core.Bool.{Bool, true, false, false≢true}
-use mathlib.Core.List.{List, [], _∷_}
+use mathlib.Core.List.{List, _∷_}
 use Prim.Native.Nat.{ℕ, _+_, _-_, _≤_, _<_}
 use native.Mathlib.Numerals.{add-one}
 use native.Mathlib.Omega.{arith}
@@ -16,7 +16,8 @@ use Rattle.writer.proofs.cut.fits.Statement.{statement}
 use Rattle.writer.proofs.cut.fits.Tie as tie
 
 abbrev Inv-loop : tie.InvT-loop
-Inv-loop bytes sizes at₀ i₀ at i = (at ≤ length bytes) × (i ≤ length sizes) × (fit (drop i sizes) (drop at bytes) ≡ fit sizes bytes)
+Inv-loop bytes sizes at₀ i₀ at i = (at ≤ length bytes) × (i ≤ length sizes)
+    × (fit (drop i sizes) (drop at bytes) ≡ fit sizes bytes)
 
 abbrev μ-loop : tie.MeasureT-loop
 μ-loop bytes sizes at₀ i₀ at i = length sizes - i
@@ -34,7 +35,8 @@ sub-if1 : tie.Need-sub-if1 Inv-loop μ-loop
 sub-if1 c = search needs
 
 -- the section with number i, which begins at index at
-module _ (bytes sizes : List ℕ) (at i : ℕ) (k : i < length sizes) (e : fit (drop i sizes) (drop at bytes) ≡ fit sizes bytes) where
+module _ (bytes sizes : List ℕ) (at i : ℕ) (k : i < length sizes)
+    (e : fit (drop i sizes) (drop at bytes) ≡ fit sizes bytes) where
   abbrev size : ℕ
   size = getD sizes i 0
 
@@ -105,7 +107,8 @@ ended bytes sizes at i k w e =
     ∙ e
   where
     by : (t : Bool) → eqb at (length bytes) ≡ t → t ≡ eqb (length (drop at bytes)) 0
-    by true f = sym (eq-eqb (length (drop at bytes)) 0 (omega (arith, length-drop at bytes, eqb-true at (length bytes) f)))
+    by true f =
+        sym (eq-eqb (length (drop at bytes)) 0 (omega (arith, length-drop at bytes, eqb-true at (length bytes) f)))
     by false f =
         sym (ne-eqb (length (drop at bytes)) 0 (λ g. other (omega (arith, length-drop at bytes, g)) f))
       where
@@ -119,5 +122,6 @@ returns-3 c =
 
 pub fits-spec : {M : Type 1} → statement M
 fits-spec =
-    tie.close (tie.spec Inv-loop μ-loop loop-holds mul-size shared-slice-read-size sub-if1 returns can-go-requires returns-2
+    tie.close (tie.spec Inv-loop μ-loop loop-holds mul-size shared-slice-read-size sub-if1 returns can-go-requires
+    returns-2
     add-at add-i loop-less loop-again returns-3)

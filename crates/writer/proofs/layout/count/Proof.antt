@@ -62,42 +62,47 @@ loop-holds c = record {
 next-turn-requires : tie.Need-next-turn-requires Inv-loop μ-loop
 next-turn-requires c κs = search needs
 
+-- the turn of a packet
+module _ (b : tie.After-next-turn Inv-loop μ-loop) where
+  abbrev Looped : tie.At-loop Inv-loop μ-loop
+  Looped = b .before .before .before
+
+  abbrev T : Turn
+  T = b .next-turn .result
+
+  some-here : 0 < Looped .loop .rest
+  some-here = b .before .before .loop-test .taken
+
 open-next-requires : tie.Need-open-next-requires Inv-loop μ-loop
 open-next-requires c κs =
-    let l = c .before .before .before .loop in
-    let s = c .before .before .before .before .before in
-    (said-few _ (l .a) (l .rest) (l .inv .ahead) (c .next-turn .result) (c .next-turn .ensures), l .inv .next-there, s .pre .1)
+    let l = Looped c .loop in
+    let begin = Looped c .before .before in
+    (said-few _ (l .a) (l .rest) (l .inv .ahead) (T c) (c .next-turn .ensures), l .inv .next-there, begin .pre .1)
 
 sub-rest : tie.Need-sub-rest Inv-loop μ-loop
-sub-rest c =
-    let turns = c .before .before in
-    let l = turns .before .before .before .loop in
-    in-rest (l .inv) (turns .next-turn .result) (turns .next-turn .ensures)
+sub-rest c = let b = c .before .before in in-rest (Looped b .loop .inv) (T b) (b .next-turn .ensures)
 
 add-n : tie.Need-add-n Inv-loop μ-loop
-add-n c =
-    let looped = c .before .before .before .before .before in
-    omega (arith, looped .loop .inv .few)
+add-n c = let b = c .before .before in omega (arith, Looped b .loop .inv .few, some-here b)
 
 loop-less : tie.Need-loop-less Inv-loop μ-loop
 loop-less c =
-    let turns = c .before .before in
-    let l = turns .before .before .before .loop in
-    let some = some-of (l .inv) (turns .next-turn .result) (turns .next-turn .ensures) (omega arith) in
-    omega (arith, some)
+    let b = c .before .before in
+    let some = some-of (Looped b .loop .inv) (T b) (b .next-turn .ensures) (some-here b) in
+    omega (arith, some, some-here b)
 
 loop-again : tie.Need-loop-again Inv-loop μ-loop
 loop-again c =
-    let opens = c .before in
-    let turns = opens .before in
-    let l = turns .before .before .before .loop in
-    one-more (l .inv) (turns .next-turn .result) (turns .next-turn .ensures) (omega arith) (opens .open-next .result)
-    (opens .open-next .ensures .0) (opens .open-next .ensures .1)
+    let opens = c .before .open-next in
+    let b = c .before .before in
+    one-more (Looped b .loop .inv) (T b) (b .next-turn .ensures) (some-here b) (opens .result) (opens .ensures .0)
+    (opens .ensures .1)
 
 returns : tie.Need-returns Inv-loop μ-loop
 returns c = all-counted (c .before .loop .inv) (omega arith)
 
 pub count-spec : {M : Type 1} → statement M
 count-spec =
-    tie.close (tie.spec Inv-loop μ-loop loop-holds next-turn-requires open-next-requires sub-rest add-n loop-less loop-again
+    tie.close (tie.spec Inv-loop μ-loop loop-holds next-turn-requires open-next-requires sub-rest add-n loop-less
+    loop-again
     returns)

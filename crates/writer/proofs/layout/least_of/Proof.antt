@@ -1,7 +1,6 @@
 -- `writer::layout::least_of` meets its contract.
 use mathlib.Core.Path.{sym, ap}
 use mathlib.Core.Bool.{Bool}
-use Prim.Native.Nat.{ℕ}
 use Rattle.wire.specs.If.{if_then_else_}
 use borrow.Author.Tests.{le-leb, lt-leb}
 use Rattle.writer.proofs.layout.least_of.Statement.{statement}

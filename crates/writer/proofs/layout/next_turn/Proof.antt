@@ -34,7 +34,8 @@ returns : tie.Need-returns
 returns c =
     let asked = c .before .before in
     let a = asked .before .args in
-    with-flag (asked .begins-one .result) (a .waits) (a .left) (a .all) (c .least-of .result) (asked .begins-one .ensures) (c .before .if1 .taken) (c .least-of .ensures)
+    with-flag (asked .begins-one .result) (a .waits) (a .left) (a .all) (c .least-of .result)
+    (asked .begins-one .ensures) (c .before .if1 .taken) (c .least-of .ensures)
 
 least-of-requires-2 : tie.Need-least-of-requires-2
 least-of-requires-2 c κs = search needs
@@ -43,7 +44,8 @@ returns-2 : tie.Need-returns-2
 returns-2 c =
     let asked = c .before .before in
     let a = asked .before .args in
-    without-flag (asked .begins-one .result) (a .waits) (a .left) (a .all) (c .least-of2 .result) (asked .begins-one .ensures) (c .before .if1 .left) (c .least-of2 .ensures)
+    without-flag (asked .begins-one .result) (a .waits) (a .left) (a .all) (c .least-of2 .result)
+    (asked .begins-one .ensures) (c .before .if1 .left) (c .least-of2 .ensures)
 
 pub next-turn-spec : {M : Type 1} → statement M
 next-turn-spec = tie.close (tie.spec begins-one-requires least-of-requires returns least-of-requires-2 returns-2)

@@ -36,8 +36,8 @@ shared-slice-read-left c = search needs
 
 add-left : tie.Need-add-left Inv-loop μ-loop
 add-left c =
-    let start = c .before .before .before .before in
-    let few = few-at (start .args .sizes .now) (c .before .before .before .loop .next) (start .pre .2) in
+    let looped = c .before .before .before in
+    let few = few-at (looped .before .args .sizes .now) (looped .loop .next) (looped .before .pre .2) in
     omega (arith, few)
 
 add-next : tie.Need-add-next Inv-loop μ-loop
@@ -50,7 +50,8 @@ loop-less c = search needs
 more : (n : ℕ) (sizes : List ℕ) (left next : ℕ) → next < length sizes → left < n
     → opened n (left + getD sizes next 0) (drop (next + 1) sizes) ≡ opened n left (drop next sizes)
 more n sizes left next k w =
-    sym (ap (opened n left) (drop-cons sizes next 0 k ∙ ap (λ (j : ℕ). getD sizes next 0 ∷ drop j sizes) (sym (add-one next)))
+    sym (ap (opened n left)
+    (drop-cons sizes next 0 k ∙ ap (λ (j : ℕ). getD sizes next 0 ∷ drop j sizes) (sym (add-one next)))
     ∙ opened-next n left (getD sizes next 0) (drop (next + 1) sizes) w)
 
 loop-again : tie.Need-loop-again Inv-loop μ-loop

@@ -1,6 +1,6 @@
 -- `writer::packets::fill` meets its contract.
 use mathlib.Core.Path.{_≡_, sym, ap, _∙_}
-use mathlib.Core.List.{List, [], _∷_, _++_}
+use mathlib.Core.List.{List}
 use Prim.Native.Nat.{ℕ, suc, _+_, _-_, _≤_, _<_}
 use native.Mathlib.Omega.{arith}
 use lib.ListN.{length, set, replicate, length-replicate}
@@ -35,7 +35,8 @@ add-i c = search needs
 loop-less : tie.Need-loop-less Inv-loop μ-loop
 loop-less c = search needs
 
-more : (room₀ room : List ℕ) (from i : ℕ) → from ≤ i → i < length room₀ → room ≡ laid room₀ from (replicate (i - from) 0xFF)
+more : (room₀ room : List ℕ) (from i : ℕ) → from ≤ i → i < length room₀
+    → room ≡ laid room₀ from (replicate (i - from) 0xFF)
     → set room i 0xFF ≡ laid room₀ from (replicate (i + 1 - from) 0xFF)
 more room₀ room from i k w e =
     let so-far : List ℕ = replicate (i - from) 0xFF in
@@ -69,4 +70,5 @@ returns c =
     l .inv .3 ∙ ap (λ (n : ℕ). laid (a .room .now) (a .from) (replicate (n - a .from) 0xFF)) end
 
 pub fill-spec : {M : Type 1} → statement M
-fill-spec = tie.close (tie.spec Inv-loop μ-loop loop-holds slice-write-room add-i loop-less loop-again same-length returns)
+fill-spec =
+    tie.close (tie.spec Inv-loop μ-loop loop-holds slice-write-room add-i loop-less loop-again same-length returns)

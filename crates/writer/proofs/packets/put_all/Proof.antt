@@ -1,10 +1,10 @@
 -- `writer::packets::put_all` meets its contract: the packets in the room and those to come are all of them.
-use mathlib.Core.Path.{_≡_, refl, sym, ap, _∙_, subst}
+use mathlib.Core.Path.{_≡_, refl, sym, ap, _∙_}
 use mathlib.Core.List.{List, [], _∷_, _++_, flatten}
 use Prim.Native.Nat.{ℕ, _+_, _-_, _*_, _%_, _≤_, _<_}
 use native.Mathlib.Nat.{zero-add}
 use native.Mathlib.Omega.{arith}
-use lib.ListN.{length, take, drop, length-append, length-drop, take-append-drop}
+use lib.ListN.{length, take, drop, length-append, length-drop}
 use lib.Seq.{take-all, take-append-seam, length-take-le, drop-drop, drop-at, take-add}
 use lib.Dec.{ltb}
 use borrow.Author.Needs.{needs}
@@ -17,7 +17,8 @@ use Rattle.writer.specs.Inner.{aheadOf, turnSaid, Fits}
 use Rattle.writer.specs.declared.layout.Ahead.{Ahead}
 use Rattle.writer.specs.declared.layout.Turn.{Turn}
 use Rattle.writer.proofs.TurnLaws.{turns-stop, turns-on}
-use Rattle.writer.proofs.RoomLaws.{laid-length, laid-then, packet-long}
+use Rattle.writer.proofs.PayloadLaws.{packet-long}
+use Rattle.writer.proofs.RoomLaws.{laid-length, laid-then}
 use Rattle.writer.proofs.StepLaws.{said-takes, said-fits, said-few, ahead-falls, turns-are}
 use Rattle.writer.proofs.packets.put_all.Statement.{statement}
 use Rattle.writer.proofs.packets.put_all.Tie as tie
@@ -39,7 +40,8 @@ pub record Placed (pid : ℕ) (all sections sizes room₀ room : List ℕ) (a : 
   pub to-come : comingFrom pid c sections sizes (aheadOf sizes a) place ≡ drop at all
 
 -- bytes in two parts, the first of which has 188
-module _ (all packet more : List ℕ) (at : ℕ) (k : at ≤ length all) (e : drop at all ≡ packet ++ more) (n : length packet ≡ 188) where
+module _ (all packet more : List ℕ) (at : ℕ) (k : at ≤ length all) (e : drop at all ≡ packet ++ more)
+    (n : length packet ≡ 188) where
   next-in : at + 188 ≤ length all
   next-in = omega (arith, ap length e, length-append packet more, length-drop at all)
 
@@ -89,7 +91,8 @@ module _ {pid : ℕ} {all sections sizes room₀ room : List ℕ} {a : Ahead} {p
       parts =
           sym (i .to-come)
           ∙ ap (λ (ts : List Layout.Turn). flatten (packetsFrom pid c (laidOut ts (drop place sections)))) turns
-          ∙ ap (λ (l : List ℕ). packet ++ flatten (packetsFrom pid ((c + 1) % 16) (laidOut (turnsFrom (aheadOf sizes r)) l)))
+          ∙ ap (λ (l : List ℕ). packet
+          ++ flatten (packetsFrom pid ((c + 1) % 16) (laidOut (turnsFrom (aheadOf sizes r)) l)))
           (drop-drop (t .bytes) place sections)
 
       -- one more is there
@@ -101,7 +104,12 @@ module _ {pid : ℕ} {all sections sizes room₀ room : List ℕ} {a : Ahead} {p
           record {
             next-there = w;
             ahead =
-                omega (arith, ahead-falls sizes a (length sections - place) rest-is t says r next, there .there, i .ahead);
+                omega (
+                  arith,
+                  ahead-falls sizes a (length sections - place) rest-is t says r next,
+                  there .there,
+                  i .ahead,
+                );
             small = omega arith;
             same = ap length e ∙ laid-length room at packet (omega (arith, long, fits-in)) ∙ i .same;
             within = next-in all packet coming at (i .within) parts long;
@@ -155,71 +163,66 @@ sub-next-turn c = search needs
 next-turn-requires : tie.Need-next-turn-requires Inv-loop μ-loop
 next-turn-requires c κs = search needs
 
+-- the turn of a packet
+module _ (b : tie.After-next-turn Inv-loop μ-loop) where
+  abbrev Looped : tie.At-loop Inv-loop μ-loop
+  Looped = b .before .before .before
+
+  abbrev Known : tie.After-shared-slice-known Inv-loop μ-loop
+  Known = Looped .before .before .before
+
+  abbrev Begin : tie.Start Inv-loop μ-loop
+  Begin = Known .before
+
+  some-left : Looped .loop .place < length (Begin .args .sections .now)
+  some-left = b .before .before .loop-test .taken
+
+  bytes-there : Fits (b .next-turn .result) (Looped .loop .place) (length (Begin .args .sections .now))
+  bytes-there = there (Looped .loop .inv) (b .next-turn .result) (b .next-turn .ensures) some-left
+
+  room-there : Looped .loop .at + 188 ≤ length (Looped .loop .room)
+  room-there = fits-in (Looped .loop .inv) (b .next-turn .result) (b .next-turn .ensures) some-left
+
 put-packet-requires : tie.Need-put-packet-requires Inv-loop μ-loop
 put-packet-requires c κs =
-    let turned = c .before in
-    let looped = turned .before .before .before in
-    let l = looped .loop in
-    let s = looped .before .before .before .before in
-    let t = turned .next-turn .result in (
-      fits-in (l .inv) t (turned .next-turn .ensures) (omega arith),
-      s .pre .0,
-      l .inv .small,
-      there (l .inv) t (turned .next-turn .ensures) (omega arith),
-    )
+    let b = c .before in (room-there b, Begin b .pre .0, Looped b .loop .inv .small, bytes-there b)
+
+abbrev Turned : tie.After-put-packet Inv-loop μ-loop → tie.After-next-turn Inv-loop μ-loop
+Turned p = p .before .before
 
 open-next-requires : tie.Need-open-next-requires Inv-loop μ-loop
 open-next-requires c κs =
-    let turned = c .before .before .before .before in
-    let looped = turned .before .before .before in
-    let s = looped .before .before .before .before in (
-      few (looped .loop .inv) (turned .next-turn .result) (turned .next-turn .ensures) (omega arith),
-      looped .loop .inv .next-there,
-      s .pre .3,
+    let b = Turned (c .before .before) in (
+      few (Looped b .loop .inv) (b .next-turn .result) (b .next-turn .ensures) (some-left b),
+      Looped b .loop .inv .next-there,
+      Begin b .pre .3,
     )
 
+abbrev Packed : tie.After-struct-known2 Inv-loop μ-loop → tie.After-put-packet Inv-loop μ-loop
+Packed c = let opens = c .before in opens .before .before .before
+
 add-place : tie.Need-add-place Inv-loop μ-loop
-add-place c =
-    let opens = c .before in
-    let turned = opens .before .before .before .before .before in
-    let looped = turned .before .before .before in
-    let s = looped .before .before .before .before in
-    let fits = there (looped .loop .inv) (turned .next-turn .result) (turned .next-turn .ensures) (omega arith) in
-    omega (arith, fits .there, s .good)
+add-place c = let b = Turned (Packed c) in omega (arith, bytes-there b .there, Begin b .good)
 
 add-at : tie.Need-add-at Inv-loop μ-loop
-add-at c =
-    let opens = c .before in
-    let turned = opens .before .before .before .before .before in
-    let looped = turned .before .before .before in
-    let s = looped .before .before .before .before in
-    let fits = fits-in (looped .loop .inv) (turned .next-turn .result) (turned .next-turn .ensures) (omega arith) in
-    omega (arith, fits, looped .loop .inv .same, s .good)
+add-at c = let b = Turned (Packed c) in omega (arith, room-there b, Looped b .loop .inv .same, Begin b .good)
 
 add-c : tie.Need-add-c Inv-loop μ-loop
-add-c c =
-    let opens = c .before in
-    let turned = opens .before .before .before .before .before in
-    let looped = turned .before .before .before in
-    omega (arith, looped .loop .inv .small)
+add-c c = let b = Turned (Packed c) in omega (arith, Looped b .loop .inv .small)
 
 loop-less : tie.Need-loop-less Inv-loop μ-loop
 loop-less c =
-    let opens = c .before in
-    let turned = opens .before .before .before .before .before in
-    let looped = turned .before .before .before in
-    let more = some (looped .loop .inv) (turned .next-turn .result) (turned .next-turn .ensures) (omega arith) in
-    omega (arith, more)
+    let b = Turned (Packed c) in
+    let more = some (Looped b .loop .inv) (b .next-turn .result) (b .next-turn .ensures) (some-left b) in
+    omega (arith, more, some-left b)
 
 loop-again : tie.Need-loop-again Inv-loop μ-loop
 loop-again c =
-    let opens = c .before in
-    let packed = opens .before .before .before in
-    let turned = packed .before .before in
-    let looped = turned .before .before .before in
-    one-more (looped .loop .inv) (turned .next-turn .result) (turned .next-turn .ensures) (omega arith)
-    (opens .open-next .result) (opens .open-next .ensures .0) (packed .put-packet .last .0) (packed .put-packet .ensures)
-    (opens .open-next .ensures .1)
+    let opens = c .before .open-next in
+    let packed = Packed c .put-packet in
+    let b = Turned (Packed c) in
+    one-more (Looped b .loop .inv) (b .next-turn .result) (b .next-turn .ensures) (some-left b) (opens .result)
+    (opens .ensures .0) (packed .last .0) (packed .ensures) (opens .ensures .1)
 
 same-length : tie.Need-same-length Inv-loop μ-loop
 same-length c = c .before .loop .inv .same
@@ -229,5 +232,6 @@ returns c = all-placed (c .before .loop .inv) (omega arith)
 
 pub put-all-spec : {M : Type 1} → statement M
 put-all-spec =
-    tie.close (tie.spec Inv-loop μ-loop loop-holds sub-next-turn next-turn-requires put-packet-requires open-next-requires
+    tie.close (tie.spec Inv-loop μ-loop loop-holds sub-next-turn next-turn-requires put-packet-requires
+    open-next-requires
     add-place add-at add-c loop-less loop-again same-length returns)

@@ -1,5 +1,5 @@
 -- `writer::packets::put_header` meets its contract.
-use mathlib.Core.Path.{_≡_, sym, ap, _∙_}
+use mathlib.Core.Path.{_≡_, ap, _∙_}
 use mathlib.Core.Bool.{Bool, true, false}
 use mathlib.Core.List.{List, [], _∷_}
 use Prim.Native.Nat.{ℕ, _+_, _/_, _%_, _≤_}
@@ -8,7 +8,6 @@ use borrow.Author.Needs.{needs}
 use lib.ListN.{length, set, length-set}
 use Rattle.wire.specs.If.{if_then_else_}
 use Rattle.copy.specs.Laid.{laid}
-use Rattle.writer.specs.Packets.{headerOf}
 use Rattle.writer.proofs.RoomLaws.{laid-one, set-behind}
 use Rattle.writer.proofs.packets.put_header.Statement.{statement}
 use Rattle.writer.proofs.packets.put_header.Tie as tie
@@ -72,10 +71,12 @@ returns c =
     let s = c .before .before in
     let a = s .args in
     four (a .room .now) (a .at) 0x47 _ (a .pid % 256) (0x10 + a .counter) (s .pre .0)
-    ∙ ap (λ (f : ℕ). laid (a .room .now) (a .at) (0x47 ∷ (f + a .pid / 256) ∷ (a .pid % 256) ∷ (0x10 + a .counter) ∷ []))
+    ∙ ap (λ (f : ℕ). laid (a .room .now) (a .at)
+    (0x47 ∷ (f + a .pid / 256) ∷ (a .pid % 256) ∷ (0x10 + a .counter) ∷ []))
     (c .flag .ensures)
 
 pub put-header-spec : {M : Type 1} → statement M
 put-header-spec =
-    tie.close (tie.spec slice-write-room flag-requires cast-room add-room add-room-2 slice-write-room-2 cast-room-2 add-room-3
+    tie.close (tie.spec slice-write-room flag-requires cast-room add-room add-room-2 slice-write-room-2 cast-room-2
+    add-room-3
     slice-write-room-3 add-room-4 add-room-5 slice-write-room-4 same-length returns)

@@ -1,15 +1,15 @@
 -- `writer::packets::put_pointer` meets its contract.
-use mathlib.Core.Path.{_≡_, sym, ap, _∙_}
+use mathlib.Core.Path.{sym, ap, _∙_}
 use mathlib.Core.Bool.{Bool}
-use mathlib.Core.List.{List, [], _∷_}
-use Prim.Native.Nat.{ℕ, _+_}
+use Prim.Native.Nat.{_+_}
 use native.Mathlib.Nat.{add-zero}
 use native.Mathlib.Omega.{arith}
 use borrow.Author.Needs.{needs}
 use Rattle.wire.specs.If.{if_then_else_}
 use Rattle.copy.specs.Laid.{laid}
 use Rattle.copy.proofs.LaidLaws.{laid-none}
-use Rattle.writer.proofs.RoomLaws.{laid-one, pointerOf}
+use Rattle.writer.proofs.PayloadLaws.{pointerOf}
+use Rattle.writer.proofs.RoomLaws.{laid-one}
 use Rattle.writer.proofs.packets.put_pointer.Statement.{statement}
 use Rattle.writer.proofs.packets.put_pointer.Tie as tie
 
