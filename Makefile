@@ -64,7 +64,7 @@ install: all
 	install -m 644 README.md LICENSE CHANGELOG.md $(to)/share/doc/lohitunga
 	install -m 644 docs/*.md $(to)/share/doc/lohitunga/docs
 	install -m 644 docs/maintainers/*.md $(to)/share/doc/lohitunga/docs/maintainers
-	install -m 644 examples/services.c $(to)/share/doc/lohitunga/examples
+	install -m 644 examples/services.c examples/packets.c $(to)/share/doc/lohitunga/examples
 
 dist: all
 	rm -rf target/dist

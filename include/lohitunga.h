@@ -1,9 +1,10 @@
 /* Lohitunga from C: the service information of digital television, EN 300 468 (V1.16.1).
  *
- * It collects sections from transport packets, judges them to the last byte, finds descriptors in them and reads those, turns sections into content
- * sheets and back, and tells which sections of a table have come. No call trusts a length on the wire. Each call ends, traps never, and reads and writes
- * nothing but what was lent: this is proved for every input, and so is what each call answers. The functions are for x86-64 Linux; they use no heap, no
- * global data and no system call, and any number of threads may call them at once, each with what it lends. Of the C library they call memcpy and memset.
+ * It collects sections from transport packets and puts sections into packets, judges them to the last byte, finds descriptors in them and reads those,
+ * turns sections into content sheets and back, and tells which sections of a table have come. No call trusts a length on the wire. Each call ends, traps
+ * never, and reads and writes nothing but what was lent: this is proved for every input, and so is what each call answers. The functions are for x86-64
+ * Linux; they use no heap, no global data and no system call, and any number of threads may call them at once, each with what it lends. Of the C library
+ * they call memcpy and memset.
  *
  * How to begin: how many sections a PID of a stream on standard input has. The compiler's words are those of `pkg-config --cflags --libs lohitunga`.
  *
@@ -20,7 +21,8 @@
  *
  * What holds for every call
  * - Bytes are lent as a pointer and a length. They may hold anything. The pointer points to as many bytes as the length says; with a length of 0 it
- *   may be any, also a null pointer. A pointer to a record or a roll is aligned as its type and points to one, whose fields may hold anything.
+ *   may be any, also a null pointer. A pointer to a record or a roll is aligned as its type and points to one, whose fields may hold anything. Sizes
+ *   of sections are lent as bytes are, any numbers, by a pointer that is aligned as its type; their length counts sizes and not bytes.
  * - What is lent by a pointer without `const` overlaps nothing else that is lent to the same call. Bytes lent by `const` pointers may overlap each other.
  * - No call keeps a pointer. No call writes through a `const` pointer.
  * - Every answer of a call that can refuse has the field `number`: 0, or the number of the first refusal that applies, in the order of its table
@@ -77,7 +79,7 @@ uint32_t lohitunga_interface(void);
 #define LOHITUNGA_TAG_LOCAL_TIME_OFFSET 0x58
 #define LOHITUNGA_TAG_TERRESTRIAL 0x5A
 
-/* Refusals: of sections, of sheets, of packets, of descriptors and times, of the roll. When each is given stands at the calls. */
+/* Refusals: of sections, of sheets, of packets, of descriptors and times, of the roll, of the writer. When each is given stands at the calls. */
 #define LOHITUNGA_REFUSED_SHORT 1
 #define LOHITUNGA_REFUSED_TABLE_ID 2
 #define LOHITUNGA_REFUSED_SYNTAX_INDICATOR 3
@@ -112,6 +114,9 @@ uint32_t lohitunga_interface(void);
 #define LOHITUNGA_REFUSED_NOT_CURRENT 81
 #define LOHITUNGA_REFUSED_OTHER_SUB_TABLE 82
 #define LOHITUNGA_REFUSED_NO_ROLL 83
+#define LOHITUNGA_REFUSED_PID_OR_COUNTER 101
+#define LOHITUNGA_REFUSED_SECTIONS 102
+#define LOHITUNGA_REFUSED_PACKETS_ROOM 103
 
 /* A part of the bytes that were lent: `size` bytes from the place `start` on. What is told of no part has both 0. A call that is given a part takes any
  * two numbers: of a part that does not lie in the bytes it hands out nothing. */
@@ -189,6 +194,28 @@ typedef struct lohitunga_section_step {
 } lohitunga_section_step;
 
 lohitunga_section_step lohitunga_next_section(const uint8_t *out, size_t size, lohitunga_part rest);
+
+/* The writer, the reverse of the collector: from sections to packets of one PID.
+ *
+ * number   given when
+ *  101     pid above 8,191 or counter above 15
+ *  102     the sizes do not cut the bytes exactly; or a section of fewer than 3 bytes, whose size is not 3 + section_length, over 4,096 bytes, or with
+ *          0xFF for its first byte
+ *  103     the room is under LOHITUNGA_PACKET bytes for each packet
+ */
+typedef struct lohitunga_packets_answer {
+    uint32_t number; /* 0, or 101 to 103 */
+    size_t packets;  /* how many packets: they are the first packets * LOHITUNGA_PACKET bytes of the room */
+} lohitunga_packets_answer;
+
+/* The sections stand end to end, `sizes` has the size of each, and `count` says how many there are. Nothing else of them is judged. Alters the first
+ * packets * LOHITUNGA_PACKET bytes of the room; later bytes stay. No section makes no packet, and needs no room.
+ * The packets have no adaptation field, and counters from `counter` on; a next call goes on with (counter + packets) % 16. The start flag stands only
+ * where a section begins, a filler byte only where no section waits, or where the pointer would need the one byte left. lohitunga_collect, from a fresh
+ * record on, takes them all, delivers exactly these sections and breaks off nothing.
+ * Each packet but the last has 183 bytes of sections or 184: a room for (sections_size + 182) / 183 packets is always large enough. */
+lohitunga_packets_answer lohitunga_packets(uint16_t pid, uint8_t counter, const uint8_t *sections, size_t sections_size, const size_t *sizes, size_t count,
+                                           uint8_t *room, size_t room_size);
 
 /* Sections.
  *

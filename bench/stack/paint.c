@@ -62,6 +62,7 @@ static volatile uint8_t taken[512];
     CALL(lohitunga_search, lohitunga_search_answer, (bytes, size, number)) \
     CALL(lohitunga_open, lohitunga_open_answer, (bytes, size)) \
     CALL(lohitunga_next_section, lohitunga_section_step, (bytes, size, rest)) \
+    CALL(lohitunga_packets, lohitunga_packets_answer, (number, number >> 16, bytes, size, &size, 1, room, sizeof room)) \
     CALL(lohitunga_next_entry, lohitunga_entry_step, (bytes, size, rest)) \
     CALL(lohitunga_next_descriptor, lohitunga_descriptor_step, (bytes, size, rest)) \
     CALL(lohitunga_walk, lohitunga_walk_answer, (bytes, size, number)) \

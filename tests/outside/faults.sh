@@ -11,7 +11,9 @@ all="bytes:1 bytes:6 sections:2 sections:3 sections:4 sections:5 sections:23 sec
     rolls:16 rolls:17 rolls:18 sheets:19 sheets:20 sheets:21 sheets:22
     descriptors:28 descriptors:29 times:29 times:30 descriptors:31 descriptors:32 descriptors:33 times:33
     digits:14 digits:28 digits:29 digits:30 digits:31 digits:32 digits:33
-    packets:34 packets:35 packets:36 packets:37 packets:38 packets:39 packets:40 packets:41"
+    packets:34 packets:35 packets:36 packets:37 packets:38 packets:39 packets:40 packets:41
+    writer:42 writer:43 writer:44 writer:45 writer:46 writer:47 writer:48 writer:49 writer:50 writer:51 writer:52 writer:53
+    writer:54 writer:55"
 for kind in $all; do
     status=0
     FAULT=${kind#*:} target/second/stand_in 1 20000 "${kind%:*}" >"$tried" || status=$?

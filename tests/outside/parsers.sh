@@ -1,5 +1,5 @@
 #!/bin/sh
-# The library, through its C interface, against three parsers that nobody here wrote. The seed is one for all time: they may have faults that nobody
+# The library, through its C interface, against five parsers that nobody here wrote. The seed is one for all time: they may have faults that nobody
 # has met yet.
 set -eu
 cd "$(dirname "$0")/../.."

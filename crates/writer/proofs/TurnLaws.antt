@@ -3,8 +3,10 @@
 use mathlib.Core.Path.{_≡_, refl, sym, ap, _∙_, subst}
 use mathlib.Core.Bool.{Bool, true, false, _&&_, false≢true}
 use mathlib.Core.List.{List, [], _∷_}
-use Prim.Native.Nat.{ℕ, zero, suc, _+_, _-_, _≤_, _<_}
+use Prim.Native.Nat.{ℕ, zero, suc, _+_, _-_, _*_, _≤_, _<_}
+use native.Mathlib.Nat.{zero-add}
 use native.Mathlib.Omega.{arith}
+use lib.ListN.{length}
 use lib.Dec.{ltb, leb, eqb}
 use borrow.Author.Tests.{ltb-true, ltb-false, lt-ltb, le-ltb, leb-true, leb-false, eq-eqb, ne-eqb}
 use Rattle.wire.specs.If.{if_then_else_}
@@ -199,3 +201,38 @@ turns-stop a e = turns-by a true (eq-eqb (bytesAhead a) 0 e)
 pub turns-on : (a : Ahead) → 0 < bytesAhead a → turnsFrom a ≡ turnOf a ∷ turnsFrom (behind a)
 unfolding turnsFrom
 turns-on a k = turns-by a false (ne-eqb (bytesAhead a) 0 (λ e. omega arith))
+
+-- ---- packets that the section begun fills
+
+pub turns-full : (left : ℕ) (waiting : List ℕ) → 184 ≤ left
+    → turnsFrom (record { left = left; waiting = waiting })
+    ≡ record { start = false; left = left; bytes = 184 } ∷ turnsFrom (record { left = left - 184; waiting = waiting })
+turns-full left waiting k =
+    let a : Ahead = record { left = left; waiting = waiting } in
+    let is = full-turn (turnOf a) (turn-is a) k in
+    turns-on a (omega arith)
+    ∙ (λ i. is i ∷ turnsFrom (opened (is i .bytes) left waiting))
+    ∙ ap (λ (z : Ahead). record { start = false; left = left; bytes = 184 } ∷ turnsFrom z) (opened-here 184 left waiting k)
+  where
+    full-turn : (t : Turn) → TurnIs (record { left = left; waiting = waiting }) t → 184 ≤ left
+        → t ≡ record { start = false; left = left; bytes = 184 }
+    full-turn t (flagged f) w = let few = f .few in absurd (omega arith)
+    full-turn t (unflagged u) w =
+        u .is ∙ (λ i. record { start = false; left = left; bytes = least-law 184 left .is-first w i })
+
+-- as many as its bytes take
+pub turns-fill : (n left : ℕ) (waiting : List ℕ) → n * 184 ≤ left
+    → length (turnsFrom (record { left = left; waiting = waiting }))
+    ≡ n + length (turnsFrom (record { left = left - n * 184; waiting = waiting }))
+turns-fill zero left waiting k =
+    let same : left ≡ left - 0 * 184 = omega arith in
+    ap (λ (m : ℕ). length (turnsFrom (record { left = m; waiting = waiting }))) same ∙ sym (zero-add _)
+turns-fill (suc n) left waiting k =
+    let next : left - 184 - n * 184 ≡ left - suc n * 184 = omega arith in
+    let more = ap (λ (m : ℕ). length (turnsFrom (record { left = m; waiting = waiting }))) next in
+    omega (
+      arith,
+      ap length (turns-full left waiting (omega arith)),
+      turns-fill n (left - 184) waiting (omega arith),
+      more,
+    )

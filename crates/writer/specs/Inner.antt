@@ -2,13 +2,15 @@
 use mathlib.Core.Path.{_≡_}
 use mathlib.Core.Bool.{true}
 use mathlib.Core.List.{List}
-use Prim.Native.Nat.{ℕ, _+_, _≤_}
-use lib.ListN.{drop}
+use Prim.Native.Nat.{ℕ, _+_, _≤_, _<_}
+use lib.ListN.{length, drop}
 use Rattle.wire.specs.If.{if_then_else_}
 use Rattle.wire.specs.Each.{Each}
 use Rattle.writer.specs.Layout as Layout
+use Rattle.writer.specs.Layout.{bytesAhead, turnsFrom}
 use Rattle.writer.specs.declared.layout.Ahead.{Ahead}
 use Rattle.writer.specs.declared.layout.Turn.{Turn}
+use Rattle.writer.specs.declared.layout.Leap.{Leap}
 
 -- what is ahead, by the sizes and the index of the first section that waits
 abbrev pub aheadOf : List ℕ → Ahead → Layout.Ahead
@@ -26,3 +28,11 @@ pub record Fits (t : Turn) (place bytes : ℕ) : Type 0 where
   pub there : place + t .bytes ≤ bytes
   pub in-payload : t .bytes + (if t .start then 1 else 0) ≤ 184
   pub pointer-small : t .start ≡ true → t .left ≤ 183
+
+-- some packets more: they are the first of the turns from a on, and rest was ahead of them
+pub record Leaps (sizes : List ℕ) (a : Ahead) (rest : ℕ) (l : Leap) : Type 0 where
+  pub turns : length (turnsFrom (aheadOf sizes a)) ≡ l .packets + length (turnsFrom (aheadOf sizes (l .ahead)))
+  pub falls : bytesAhead (aheadOf sizes (l .ahead)) + l .bytes ≡ rest
+  pub some : 0 < l .packets
+  pub few : l .packets ≤ l .bytes
+  pub next-there : l .ahead .next ≤ length sizes

@@ -1,11 +1,11 @@
 // Where each packet begins, by the sizes of the sections alone.
 ghost use mathlib.Core.Path.{_≡_};
 ghost use mathlib.Core.Bool.{_&&_};
-ghost use Prim.Native.Nat.{_≤_};
+ghost use Prim.Native.Nat.{_≤_, _<_};
 ghost use lib.Dec.{ltb};
 ghost use lib.ListN.{length, drop};
-ghost use Rattle.writer.specs.Layout.{sum, opened, least, turnWith, unbegun, turnsFrom};
-ghost use Rattle.writer.specs.Inner.{aheadOf, turnSaid, Few};
+ghost use Rattle.writer.specs.Layout.{sum, bytesAhead, opened, least, turnWith, unbegun, turnsFrom};
+ghost use Rattle.writer.specs.Inner.{aheadOf, turnSaid, Few, Leaps};
 
 // The bytes left of the section begun, and the index of the first section that waits.
 pub struct Ahead {
@@ -81,6 +81,37 @@ pub fn open_next(n: usize, a: Ahead, sizes: &[usize]) -> Ahead
     Ahead { left: 0, next }
 }
 
+// Some packets more: how many, the bytes of sections in them, and what is then ahead.
+struct Leap {
+    packets: usize,
+    bytes: usize,
+    ahead: Ahead,
+}
+
+// Packets that the section begun fills are told at once, others one by one.
+fn some_more(a: Ahead, rest: usize, sizes: &[usize]) -> Leap
+    requires { ⌜ (0 < rest) × (bytesAhead (aheadOf (now sizes) a) ≡ rest) × (a .next ≤ length (now sizes)) × Few (now sizes) ⌝ }
+    ensures { λ r. ⌜ Leaps (now (sizes .entry)) a rest r ⌝ }
+{
+    if 184 <= a.left {
+        let n = a.left / 184;
+        return Leap {
+            packets: n,
+            bytes: n * 184,
+            ahead: Ahead {
+                left: a.left - n * 184,
+                next: a.next,
+            },
+        };
+    }
+    let t = next_turn(a.next < sizes.len(), a.left, rest);
+    Leap {
+        packets: 1,
+        bytes: t.bytes,
+        ahead: open_next(t.bytes, a, sizes),
+    }
+}
+
 // The packets that sections of these sizes take, which are so many bytes in all.
 pub fn count(all: usize, sizes: &[usize]) -> usize
     requires { ⌜ (all ≡ sum (now sizes)) × Few (now sizes) ⌝ }
@@ -90,10 +121,10 @@ pub fn count(all: usize, sizes: &[usize]) -> usize
     let mut rest = all;
     let mut n = 0;
     while 0 < rest {
-        let t = next_turn(a.next < sizes.len(), a.left, rest);
-        a = open_next(t.bytes, a, sizes);
-        rest -= t.bytes;
-        n += 1;
+        let l = some_more(a, rest, sizes);
+        n += l.packets;
+        rest -= l.bytes;
+        a = l.ahead;
     }
     n
 }

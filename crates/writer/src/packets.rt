@@ -7,7 +7,7 @@ ghost use mathlib.Core.Path.{_≡_};
 ghost use mathlib.Core.Bool.{true};
 ghost use mathlib.Core.List.{[], _∷_, flatten};
 ghost use Prim.Native.Nat.{_+_, _-_, _*_, _≤_, _<_};
-ghost use lib.ListN.{length, drop, replicate};
+ghost use lib.ListN.{length, take, drop, replicate};
 ghost use Rattle.wire.specs.If.{if_then_else_};
 ghost use Rattle.copy.specs.Laid.{over, laid};
 ghost use Rattle.writer.specs.Layout.{sum, payloadOf, laidOut, unbegun, turnsFrom};
@@ -55,6 +55,23 @@ fn put_pointer(room: &mut [u8], from: usize, start: bool, left: usize) -> usize
     from
 }
 
+// n bytes of sections[place..] to room[from..]. Most packets have 183 or 184: of a number that it knows the compiler makes
+// a copy without a loop.
+fn put_bytes(sections: &[u8], place: usize, n: usize, room: &mut [u8], from: usize)
+    requires { ⌜ (place + n ≤ length (now sections)) × (from + n ≤ length (now room)) ⌝ }
+    ensures { λ _. ⌜ now (room .exit) ≡ laid (now (room .entry)) from (take n (drop place (now (sections .entry)))) ⌝ }
+{
+    if n == 184 {
+        copy(sections, place, 184, room, from);
+        return;
+    }
+    if n == 183 {
+        copy(sections, place, 183, room, from);
+        return;
+    }
+    copy(sections, place, n, room, from);
+}
+
 // The packet room[at..at+188], whose bytes are sections[place..].
 fn put_packet(
     room: &mut [u8],
@@ -71,7 +88,7 @@ fn put_packet(
 {
     put_header(room, at, pid, counter, t.start);
     let from = put_pointer(room, at + 4, t.start, t.left);
-    copy(sections, place, t.bytes, room, from);
+    put_bytes(sections, place, t.bytes, room, from);
     fill(room, from + t.bytes, at + 188);
 }
 

@@ -39,8 +39,8 @@ def in_c(kind):
 
 def lent(kind):
     """The C types of an argument: a slice is lent as a pointer and a length."""
-    if m := re.fullmatch(r"&(mut )?\[u8\]", kind):
-        return ["uint8_t *" if m.group(1) else "const uint8_t *", "size_t"]
+    if m := re.fullmatch(r"&(mut )?\[(\w+)\]", kind):
+        return [("" if m.group(1) else "const ") + IN_C[m.group(2)] + " *", "size_t"]
     if m := re.fullmatch(r"&(mut )?(\w+)", kind):
         return [("" if m.group(1) else "const ") + snake(m.group(2)) + " *"]
     return [in_c(kind)[0]]

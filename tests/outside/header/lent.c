@@ -23,6 +23,8 @@ static void nothing(void)
     lohitunga_record record = lohitunga_fresh(0x11), as_before = record;
     lohitunga_roll roll = lohitunga_roll_empty(), empty = roll;
     lohitunga_part anywhere = {SIZE_MAX, SIZE_MAX};
+    static const uint8_t least[3] = {0x72};
+    const size_t size_of_least = sizeof least;
     is("CRC_32 of nothing", lohitunga_crc32(NULL, 0), 0xFFFFFFFF);
     GIVES(1, lohitunga_judge(NULL, 0));
     GIVES(1, lohitunga_search(NULL, 0, LOHITUNGA_TAG_SERVICE));
@@ -55,6 +57,12 @@ static void nothing(void)
     GIVES(41, lohitunga_collect(&record, hold, sizeof hold, out, sizeof out, NULL, 0));
     GIVES(42, lohitunga_collect(&record, NULL, 0, out, sizeof out, packet, sizeof packet));
     GIVES(42, lohitunga_collect(&record, hold, sizeof hold, NULL, 0, packet, sizeof packet));
+    GIVES(0, lohitunga_packets(0x11, 0, NULL, 0, NULL, 0, NULL, 0));
+    is("no packet of nothing", (long long)lohitunga_packets(0x11, 0, NULL, 0, NULL, 0, NULL, 0).packets, 0);
+    GIVES(101, lohitunga_packets(0x11, 16, NULL, 0, NULL, 0, NULL, 0));
+    GIVES(102, lohitunga_packets(0x11, 0, packet, sizeof packet, NULL, 0, NULL, 0));
+    GIVES(102, lohitunga_packets(0x11, 0, NULL, 0, &anywhere.size, 1, NULL, 0));
+    GIVES(103, lohitunga_packets(0x11, 0, least, sizeof least, &size_of_least, 1, NULL, 0));
     GIVES(21, lohitunga_to_sheet(NULL, 0, NULL, 0));
     GIVES(1, lohitunga_to_sheet(NULL, 0, room, sizeof room));
     GIVES(21, lohitunga_to_section(NULL, 0, NULL, 0));

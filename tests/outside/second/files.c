@@ -104,6 +104,43 @@ int write_packets(uint64_t seed, uint64_t count, const char *name)
     return closed(name);
 }
 
+/*
+ * The word "lists   "; then lists of sections with the library's packets of them: whether the sections stand 1, PID 2, counter 1,
+ * sections 2, packets 2; each section's size 2; the sections; the packets.
+ */
+int write_lists(uint64_t seed, uint64_t count, const char *name)
+{
+    static struct list l;
+    static uint8_t room[LIST_PACKETS * LOHITUNGA_PACKET];
+    if (!opened(name))
+        return 2;
+    fputs("lists   ", file);
+    for (uint64_t i = 0; i < count; i++) {
+        struct dice d = dice_of(seed, 104, i);
+        int real = one_in(&d, 2);
+        d.tame = real;
+        make_list(&d, &l, real);
+        /* below 8,190: what has that PID or the next is known by it to some parsers, and is not looked into */
+        uint16_t pid = (uint16_t)between(&d, 16, 8189);
+        uint8_t counter = (uint8_t)below(&d, 16);
+        lohitunga_packets_answer a = lohitunga_packets(pid, counter, l.bytes, l.size, l.sizes, l.count, room, sizeof room);
+        if (a.number) {
+            fprintf(stderr, "%s: list %" PRIu64 " is refused with %u\n", name, i, a.number);
+            return 1;
+        }
+        put((uint64_t)real, 1);
+        put(pid, 2);
+        put(counter, 1);
+        put(l.count, 2);
+        put(a.packets, 2);
+        for (size_t k = 0; k < l.count; k++)
+            put(l.sizes[k], 2);
+        fwrite(l.bytes, 1, l.size, file);
+        fwrite(room, LOHITUNGA_PACKET, a.packets, file);
+    }
+    return closed(name);
+}
+
 /* Fields, by the names that tshark has for them */
 
 static void say(const char *name, long long value) { fprintf(file, "%s %lld\n", name, value); }
@@ -514,5 +551,77 @@ int write_streams(uint64_t seed, uint64_t count, const char *folder)
         if (closed(name))
             return 2;
     }
+    return 0;
+}
+
+/* Packets of another writer */
+
+enum { MUXED_MOST = 1 << 14 };
+
+static int differs(const char *what, uint64_t stream, const uint8_t *packet)
+{
+    printf("muxed: libavformat: stream %" PRIu64 ": %s, at\n   ", stream, what);
+    for (int i = 0; i < 188; i++)
+        printf(" %02X", packet[i]);
+    printf("\nmuxed: FAILED\n");
+    return 1;
+}
+
+/* The packets of one PID, each section of which has its own: those that carried it, and those that the library makes of it. */
+static int collect_again(uint64_t stream, const uint8_t *packets, size_t count, unsigned pid, uint64_t *sections)
+{
+    static uint8_t hold[LOHITUNGA_HOLD], out[LOHITUNGA_OUT], came[64 * LOHITUNGA_PACKET], room[sizeof came];
+    lohitunga_record r = lohitunga_fresh((uint16_t)pid);
+    size_t held = 0;
+    for (const uint8_t *k = packets; k < packets + count * LOHITUNGA_PACKET; k += LOHITUNGA_PACKET) {
+        if (k[1] % 32u * 256u + k[2] != pid)
+            continue;
+        lohitunga_collect_answer a = lohitunga_collect(&r, hold, sizeof hold, out, sizeof out, k, LOHITUNGA_PACKET);
+        if (a.number || a.repeated || a.sections > 1 || held == 64)
+            return differs("the packet is not taken", stream, k);
+        memcpy(came + LOHITUNGA_PACKET * held++, k, LOHITUNGA_PACKET);
+        if (a.sections == 0)
+            continue;
+        if (lohitunga_crc32(out, a.size) != 0)
+            return differs("the section's CRC_32 does not hold", stream, k);
+        lohitunga_packets_answer b = lohitunga_packets((uint16_t)pid, came[3] % 16, out, a.size, &a.size, 1, room, sizeof room);
+        if (b.number || b.packets != held || memcmp(room, came, held * LOHITUNGA_PACKET) != 0)
+            return differs("the section's packets are not those that carried it", stream, k);
+        held = 0;
+        ++*sections;
+    }
+    if (r.broken || r.skipped || r.in_hand)
+        return differs("something is broken off, skipped or in hand", stream, packets);
+    return 0;
+}
+
+/* A file of muxer.c: collected, and every section alone written again. */
+int read_muxed(const char *name)
+{
+    static uint8_t packets[MUXED_MOST * LOHITUNGA_PACKET], number[4];
+    static uint64_t last[8192];
+    uint64_t streams = 0, sections = 0, all = 0;
+    file = fopen(name, "rb");
+    while (file && fread(number, 1, 4, file) == 4) {
+        size_t count = number[0] + number[1] * 256u;
+        if (number[2] || number[3] || count > MUXED_MOST || fread(packets, LOHITUNGA_PACKET, count, file) != count)
+            break;
+        streams++;
+        for (size_t i = 0; i < count; i++) {
+            const uint8_t *k = packets + i * LOHITUNGA_PACKET;
+            unsigned pid = k[1] % 32u * 256u + k[2];
+            if (last[pid] != streams && collect_again(streams, packets, count, pid, &sections))
+                return 1;
+            last[pid] = streams;
+        }
+        all += count;
+    }
+    if (!file || !feof(file) || sections == 0) {
+        fprintf(stderr, "%s: no file of the muxer\n", name);
+        return 2;
+    }
+    fclose(file);
+    printf("muxed: libavformat: %" PRIu64 " sections in %" PRIu64 " packets of %" PRIu64 " streams, delivered and written again: no difference\n",
+           sections, all, streams);
     return 0;
 }

@@ -4,8 +4,10 @@
  *     harness --kinds                        the kinds, by name
  *     harness SEED COUNT --sections FILE     COUNT sections with the library's answers, for other parsers to judge
  *     harness SEED COUNT --packets FILE      COUNT packets, and what the library hears of discontinuity_indicator
+ *     harness SEED COUNT --lists FILE        COUNT lists of sections, and the library's packets of each
  *     harness SEED COUNT --fields FILE       COUNT sections with the library's readings of them
  *     harness SEED COUNT --streams FOLDER    COUNT streams of packets, each with its account by the second implementation
+ *     harness --muxed FILE                   packets by libavformat, collected and written again
  * It ends with 0; with 1 at the first difference; with 3 where there is none but some answer of document 01 was never met.
  */
 #include "kinds.h"
@@ -25,7 +27,8 @@
     KIND(times) \
     KIND(rolls) \
     KIND(sheets) \
-    KIND(digits)
+    KIND(digits) \
+    KIND(writer)
 
 #define DECLARED(name) extern const struct kind kind_##name;
 #define LISTED(name) &kind_##name,
@@ -34,7 +37,9 @@ static const struct kind *const kinds[] = {KINDS(LISTED)};
 
 int write_sections(uint64_t seed, uint64_t count, const char *name);
 int write_packets(uint64_t seed, uint64_t count, const char *name);
+int write_lists(uint64_t seed, uint64_t count, const char *name);
 int write_fields(uint64_t seed, uint64_t count, const char *name);
+int read_muxed(const char *name);
 int write_streams(uint64_t seed, uint64_t count, const char *folder);
 
 static void make_rooms(void)
@@ -43,10 +48,14 @@ static void make_rooms(void)
     room_make(&rooms.hold, 8192, 1);
     room_make(&rooms.out, 12288, 1);
     room_make(&rooms.state, 4096, 1);
+    room_make(&rooms.sizes, LIST_MOST * sizeof(size_t), 0);
+    room_make(&rooms.packets, LIST_PACKETS * 188 + 512, 1);
     watch_room("the input", &rooms.input);
     watch_room("the hold", &rooms.hold);
     watch_room("the out room", &rooms.out);
     watch_room("the record or roll", &rooms.state);
+    watch_room("the sizes", &rooms.sizes);
+    watch_room("the packets", &rooms.packets);
 }
 
 static void run_kind(const struct kind *k, unsigned which, uint64_t seed, uint64_t first, uint64_t count)
@@ -59,8 +68,8 @@ static void run_kind(const struct kind *k, unsigned which, uint64_t seed, uint64
         case_begins(seed, k->name, i);
         k->one(&d);
     }
-    must(room_whole(&rooms.input) && room_whole(&rooms.hold) && room_whole(&rooms.out) && room_whole(&rooms.state),
-         "every canary stands at the end");
+    must(room_whole(&rooms.input) && room_whole(&rooms.hold) && room_whole(&rooms.out) && room_whole(&rooms.state) &&
+         room_whole(&rooms.sizes) && room_whole(&rooms.packets), "every canary stands at the end");
 }
 
 int main(int argc, char **argv)
@@ -70,9 +79,11 @@ int main(int argc, char **argv)
             puts(kinds[i]->name);
         return 0;
     }
+    if (argc == 3 && strcmp(argv[1], "--muxed") == 0)
+        return read_muxed(argv[2]);
     if (argc < 3) {
-        fprintf(stderr, "usage: %s SEED COUNT [KIND [FIRST] | --sections FILE | --packets FILE | --fields FILE |"
-                        " --streams FOLDER]\n", argv[0]);
+        fprintf(stderr, "usage: %s SEED COUNT [KIND [FIRST] | --sections FILE | --packets FILE | --lists FILE |"
+                        " --fields FILE | --streams FOLDER]\n", argv[0]);
         return 2;
     }
     uint64_t seed = strtoull(argv[1], NULL, 0), count = strtoull(argv[2], NULL, 0);
@@ -82,6 +93,8 @@ int main(int argc, char **argv)
         return write_sections(seed, count, argv[4]);
     if (argc == 5 && strcmp(only, "--packets") == 0)
         return write_packets(seed, count, argv[4]);
+    if (argc == 5 && strcmp(only, "--lists") == 0)
+        return write_lists(seed, count, argv[4]);
     if (argc == 5 && strcmp(only, "--fields") == 0)
         return write_fields(seed, count, argv[4]);
     if (argc == 5 && strcmp(only, "--streams") == 0)

@@ -7,8 +7,9 @@
 
 struct rooms {
     struct room input;          /* read-only: packets, sections, sheets, descriptors */
-    struct room hold, out;      /* and for the writers: out alone */
+    struct room hold, out;      /* and for what makes sheets and sections: out alone */
     struct room state;          /* a record or a roll */
+    struct room sizes, packets; /* of the writer: read-only, and its room */
 };
 
 extern struct rooms rooms;

@@ -667,18 +667,30 @@ void make_sender(struct dice *d, struct sender *s)
     s->marks = s->splices ? 2 : one_in(d, 2) ? 12 : 0;
 }
 
-/* One section more into the queue, or filler up to nowhere. The collector knows no rows, so any length will do. */
-static void wait(struct dice *d, struct sender *s)
+/* How long a section is: often at an edge of what one packet or two hold. Collector and writer know no rows, so any length will do. */
+static size_t any_size(struct dice *d, int large)
 {
     static const unsigned sizes[] = {3, 4, 5, 8, 180, 181, 182, 183, 184, 185, 186, 364, 365, 366, 367, 368, 4094, 4095, 4096};
-    size_t n = one_in(d, 3) ? sizes[below(d, s->large ? 19 : 16)] : s->large ? between(d, 3, 4096) : between(d, 3, 300);
-    uint8_t *at = s->queue + s->size;
-    memset(s->begins + s->size, 0, n);
-    s->begins[s->size] = 1;
+    return one_in(d, 3) ? sizes[below(d, large ? 19 : 16)] : large ? between(d, 3, 4096) : between(d, 3, 300);
+}
+
+/* Bytes of any kind behind a head that declares them. */
+static void put_section(struct dice *d, uint8_t *at, size_t n)
+{
     fill(d, at, n);
     if (at[0] == 0xFF)
         at[0] = 0x42;
     put_twelve(at + 1, n - 3);
+}
+
+/* One section more into the queue, or filler up to nowhere. */
+static void wait(struct dice *d, struct sender *s)
+{
+    size_t n = any_size(d, s->large);
+    uint8_t *at = s->queue + s->size;
+    memset(s->begins + s->size, 0, n);
+    s->begins[s->size] = 1;
+    put_section(d, at, n);
     if (s->trouble && one_in(d, s->trouble)) {
         if (one_in(d, 2))
             put_twelve(at + 1, between(d, 4092, 4095)); /* too long, or just not */
@@ -848,4 +860,147 @@ size_t make_packet(struct dice *d, struct sender *s, uint8_t *to)
     if (s->trouble && one_in(d, s->trouble))
         return disturb(d, s, to);
     return 188;
+}
+
+/* Lists of sections, for the writer */
+
+/* One section more, if it has room; whether it has. */
+static int add_section(struct dice *d, struct list *l, size_t n)
+{
+    if (l->count == LIST_MOST || LIST_BYTES - l->size < n)
+        return 0;
+    put_section(d, l->bytes + l->size, n);
+    l->sizes[l->count++] = n;
+    l->size += n;
+    return 1;
+}
+
+/* Sections, the last of which begins with a packet's last byte, or a few bytes before or behind it. */
+static void add_edge(struct dice *d, struct list *l)
+{
+    for (size_t left = between(d, 180, 185), n; left > 0; left -= n) {
+        n = left < 40 ? left : between(d, 3, (unsigned)left - 3);
+        add_section(d, l, n);
+    }
+    add_section(d, l, any_size(d, 0));
+}
+
+void make_list(struct dice *d, struct list *l, int real)
+{
+    static struct section s;
+    int large = one_in(d, 64);
+    unsigned sections = one_in(d, 16) ? 0 : one_in(d, 20) ? between(d, 1, 300) : between(d, 1, 4);
+    l->size = l->count = 0;
+    if (real) {
+        for (; sections > 0; sections--) {
+            make_section(d, &s);
+            if (l->count == LIST_MOST || LIST_BYTES - l->size < s.size)
+                return;
+            memcpy(l->bytes + l->size, s.bytes, s.size);
+            l->sizes[l->count++] = s.size;
+            l->size += s.size;
+        }
+        return;
+    }
+    if (sections > 4) { /* many small ones */
+        unsigned most = between(d, 3, 24);
+        while (sections-- > 0)
+            add_section(d, l, between(d, 3, most));
+        return;
+    }
+    if (sections > 0 && one_in(d, 4)) {
+        add_edge(d, l);
+        return;
+    }
+    while (sections-- > 0)
+        add_section(d, l, any_size(d, large));
+}
+
+/* A size that no section has, or another one. */
+static size_t other_size(struct dice *d, size_t size)
+{
+    static const size_t far[] = {SIZE_MAX, SIZE_MAX - 1, SIZE_MAX - 2, SIZE_MAX / 2 + 1, (size_t)1 << 32, 4096, 4097};
+    switch (below(d, 4)) {
+    case 0: return below(d, 3);
+    case 1: return far[below(d, sizeof far / sizeof *far)];
+    case 2: return size + between(d, 1, 4);
+    default: return size - between(d, 1, size < 4 ? (unsigned)size : 4);
+    }
+}
+
+static void damage_list(struct dice *d, struct list *l)
+{
+    size_t i = l->count > 0 ? below(d, (unsigned)l->count) : 0, at = 0, n;
+    for (size_t k = 0; k < i; k++) {
+        if (l->sizes[k] > l->size - at)
+            i = k; /* damaged before: nothing stands behind it */
+        else
+            at += l->sizes[k];
+    }
+    uint8_t *section = l->bytes + at;
+    unsigned how = l->count > 0 ? below(d, 10) : below(d, 3);
+    switch (how) {
+    case 0: /* bytes behind the last section */
+        n = between(d, 1, 20);
+        if (LIST_BYTES - l->size >= n) {
+            fill(d, l->bytes + l->size, n);
+            l->size += n;
+        }
+        break;
+    case 1: /* one section too many, of bytes that are not there */
+        if (l->count < LIST_MOST)
+            l->sizes[l->count++] = one_in(d, 2) ? other_size(d, 3) : 3;
+        break;
+    case 2: /* sections of more than 4,096 bytes, and as much in their heads */
+        if (add_section(d, l, between(d, 4097, 4098)) && one_in(d, 2))
+            add_section(d, l, 3);
+        break;
+    case 3: /* a section too few */
+        l->count--;
+        break;
+    case 4: /* the bytes end early */
+        l->size -= l->size < 4 ? l->size : between(d, 1, 4);
+        break;
+    case 5:
+        l->sizes[i] = other_size(d, l->sizes[i]);
+        break;
+    case 6: /* the head's length, and of it mostly one bit */
+        if (one_in(d, 4))
+            put_twelve(section + 1, below(d, 4096));
+        else
+            section[1 + below(d, 2)] ^= (uint8_t)(1u << below(d, 4));
+        break;
+    case 7:
+        section[0] = 0xFF;
+        break;
+    case 8: /* two sizes of which the sum is right, or right modulo 2^64 */
+        if (l->count < 2) {
+            l->sizes[0] = other_size(d, l->sizes[0]);
+        } else {
+            size_t other = (i + 1) % l->count, sum = l->sizes[i] + l->sizes[other];
+            l->sizes[i] = other_size(d, l->sizes[i]);
+            l->sizes[other] = sum - l->sizes[i];
+        }
+        break;
+    default: /* a section of fewer than 3 bytes among the others: the bytes behind it move up */
+        n = below(d, 3);
+        if (l->count < LIST_MOST && LIST_BYTES - l->size >= n) {
+            memmove(section + n, section, l->size - at);
+            memmove(l->sizes + i + 1, l->sizes + i, (l->count - i) * sizeof *l->sizes);
+            fill(d, section, n);
+            l->sizes[i] = n;
+            l->size += n;
+            l->count++;
+        }
+    }
+}
+
+void make_list_case(struct dice *d, struct list *l)
+{
+    make_list(d, l, one_in(d, 16));
+    if (!one_in(d, 3))
+        return;
+    damage_list(d, l);
+    if (one_in(d, 8))
+        damage_list(d, l);
 }

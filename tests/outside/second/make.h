@@ -84,4 +84,23 @@ void make_full_packet(struct dice *d, unsigned pid, unsigned counter, unsigned p
 /* The next packet, perhaps disturbed, lost, repeated or of another size; its size. */
 size_t make_packet(struct dice *d, struct sender *s, uint8_t *to);
 
+/* Lists of sections, for the writer */
+
+/* So many bytes, and sections, at most; a list that can be sent takes so many packets at most, each but the last with 183 bytes or more. */
+enum { LIST_BYTES = SHEET_MOST, LIST_MOST = LIST_BYTES / 3, LIST_PACKETS = (LIST_BYTES + 182) / 183 };
+
+/* Sections end to end, and what is said of their sizes. */
+struct list {
+    uint8_t bytes[LIST_BYTES];
+    size_t size;
+    size_t sizes[LIST_MOST];
+    size_t count;
+};
+
+/* A list that can be sent: sections of any bytes behind their heads. With `real` they are sections that stand. */
+void make_list(struct dice *d, struct list *l, int real);
+
+/* Such a list, or a damaged one. */
+void make_list_case(struct dice *d, struct list *l);
+
 #endif

@@ -1,5 +1,5 @@
 /*
- * A second implementation of document 01, written from document 01, requests (v) and (ix) of document 02,
+ * A second implementation of document 01, written from document 01, requests (ii), (v) and (ix) of document 02,
  * docs/DECISIONS.md and EN 300 468 alone, a byte at a time. It is the judge in the comparison with the library, so it is
  * plain before it is fast. It stands in the files second_*.c. Sentences in quotation marks are document 01's there, or
  * document 02's where it is named; where they leave a choice, docs/DECISIONS.md has what was chosen. Field layouts are
@@ -107,6 +107,13 @@ struct second_collected {
 struct second_record second_fresh(uint32_t pid);
 void second_collect(struct second_collected *answer, struct second_record *record, uint8_t *hold, size_t hold_size,
                     uint8_t *out, size_t out_size, const uint8_t *packet, size_t packet_size);
+
+/* Writer */
+
+struct second_packets { unsigned number; size_t packets; };
+
+struct second_packets second_packets(unsigned pid, unsigned counter, const uint8_t *sections, size_t size, const size_t *sizes,
+                                     size_t count, uint8_t *room, size_t room_size);
 
 /* Times */
 

@@ -209,6 +209,96 @@ lohitunga_collect_answer lohitunga_collect(lohitunga_record *r, uint8_t *hold, s
     return a;
 }
 
+/*
+ * Packets as the faults of the writer have them: a section begins where fewer than `before` bytes come before it, and `filler`
+ * fills.
+ */
+static size_t mislay(size_t before, uint8_t filler, unsigned pid, size_t counter, const uint8_t *sections, size_t size, const size_t *sizes,
+                     size_t count, uint8_t *room, size_t room_size)
+{
+    size_t left = 0, next = 0, packets = 0;
+    for (; size > 0 && room_size >= 188 * (packets + 1); packets++) {
+        uint8_t *k = room + 188 * packets;
+        int start = next < count && left < before;
+        size_t bytes = start ? (size < 183 ? size : 183) : left < 184 ? left : 184, over = bytes;
+        memset(k, filler, 188);
+        k[0] = 0x47;
+        k[1] = (uint8_t)(start * 0x40 | pid / 256);
+        k[2] = (uint8_t)pid;
+        k[3] = (uint8_t)(0x10 | (counter + packets) % 16);
+        if (start)
+            k[4] = (uint8_t)left;
+        memcpy(k + 4 + start, sections, bytes);
+        for (; over > left; left = sizes[next++])
+            over -= left;
+        left -= over;
+        sections += bytes;
+        size -= bytes;
+    }
+    return packets;
+}
+
+/* Whether the sections could be sent if one of `most` bytes could. */
+static int sendable(size_t most, const uint8_t *sections, size_t size, const size_t *sizes, size_t count)
+{
+    for (size_t i = 0; i < count; i++) {
+        size_t n = sizes[i];
+        if (n > size || n < 3 || n > most || n != 3u + (sections[1] % 16 * 256 + sections[2]) || sections[0] == 0xFF)
+            return 0;
+        sections += n;
+        size -= n;
+    }
+    return size == 0;
+}
+
+lohitunga_packets_answer lohitunga_packets(uint16_t pid, uint8_t counter, const uint8_t *sections, size_t size, const size_t *sizes,
+                                           size_t count, uint8_t *room, size_t room_size)
+{
+    struct second_packets s = second_packets(pid, counter, sections, size, sizes, count, room, room_size);
+    lohitunga_packets_answer a = {s.number, s.packets};
+    size_t end = 188 * s.packets;
+    /* 42: the pointer one more; 43: the flag on every packet; 46: the counter modulo 15; 47: the high bits of the PID lost */
+    for (size_t at = 0; at < end; at += 188) {
+        if (fault(42) && room[at + 1] & 0x40)
+            room[at + 4]++;
+        if (fault(43))
+            room[at + 1] |= 0x40;
+        if (fault(46))
+            room[at + 3] = (uint8_t)(0x10 | (counter + at / 188) % 15);
+        if (fault(47))
+            room[at + 1] &= 0x40;
+    }
+    /* 44: filler where a section could begin with the last byte; 45: the flag where none can begin; 52: filler of 0x00 */
+    if (fault(44) && s.number == 0)
+        a.packets = mislay(182, 0xFF, pid, counter, sections, size, sizes, count, room, room_size);
+    if (fault(45) && s.number == 0)
+        a.packets = mislay(184, 0xFF, pid, counter, sections, size, sizes, count, room, room_size);
+    if (fault(52) && s.number == 0)
+        mislay(183, 0, pid, counter, sections, size, sizes, count, room, room_size);
+    /* 48: a section of 4,097 bytes is sent; 49: a room that is one packet short is taken */
+    if (fault(48) && s.number == 102 && sendable(4097, sections, size, sizes, count)) {
+        a.number = 0;
+        a.packets = mislay(183, 0xFF, pid, counter, sections, size, sizes, count, room, room_size);
+    }
+    if (fault(49) && s.number == 103 && room_size >= 188) {
+        a.number = 0;
+        a.packets = mislay(183, 0xFF, pid, counter, sections, size, sizes, count, room, room_size);
+    }
+    /* 50: 102 before 101; 51: 103 before 102 */
+    if (fault(50) && s.number == 101 && !sendable(4096, sections, size, sizes, count))
+        a.number = 102;
+    if (fault(51) && s.number == 102 && size > 0 && room_size < 188)
+        a.number = 103;
+    /* 53: one byte behind the packets; 54: the first packet begun before 103; 55: one size too many is read */
+    if (fault(53) && s.number == 0 && room_size > end)
+        room[end] ^= 1;
+    if (fault(54) && s.number == 103 && room_size > 0)
+        room[0] ^= 1;
+    volatile size_t sink = fault(55) ? sizes[count] : 0;
+    (void)sink;
+    return a;
+}
+
 static lohitunga_part part(unsigned number, size_t start, size_t size)
 {
     lohitunga_part p = {number ? 0 : start, number ? 0 : size};

@@ -186,7 +186,7 @@ void watch(void)
 
 /* How often */
 
-enum { CALLS = 64, ANSWERS = 24 };
+enum { CALLS = 96, ANSWERS = 24 };
 
 static struct {
     const char *call;

@@ -1,9 +1,11 @@
 #!/usr/bin/env python3
-"""tshark as a second reader of sections:  tshark.py FILE     (a file of `harness SEED COUNT --fields FILE`)
+"""tshark as a second reader of sections:  tshark.py FILE     (a file of `harness SEED COUNT --fields FILE`, or of `--lists FILE`)
 
 Each section goes into transport packets, the packets into a capture of link type 243, and tshark dissects it. Every field that the library
 gave is compared with tshark's, as a list in the order of the section; so is what each says of the section as a whole. Where tshark differs
 from document 01 the difference is named below, with its reason, and counted; any other fails.
+
+Of a file of lists the packets are the library's: tshark must find the sections that went into them, in order, and no packet missing.
 """
 import datetime
 import struct
@@ -138,27 +140,31 @@ def packets(section, counters):
         start = 0
 
 
-def dissected(chosen, names):
-    """For each section the texts of the fields in the frame in which it ends."""
+def frames(stream, names):
+    """For each packet the texts of the fields."""
     with tempfile.NamedTemporaryFile(suffix=".pcap") as capture:
         capture.write(struct.pack("<IHHiIII", 0xA1B2C3D4, 2, 4, 0, 0, 65535, 243))
-        counters, frames, ends = {}, 0, []
-        for section in chosen:
-            for packet in packets(section.data, counters):
-                capture.write(struct.pack("<IIII", frames, 0, 188, 188) + packet)
-                frames += 1
-            ends.append(frames - 1)
+        for number, packet in enumerate(stream):
+            capture.write(struct.pack("<IIII", number, 0, 188, 188) + packet)
         capture.flush()
         command = ["tshark", "-n", "-r", capture.name, "-o", "mpeg_sect.verify_crc:TRUE", "-T", "fields", "-E", "aggregator=\x1f"]
         for field in names:
             command += ["-e", field]
         said = subprocess.run(command, stdout=subprocess.PIPE, stderr=subprocess.DEVNULL, check=True).stdout.decode("utf-8")
     lines = said.split("\n")[:-1]
-    if len(lines) != frames:
-        sys.exit(f"tshark: {frames} packets went in and {len(lines)} came out")
-    for end in ends:
-        texts = lines[end].split("\t")
-        yield {field: text.split("\x1f") if text else [] for field, text in zip(names, texts)}
+    if len(lines) != len(stream):
+        sys.exit(f"tshark: {len(stream)} packets went in and {len(lines)} came out")
+    return [{field: text.split("\x1f") if text else [] for field, text in zip(names, line.split("\t"))} for line in lines]
+
+
+def dissected(chosen, names):
+    """For each section the texts of the fields in the frame in which it ends."""
+    counters, stream, ends = {}, [], []
+    for section in chosen:
+        stream += packets(section.data, counters)
+        ends.append(len(stream) - 1)
+    said = frames(stream, names)
+    return (said[end] for end in ends)
 
 
 def fails(section, what):
@@ -285,7 +291,48 @@ def compare_fields(section, said, table):
     return count
 
 
+def lists(data):
+    """Sections and packets of each list, of which the sections stand and no other before it has the PID."""
+    at, pids = 8, set()
+    while at < len(data):
+        real, pid, _, count, size = struct.unpack_from("<BHBHH", data, at)
+        sizes = struct.unpack_from(f"<{count}H", data, at + 8)
+        at += 8 + 2 * count
+        ends = [at + sum(sizes[: i + 1]) for i in range(count)]
+        inside = [data[end - n : end] for end, n in zip(ends, sizes)]
+        at += sum(sizes)
+        if real and pid not in pids:
+            yield inside, [data[i : i + 188] for i in range(at, at + 188 * size, 188)]
+            pids.add(pid)
+        at += 188 * size
+
+
+def compare_lists(data):
+    """Table_id and length of every section, that its CRC_32 holds where it is looked at, and that no counter is missing."""
+    chosen = list(lists(data))
+    names = ["mpeg_sect.tid", "mpeg_sect.len", "mpeg_sect.crc.status", "_ws.malformed", "mp2t.cc.drop"]
+    said = iter(frames([packet for _, stream in chosen for packet in stream], names))
+    found = read = 0
+    for inside, stream in chosen:
+        told = [next(said) for _ in stream]
+        texts = {name: [text for frame in told for text in frame[name]] for name in names}
+        wanted = [(section[0], section[1] % 16 * 256 + section[2]) for section in inside]
+        seen = list(zip(map(whole, texts["mpeg_sect.tid"]), map(whole, texts["mpeg_sect.len"])))
+        if seen != wanted or texts["_ws.malformed"] or texts["mp2t.cc.drop"] or set(texts["mpeg_sect.crc.status"]) - {"1"}:
+            print(f"tshark: other sections than were written: {texts}\n  wanted: {wanted}")
+            print("\n".join("  packet: " + packet.hex(" ") for packet in stream) + "\ntshark: FAILED")
+            sys.exit(1)
+        found += len(seen)
+        read += len(stream)
+    print(f"tshark: finds the {found} sections of {len(chosen)} lists in {read} packets: no difference")
+
+
 def main():
+    with open(sys.argv[1], "rb") as file:
+        data = file.read()
+    if data[:8] == b"lists   ":
+        compare_lists(data)
+        return
     every = list(sections(sys.argv[1]))
     chosen = [section for section in every if section.whole()]
     with_sheets = any(name in section.fields for section in chosen for name in SHEET)

@@ -4,15 +4,13 @@ use mathlib.Core.List.{List}
 use Prim.Native.Nat.{ℕ, _+_, _-_, _≤_, _<_}
 use native.Mathlib.Nat.{zero-add}
 use native.Mathlib.Omega.{arith}
-use lib.ListN.{length, drop}
-use lib.Dec.{ltb}
+use lib.ListN.{length}
 use borrow.Author.Needs.{needs}
-use Rattle.writer.specs.Layout.{bytesAhead, opened, turnWith, unbegun, turnsFrom}
-use Rattle.writer.specs.Inner.{aheadOf, turnSaid}
+use Rattle.writer.specs.Layout.{bytesAhead, unbegun, turnsFrom}
+use Rattle.writer.specs.Inner.{aheadOf, Leaps}
 use Rattle.writer.specs.declared.layout.Ahead.{Ahead}
-use Rattle.writer.specs.declared.layout.Turn.{Turn}
+use Rattle.writer.specs.declared.layout.Leap.{Leap}
 use Rattle.writer.proofs.TurnLaws.{turns-stop}
-use Rattle.writer.proofs.StepLaws.{said-takes, said-few, ahead-falls, turns-are}
 use Rattle.writer.proofs.layout.count.Statement.{statement}
 use Rattle.writer.proofs.layout.count.Tie as tie
 
@@ -24,22 +22,14 @@ pub record Counted (all : ℕ) (sizes : List ℕ) (a : Ahead) (rest n : ℕ) : T
   pub so-far : n + length (turnsFrom (aheadOf sizes a)) ≡ length (turnsFrom (unbegun sizes))
 
 module _ {all : ℕ} {sizes : List ℕ} {a : Ahead} {rest n : ℕ} (i : Counted all sizes a rest n) where
-  module _ (t : Turn) (says : turnSaid t ≡ turnWith (ltb (a .next) (length sizes)) (a .left) rest) where
-    in-rest : t .bytes ≤ rest
-    in-rest = omega (arith, said-takes sizes a rest (i .ahead) t says .there, i .ahead)
-
-    some-of : 0 < rest → 0 < t .bytes
-    some-of k = said-takes sizes a rest (i .ahead) t says .some (omega (arith, i .ahead))
-
-    -- one more is counted
-    one-more : 0 < rest → (r : Ahead) → aheadOf sizes r ≡ opened (t .bytes) (a .left) (drop (a .next) sizes)
-        → r .next ≤ length sizes → Counted all sizes r (rest - t .bytes) (n + 1)
-    one-more k r next there = record {
-      next-there = there;
-      ahead = ahead-falls sizes a rest (i .ahead) t says r next;
-      few = omega (arith, i .few, some-of k, in-rest);
-      so-far = omega (arith, i .so-far, ap length (turns-are sizes a rest (i .ahead) t says r next k));
-    }
+  -- some more are counted
+  counted-on : (l : Leap) → Leaps sizes a rest l → Counted all sizes (l .ahead) (rest - l .bytes) (n + l .packets)
+  counted-on l x = record {
+    next-there = x .next-there;
+    ahead = omega (arith, x .falls);
+    few = omega (arith, i .few, x .few, x .falls);
+    so-far = omega (arith, i .so-far, x .turns);
+  }
 
   -- nothing is ahead
   all-counted : rest ≤ 0 → n ≡ length (turnsFrom (unbegun sizes))
@@ -59,50 +49,42 @@ loop-holds c = record {
   so-far = zero-add _;
 }
 
-next-turn-requires : tie.Need-next-turn-requires Inv-loop μ-loop
-next-turn-requires c κs = search needs
+some-more-requires : tie.Need-some-more-requires Inv-loop μ-loop
+some-more-requires c κs =
+    let l = c .before .loop in
+    let begin = c .before .before .before in
+    (c .loop-test .taken, l .inv .ahead, l .inv .next-there, begin .pre .1)
 
--- the turn of a packet
-module _ (b : tie.After-next-turn Inv-loop μ-loop) where
+-- some packets more
+module _ (b : tie.After-some-more Inv-loop μ-loop) where
   abbrev Looped : tie.At-loop Inv-loop μ-loop
-  Looped = b .before .before .before
+  Looped = b .before .before
 
-  abbrev T : Turn
-  T = b .next-turn .result
-
-  some-here : 0 < Looped .loop .rest
-  some-here = b .before .before .loop-test .taken
-
-open-next-requires : tie.Need-open-next-requires Inv-loop μ-loop
-open-next-requires c κs =
-    let l = Looped c .loop in
-    let begin = Looped c .before .before in
-    (said-few _ (l .a) (l .rest) (l .inv .ahead) (T c) (c .next-turn .ensures), l .inv .next-there, begin .pre .1)
-
-sub-rest : tie.Need-sub-rest Inv-loop μ-loop
-sub-rest c = let b = c .before .before in in-rest (Looped b .loop .inv) (T b) (b .next-turn .ensures)
+  goes-on : Leaps (Looped .before .before .args .sizes .now) (Looped .loop .a) (Looped .loop .rest) (b .some-more .result)
+  goes-on = b .some-more .ensures
 
 add-n : tie.Need-add-n Inv-loop μ-loop
-add-n c = let b = c .before .before in omega (arith, Looped b .loop .inv .few, some-here b)
+add-n c =
+    let b = c .before in
+    let begin = Looped b .before .before in
+    omega (arith, goes-on b .few, goes-on b .falls, Looped b .loop .inv .few, begin .fits .all .fits)
+
+sub-rest : tie.Need-sub-rest Inv-loop μ-loop
+sub-rest c = omega (arith, goes-on (c .before .before) .falls)
 
 loop-less : tie.Need-loop-less Inv-loop μ-loop
 loop-less c =
-    let b = c .before .before in
-    let some = some-of (Looped b .loop .inv) (T b) (b .next-turn .ensures) (some-here b) in
-    omega (arith, some, some-here b)
+    let x = goes-on (c .before .before .before) in
+    omega (arith, x .falls, x .some, x .few)
 
 loop-again : tie.Need-loop-again Inv-loop μ-loop
 loop-again c =
-    let opens = c .before .open-next in
-    let b = c .before .before in
-    one-more (Looped b .loop .inv) (T b) (b .next-turn .ensures) (some-here b) (opens .result) (opens .ensures .0)
-    (opens .ensures .1)
+    let b = c .before .before .before in
+    counted-on (Looped b .loop .inv) (b .some-more .result) (goes-on b)
 
 returns : tie.Need-returns Inv-loop μ-loop
 returns c = all-counted (c .before .loop .inv) (omega arith)
 
 pub count-spec : {M : Type 1} → statement M
 count-spec =
-    tie.close (tie.spec Inv-loop μ-loop loop-holds next-turn-requires open-next-requires sub-rest add-n loop-less
-    loop-again
-    returns)
+    tie.close (tie.spec Inv-loop μ-loop loop-holds some-more-requires add-n sub-rest loop-less loop-again returns)
