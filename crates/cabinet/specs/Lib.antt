@@ -11,3 +11,4 @@ pub mod Lists
 pub mod Delivery
 pub mod Roll
 pub mod Sheets
+pub mod Packets

@@ -9,6 +9,7 @@ pub mod judge;
 pub mod list_readings;
 mod moments;
 mod numbers;
+pub mod packets;
 pub mod rolls;
 pub mod section_parts;
 pub mod sheets;

@@ -5,5 +5,7 @@ pub mod Judges
 pub mod Rolls
 pub mod Sheets
 pub mod Sections
+pub mod PacketLaws
+pub mod Packets
 pub mod Readings
 pub mod Tied

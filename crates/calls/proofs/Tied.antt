@@ -17,6 +17,7 @@ use Rattle.calls.specs.Collects as collects
 use Rattle.calls.specs.Judges as judges
 use Rattle.calls.specs.Rolls as rolls
 use Rattle.calls.specs.Sheets as sheets
+use Rattle.calls.specs.Packets as packets
 use Rattle.calls.specs.Readings as readings
 use Rattle.cabinet.proofs.collect.lohitunga_fresh as fresh
 use Rattle.cabinet.proofs.collect.lohitunga_collect as collect
@@ -26,6 +27,7 @@ use Rattle.cabinet.proofs.rolls.lohitunga_roll_ask as roll-ask
 use Rattle.cabinet.proofs.rolls.lohitunga_roll_take as roll-take
 use Rattle.cabinet.proofs.sheets.lohitunga_to_sheet as to-sheet
 use Rattle.cabinet.proofs.sheets.lohitunga_to_section as to-section
+use Rattle.cabinet.proofs.packets.lohitunga_packets as to-packets
 use Rattle.cabinet.proofs.section_parts.lohitunga_open as opening
 use Rattle.cabinet.proofs.section_parts.lohitunga_next_section as next-section
 use Rattle.cabinet.proofs.section_parts.lohitunga_next_entry as next-entry
@@ -94,6 +96,15 @@ module _ {M : Type 1} (𝓤 : URA M) (H : Heap 𝓤) (A : Atoms 𝓤) (at-mem : 
       → to-section.clauses 𝓤 H A at-mem run κs a .ensures tt x (atExit to-section.ended κs a ws)
       ≡ fact 𝓤 (sheets.ToSection (a .0 .now) (a .1 .0 .now) x (ws .1 .0))
   to-section-promises κs a x ws = refl
+
+  pub packets-promises : (κs : Lfts (to-packets.ended .signature .lifetimes))
+      (a : Args (to-packets.ended .signature) κs)
+      (x : Res (to-packets.ended .signature) κs) (ws : Lasts to-packets.ended κs a)
+      → to-packets.clauses 𝓤 H A at-mem run κs a .ensures tt x (atExit to-packets.ended κs a ws)
+      ≡ fact 𝓤
+      (packets.Packets (a .0) (a .1 .0) (a .1 .1 .0 .now) (a .1 .1 .1 .0 .now) (a .1 .1 .1 .1 .0 .now) x
+      (ws .1 .1 .1 .1 .0))
+  packets-promises κs a x ws = refl
 
   pub open-promises : (κs : Lfts (opening.ended .signature .lifetimes)) (a : Args (opening.ended .signature) κs)
       (x : Res (opening.ended .signature) κs) (ws : Lasts opening.ended κs a)

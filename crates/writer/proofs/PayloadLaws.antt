@@ -1,7 +1,7 @@
 -- Laws of the bytes of a payload and of a packet.
 use mathlib.Core.Path.{_≡_, refl, sym, ap, _∙_}
 use mathlib.Core.Bool.{Bool, true, false}
-use mathlib.Core.List.{List, [], _∷_, _++_, map, map-append}
+use mathlib.Core.List.{List, [], _∷_, _++_, append-nil, map, map-append}
 use Prim.Native.Nat.{ℕ, zero, suc, _+_, _-_, _≤_}
 use native.Mathlib.Omega.{arith}
 use lib.ListN.{length, take, replicate, length-append, length-map, length-replicate}
@@ -77,3 +77,15 @@ packet-long pid counter t bytes there in-payload =
       payload-long t bytes there in-payload,
       length-append (headerOf pid counter (t .start)) (map valueOf (payloadOf t bytes .cells)),
     )
+
+-- a packet that the section begun fills is a header and its bytes
+pub full-packet : (pid counter left : ℕ) (bytes : List ℕ) → 184 ≤ length bytes
+    → headerOf pid counter false ++ take 184 bytes
+    ≡ packetOf pid counter (payloadOf (record { start = false; left = left; bytes = 184 }) bytes)
+full-packet pid counter left bytes k =
+    let none : fillers (record { start = false; left = left; bytes = 184 }) bytes ≡ 0 =
+    omega (arith, length-take-le 184 bytes k) in
+    ap (λ (l : List ℕ). headerOf pid counter false ++ l)
+    (sym (append-nil (take 184 bytes))
+    ∙ ap (λ (n : ℕ). take 184 bytes ++ replicate n 0xFF) (sym none)
+    ∙ sym (payload-bytes (record { start = false; left = left; bytes = 184 }) bytes))

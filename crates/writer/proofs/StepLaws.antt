@@ -53,7 +53,7 @@ module _ (sizes : List ℕ) (a : Ahead) (rest : ℕ) (e : bytesAhead (aheadOf si
   said-few = omega (arith, said-takes .in-payload)
 
   module _ (r : Ahead) (next : aheadOf sizes r ≡ opened (t .bytes) (a .left) (drop (a .next) sizes)) where
-    next-is : aheadOf sizes r ≡ behind (aheadOf sizes a)
+    pub next-is : aheadOf sizes r ≡ behind (aheadOf sizes a)
     next-is = next ∙ ap (λ (u : Layout.Turn). opened (u .bytes) (a .left) (drop (a .next) sizes)) turn-said
 
     -- as many fewer are ahead

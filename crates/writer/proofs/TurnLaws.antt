@@ -204,21 +204,24 @@ turns-on a k = turns-by a false (ne-eqb (bytesAhead a) 0 (λ e. omega arith))
 
 -- ---- packets that the section begun fills
 
-pub turns-full : (left : ℕ) (waiting : List ℕ) → 184 ≤ left
-    → turnsFrom (record { left = left; waiting = waiting })
-    ≡ record { start = false; left = left; bytes = 184 } ∷ turnsFrom (record { left = left - 184; waiting = waiting })
-turns-full left waiting k =
-    let a : Ahead = record { left = left; waiting = waiting } in
-    let is = full-turn (turnOf a) (turn-is a) k in
-    turns-on a (omega arith)
-    ∙ (λ i. is i ∷ turnsFrom (opened (is i .bytes) left waiting))
-    ∙ ap (λ (z : Ahead). record { start = false; left = left; bytes = 184 } ∷ turnsFrom z) (opened-here 184 left waiting k)
-  where
-    full-turn : (t : Turn) → TurnIs (record { left = left; waiting = waiting }) t → 184 ≤ left
-        → t ≡ record { start = false; left = left; bytes = 184 }
-    full-turn t (flagged f) w = let few = f .few in absurd (omega arith)
-    full-turn t (unflagged u) w =
-        u .is ∙ (λ i. record { start = false; left = left; bytes = least-law 184 left .is-first w i })
+module _ (left : ℕ) (waiting : List ℕ) (k : 184 ≤ left) where
+  abbrev filling : Ahead
+  filling = record { left = left; waiting = waiting }
+
+  full-by : (t : Turn) → TurnIs filling t → t ≡ record { start = false; left = left; bytes = 184 }
+  full-by t (flagged f) = let few = f .few in absurd (omega arith)
+  full-by t (unflagged u) =
+      u .is ∙ (λ i. record { start = false; left = left; bytes = least-law 184 left .is-first k i })
+
+  pub turn-full : turnOf filling ≡ record { start = false; left = left; bytes = 184 }
+  turn-full = full-by (turnOf filling) (turn-is filling)
+
+  pub behind-full : behind filling ≡ record { left = left - 184; waiting = waiting }
+  behind-full = ap (λ (t : Turn). opened (t .bytes) left waiting) turn-full ∙ opened-here 184 left waiting k
+
+  turns-full : turnsFrom filling
+      ≡ record { start = false; left = left; bytes = 184 } ∷ turnsFrom (record { left = left - 184; waiting = waiting })
+  turns-full = turns-on filling (omega arith) ∙ (λ i. turn-full i ∷ turnsFrom (behind-full i))
 
 -- as many as its bytes take
 pub turns-fill : (n left : ℕ) (waiting : List ℕ) → n * 184 ≤ left

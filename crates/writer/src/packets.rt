@@ -4,15 +4,15 @@ use crate::layout::Ahead;
 use crate::layout::Turn;
 use copy::copy;
 ghost use mathlib.Core.Path.{_≡_};
-ghost use mathlib.Core.Bool.{true};
-ghost use mathlib.Core.List.{[], _∷_, flatten};
+ghost use mathlib.Core.Bool.{true, false};
+ghost use mathlib.Core.List.{[], _∷_, _++_, flatten};
 ghost use Prim.Native.Nat.{_+_, _-_, _*_, _≤_, _<_};
 ghost use lib.ListN.{length, take, drop, replicate};
 ghost use Rattle.wire.specs.If.{if_then_else_};
 ghost use Rattle.copy.specs.Laid.{over, laid};
 ghost use Rattle.writer.specs.Layout.{sum, payloadOf, laidOut, unbegun, turnsFrom};
 ghost use Rattle.writer.specs.Packets.{headerOf, packetOf, packetsFrom};
-ghost use Rattle.writer.specs.Inner.{turnSaid, Few, Fits};
+ghost use Rattle.writer.specs.Inner.{turnSaid, Few, Fits, Ready, Puts};
 
 fn flag(start: bool) -> u8
     ensures { λ r. ⌜ r ≡ (if start then 0x40 else 0) ⌝ }
@@ -55,23 +55,6 @@ fn put_pointer(room: &mut [u8], from: usize, start: bool, left: usize) -> usize
     from
 }
 
-// n bytes of sections[place..] to room[from..]. Most packets have 183 or 184: of a number that it knows the compiler makes
-// a copy without a loop.
-fn put_bytes(sections: &[u8], place: usize, n: usize, room: &mut [u8], from: usize)
-    requires { ⌜ (place + n ≤ length (now sections)) × (from + n ≤ length (now room)) ⌝ }
-    ensures { λ _. ⌜ now (room .exit) ≡ laid (now (room .entry)) from (take n (drop place (now (sections .entry)))) ⌝ }
-{
-    if n == 184 {
-        copy(sections, place, 184, room, from);
-        return;
-    }
-    if n == 183 {
-        copy(sections, place, 183, room, from);
-        return;
-    }
-    copy(sections, place, n, room, from);
-}
-
 // The packet room[at..at+188], whose bytes are sections[place..].
 fn put_packet(
     room: &mut [u8],
@@ -88,8 +71,56 @@ fn put_packet(
 {
     put_header(room, at, pid, counter, t.start);
     let from = put_pointer(room, at + 4, t.start, t.left);
-    put_bytes(sections, place, t.bytes, room, from);
+    copy(sections, place, t.bytes, room, from);
     fill(room, from + t.bytes, at + 188);
+}
+
+// The packet room[at..at+188] that the section begun fills.
+fn put_full(room: &mut [u8], at: usize, pid: u16, counter: u8, sections: &[u8], place: usize)
+    requires { ⌜ (at + 188 ≤ length (now room)) × (pid ≤ 8191) × (counter ≤ 15) × (place + 184 ≤ length (now sections)) ⌝ }
+    ensures { λ _. ⌜ now (room .exit)
+        ≡ laid (now (room .entry)) at (headerOf pid counter false ++ take 184 (drop place (now (sections .entry)))) ⌝ }
+{
+    put_header(room, at, pid, counter, false);
+    copy(sections, place, 184, room, at + 4);
+}
+
+// What a packet leaves: the bytes of sections in it, and what is then ahead.
+struct Put {
+    bytes: usize,
+    ahead: Ahead,
+}
+
+// The next packet, room[at..at+188]. Most are filled by the section begun, and want no more than a header and a copy.
+fn put_next(
+    room: &mut [u8],
+    at: usize,
+    pid: u16,
+    counter: u8,
+    sections: &[u8],
+    place: usize,
+    sizes: &[usize],
+    a: Ahead,
+) -> Put
+    requires { ⌜ Ready (now room) at pid counter (now sections) place (now sizes) a ⌝ }
+    ensures { λ r. ⌜ Puts (now (room .entry)) at pid counter (now (sections .entry)) place (now (sizes .entry)) a (now (room .exit)) r ⌝ }
+{
+    if 184 <= a.left {
+        put_full(room, at, pid, counter, sections, place);
+        return Put {
+            bytes: 184,
+            ahead: Ahead {
+                left: a.left - 184,
+                next: a.next,
+            },
+        };
+    }
+    let t = layout::next_turn(a.next < sizes.len(), a.left, sections.len() - place);
+    put_packet(room, at, pid, counter, t, sections, place);
+    Put {
+        bytes: t.bytes,
+        ahead: layout::open_next(t.bytes, a, sizes),
+    }
 }
 
 pub fn put_all(pid: u16, counter: u8, sections: &[u8], sizes: &[usize], room: &mut [u8])
@@ -104,10 +135,9 @@ pub fn put_all(pid: u16, counter: u8, sections: &[u8], sizes: &[usize], room: &m
     let mut at = 0;
     let mut c = counter;
     while place < sections.len() {
-        let t = layout::next_turn(a.next < sizes.len(), a.left, sections.len() - place);
-        put_packet(room, at, pid, c, t, sections, place);
-        a = layout::open_next(t.bytes, a, sizes);
-        place += t.bytes;
+        let p = put_next(room, at, pid, c, sections, place, sizes, a);
+        a = p.ahead;
+        place += p.bytes;
         at += 188;
         c = (c + 1) % 16;
     }

@@ -6,20 +6,18 @@ use native.Mathlib.Nat.{zero-add}
 use native.Mathlib.Omega.{arith}
 use lib.ListN.{length, take, drop, length-append, length-drop}
 use lib.Seq.{take-all, take-append-seam, length-take-le, drop-drop, drop-at, take-add}
-use lib.Dec.{ltb}
 use borrow.Author.Needs.{needs}
 use Rattle.copy.specs.Laid.{over, laid}
 use Rattle.copy.proofs.LaidLaws.{laid-none}
 use Rattle.writer.specs.Layout as Layout
-use Rattle.writer.specs.Layout.{bytesAhead, opened, turnWith, unbegun, turnsFrom, payloadOf, laidOut}
+use Rattle.writer.specs.Layout.{bytesAhead, turnOf, behind, unbegun, turnsFrom, payloadOf, laidOut}
 use Rattle.writer.specs.Packets.{packetOf, packetsFrom}
-use Rattle.writer.specs.Inner.{aheadOf, turnSaid, Fits}
+use Rattle.writer.specs.Inner.{aheadOf, Puts}
 use Rattle.writer.specs.declared.layout.Ahead.{Ahead}
-use Rattle.writer.specs.declared.layout.Turn.{Turn}
-use Rattle.writer.proofs.TurnLaws.{turns-stop, turns-on}
+use Rattle.writer.specs.declared.packets.Put.{Put}
+use Rattle.writer.proofs.TurnLaws.{Takes, turn-takes, behind-ahead, turns-stop, turns-on}
 use Rattle.writer.proofs.PayloadLaws.{packet-long}
 use Rattle.writer.proofs.RoomLaws.{laid-length, laid-then}
-use Rattle.writer.proofs.StepLaws.{said-takes, said-fits, said-few, ahead-falls, turns-are}
 use Rattle.writer.proofs.packets.put_all.Statement.{statement}
 use Rattle.writer.proofs.packets.put_all.Tie as tie
 
@@ -56,66 +54,58 @@ module _ (all packet more : List ℕ) (at : ℕ) (k : at ≤ length all) (e : dr
 
 module _ {pid : ℕ} {all sections sizes room₀ room : List ℕ} {a : Ahead} {place at c : ℕ}
     (i : Placed pid all sections sizes room₀ room a place at c) where
-  rest-is : bytesAhead (aheadOf sizes a) ≡ length sections - place
-  rest-is = omega (arith, i .ahead)
+  module _ (some-left : place < length sections) where
+    turns : turnsFrom (aheadOf sizes a) ≡ turnOf (aheadOf sizes a) ∷ turnsFrom (behind (aheadOf sizes a))
+    turns = turns-on (aheadOf sizes a) (omega (arith, i .ahead))
 
-  module _ (t : Turn) (says : turnSaid t ≡ turnWith (ltb (a .next) (length sizes)) (a .left) (length sections - place))
-      (some-ahead : place < length sections) where
-    there : Fits t place (length sections)
-    there = said-fits sizes a (length sections - place) rest-is t says place (length sections) (omega arith)
-
-    few : t .bytes ≤ 184
-    few = said-few sizes a (length sections - place) rest-is t says
-
-    some : 0 < t .bytes
-    some = said-takes sizes a (length sections - place) rest-is t says .some (omega (arith, rest-is))
-
-    abbrev packet : List ℕ
-    packet = packetOf pid c (payloadOf (turnSaid t) (drop place sections))
-
-    long : length packet ≡ 188
-    long =
-        packet-long pid c (turnSaid t) (drop place sections) (omega (arith, there .there, length-drop place sections))
-        (there .in-payload)
+    takes : Takes (aheadOf sizes a) (turnOf (aheadOf sizes a))
+    takes = turn-takes (aheadOf sizes a)
 
     -- it has place in the room
     fits-in : at + 188 ≤ length room
-    fits-in = omega (arith, i .fits, i .same, ap length (turns-on (aheadOf sizes a) (omega (arith, rest-is))))
+    fits-in = omega (arith, i .fits, i .same, ap length turns)
 
-    module _ (r : Ahead) (next : aheadOf sizes r ≡ opened (t .bytes) (a .left) (drop (a .next) sizes)) where
-      turns : turnsFrom (aheadOf sizes a) ≡ turnSaid t ∷ turnsFrom (aheadOf sizes r)
-      turns = turns-are sizes a (length sections - place) rest-is t says r next (omega arith)
+    abbrev packet : List ℕ
+    packet = packetOf pid c (payloadOf (turnOf (aheadOf sizes a)) (drop place sections))
 
-      parts : drop at all ≡ packet ++ comingFrom pid ((c + 1) % 16) sections sizes (aheadOf sizes r) (place + t .bytes)
+    long : length packet ≡ 188
+    long =
+        packet-long pid c (turnOf (aheadOf sizes a)) (drop place sections)
+        (omega (arith, takes .there, i .ahead, length-drop place sections)) (takes .in-payload)
+
+    module _ (p : Put) (room′ : List ℕ) (x : Puts room at pid c sections place sizes a room′ p) where
+      in-sections : place + p .bytes ≤ length sections
+      in-sections = omega (arith, x .bytes-are, takes .there, i .ahead)
+
+      some-bytes : 0 < p .bytes
+      some-bytes = let some = takes .some (omega (arith, i .ahead)) in omega (arith, x .bytes-are, some)
+
+      parts : drop at all ≡ packet ++ comingFrom pid ((c + 1) % 16) sections sizes (aheadOf sizes (p .ahead)) (place + p .bytes)
       unfolding flatten
       parts =
           sym (i .to-come)
           ∙ ap (λ (ts : List Layout.Turn). flatten (packetsFrom pid c (laidOut ts (drop place sections)))) turns
           ∙ ap (λ (l : List ℕ). packet
-          ++ flatten (packetsFrom pid ((c + 1) % 16) (laidOut (turnsFrom (aheadOf sizes r)) l)))
-          (drop-drop (t .bytes) place sections)
+          ++ flatten (packetsFrom pid ((c + 1) % 16) (laidOut (turnsFrom (behind (aheadOf sizes a))) l)))
+          (drop-drop (turnOf (aheadOf sizes a) .bytes) place sections)
+          ∙ sym (λ j. packet ++ comingFrom pid ((c + 1) % 16) sections sizes (x .next-is j) (place + x .bytes-are j))
 
       -- one more is there
-      one-more : (room′ : List ℕ) → room′ ≡ laid room at packet → r .next ≤ length sizes
-          → Placed pid all sections sizes room₀ room′ r (place + t .bytes) (at + 188) ((c + 1) % 16)
-      one-more room′ e w =
-          let coming : List ℕ = comingFrom pid ((c + 1) % 16) sections sizes (aheadOf sizes r) (place + t .bytes) in
+      one-more : Placed pid all sections sizes room₀ room′ (p .ahead) (place + p .bytes) (at + 188) ((c + 1) % 16)
+      one-more =
+          let coming : List ℕ = comingFrom pid ((c + 1) % 16) sections sizes (aheadOf sizes (p .ahead)) (place + p .bytes) in
           let at-is : at ≡ 0 + length (take at all) = omega (arith, length-take-le at all (i .within)) in
+          let left-ahead = ap bytesAhead (x .next-is) in
+          let turns-left = ap (λ (b : Layout.Ahead). length (turnsFrom b)) (x .next-is) in
           record {
-            next-there = w;
-            ahead =
-                omega (
-                  arith,
-                  ahead-falls sizes a (length sections - place) rest-is t says r next,
-                  there .there,
-                  i .ahead,
-                );
+            next-there = x .next-there;
+            ahead = omega (arith, left-ahead, behind-ahead (aheadOf sizes a), x .bytes-are, i .ahead);
             small = omega arith;
-            same = ap length e ∙ laid-length room at packet (omega (arith, long, fits-in)) ∙ i .same;
+            same = ap length (x .room-is) ∙ laid-length room at packet (omega (arith, long, fits-in)) ∙ i .same;
             within = next-in all packet coming at (i .within) parts long;
-            fits = omega (arith, i .fits, ap length turns);
+            fits = omega (arith, i .fits, ap length turns, turns-left);
             laid-down =
-                e
+                x .room-is
                 ∙ ap (λ (l : List ℕ). laid l at packet) (i .laid-down)
                 ∙ ap (λ (m : ℕ). laid (laid room₀ 0 (take at all)) m packet) at-is
                 ∙ laid-then room₀ 0 (take at all) packet (omega arith)
@@ -157,72 +147,60 @@ loop-holds c =
       to-come = refl;
     }
 
-sub-next-turn : tie.Need-sub-next-turn Inv-loop μ-loop
-sub-next-turn c = search needs
+put-next-requires : tie.Need-put-next-requires Inv-loop μ-loop
+put-next-requires c κs =
+    let looped = c .before .before in
+    let known = looped .before .before .before in
+    let s = known .before in
+    let i = looped .loop .inv in
+    record {
+      fits = fits-in i (c .before .loop-test .taken);
+      pid-small = s .pre .0;
+      counter-small = i .small;
+      some = c .before .loop-test .taken;
+      ahead = i .ahead;
+      next-there = i .next-there;
+      few = s .pre .3;
+    }
 
-next-turn-requires : tie.Need-next-turn-requires Inv-loop μ-loop
-next-turn-requires c κs = search needs
-
--- the turn of a packet
-module _ (b : tie.After-next-turn Inv-loop μ-loop) where
+-- a packet is there
+module _ (b : tie.After-put-next Inv-loop μ-loop) where
   abbrev Looped : tie.At-loop Inv-loop μ-loop
   Looped = b .before .before .before
 
-  abbrev Known : tie.After-shared-slice-known Inv-loop μ-loop
-  Known = Looped .before .before .before
-
   abbrev Begin : tie.Start Inv-loop μ-loop
-  Begin = Known .before
+  Begin = let known = Looped .before .before .before in known .before
 
   some-left : Looped .loop .place < length (Begin .args .sections .now)
   some-left = b .before .before .loop-test .taken
 
-  bytes-there : Fits (b .next-turn .result) (Looped .loop .place) (length (Begin .args .sections .now))
-  bytes-there = there (Looped .loop .inv) (b .next-turn .result) (b .next-turn .ensures) some-left
-
-  room-there : Looped .loop .at + 188 ≤ length (Looped .loop .room)
-  room-there = fits-in (Looped .loop .inv) (b .next-turn .result) (b .next-turn .ensures) some-left
-
-put-packet-requires : tie.Need-put-packet-requires Inv-loop μ-loop
-put-packet-requires c κs =
-    let b = c .before in (room-there b, Begin b .pre .0, Looped b .loop .inv .small, bytes-there b)
-
-abbrev Turned : tie.After-put-packet Inv-loop μ-loop → tie.After-next-turn Inv-loop μ-loop
-Turned p = p .before .before
-
-open-next-requires : tie.Need-open-next-requires Inv-loop μ-loop
-open-next-requires c κs =
-    let b = Turned (c .before .before) in (
-      few (Looped b .loop .inv) (b .next-turn .result) (b .next-turn .ensures) (some-left b),
-      Looped b .loop .inv .next-there,
-      Begin b .pre .3,
-    )
-
-abbrev Packed : tie.After-struct-known2 Inv-loop μ-loop → tie.After-put-packet Inv-loop μ-loop
-Packed c = let opens = c .before in opens .before .before .before
+abbrev Put-next : tie.After-struct-known Inv-loop μ-loop → tie.After-put-next Inv-loop μ-loop
+Put-next c = let known = c .before .before in known .before .before
 
 add-place : tie.Need-add-place Inv-loop μ-loop
-add-place c = let b = Turned (Packed c) in omega (arith, bytes-there b .there, Begin b .good)
+add-place c =
+    let b = Put-next c in
+    let there = in-sections (Looped b .loop .inv) (some-left b) (b .put-next .result) _ (b .put-next .ensures) in
+    omega (arith, there, Begin b .good)
 
 add-at : tie.Need-add-at Inv-loop μ-loop
-add-at c = let b = Turned (Packed c) in omega (arith, room-there b, Looped b .loop .inv .same, Begin b .good)
+add-at c =
+    let b = Put-next c in
+    omega (arith, fits-in (Looped b .loop .inv) (some-left b), Looped b .loop .inv .same, Begin b .good)
 
 add-c : tie.Need-add-c Inv-loop μ-loop
-add-c c = let b = Turned (Packed c) in omega (arith, Looped b .loop .inv .small)
+add-c c = omega (arith, Looped (Put-next c) .loop .inv .small)
 
 loop-less : tie.Need-loop-less Inv-loop μ-loop
 loop-less c =
-    let b = Turned (Packed c) in
-    let more = some (Looped b .loop .inv) (b .next-turn .result) (b .next-turn .ensures) (some-left b) in
+    let b = Put-next c in
+    let more = some-bytes (Looped b .loop .inv) (some-left b) (b .put-next .result) _ (b .put-next .ensures) in
     omega (arith, more, some-left b)
 
 loop-again : tie.Need-loop-again Inv-loop μ-loop
 loop-again c =
-    let opens = c .before .open-next in
-    let packed = Packed c .put-packet in
-    let b = Turned (Packed c) in
-    one-more (Looped b .loop .inv) (b .next-turn .result) (b .next-turn .ensures) (some-left b) (opens .result)
-    (opens .ensures .0) (packed .last .0) (packed .ensures) (opens .ensures .1)
+    let b = Put-next c in
+    one-more (Looped b .loop .inv) (some-left b) (b .put-next .result) _ (b .put-next .ensures)
 
 same-length : tie.Need-same-length Inv-loop μ-loop
 same-length c = c .before .loop .inv .same
@@ -232,6 +210,5 @@ returns c = all-placed (c .before .loop .inv) (omega arith)
 
 pub put-all-spec : {M : Type 1} → statement M
 put-all-spec =
-    tie.close (tie.spec Inv-loop μ-loop loop-holds sub-next-turn next-turn-requires put-packet-requires
-    open-next-requires
-    add-place add-at add-c loop-less loop-again same-length returns)
+    tie.close (tie.spec Inv-loop μ-loop loop-holds put-next-requires add-place add-at add-c loop-less loop-again same-length
+    returns)

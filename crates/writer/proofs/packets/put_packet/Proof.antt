@@ -4,7 +4,7 @@ use native.Mathlib.Omega.{arith}
 use lib.ListN.{drop, length-drop}
 use borrow.Author.Needs.{needs}
 use Rattle.writer.specs.Inner.{turnSaid}
-use Rattle.writer.proofs.RoomLaws.{packet-laid}
+use Rattle.writer.proofs.RoomLaws.{packet-laid, copied-laid}
 use Rattle.writer.proofs.packets.put_packet.Statement.{statement}
 use Rattle.writer.proofs.packets.put_packet.Tie as tie
 
@@ -22,8 +22,8 @@ put-pointer-requires c κs =
     let s = Begin (c .before .before .before) in
     (search needs, λ e. let small = s .pre .3 .pointer-small e in omega (arith, small))
 
-put-bytes-requires : tie.Need-put-bytes-requires
-put-bytes-requires c κs = search needs
+copy-requires : tie.Need-copy-requires
+copy-requires c κs = search needs
 
 add-fill : tie.Need-add-fill
 add-fill c = search needs
@@ -38,10 +38,10 @@ same-length : tie.Need-same-length
 same-length c = search needs
 
 -- what each of the calls wrote, one behind the other
-abbrev Copied : tie.After-fill → tie.After-put-bytes
+abbrev Copied : tie.After-fill → tie.After-copy
 Copied b = let known = b .before .before .before in known .before .before
 
-abbrev Pointed : tie.After-put-bytes → tie.After-put-pointer
+abbrev Pointed : tie.After-copy → tie.After-put-pointer
 Pointed b = let known = b .before .before in known .before .before
 
 abbrev Headed : tie.After-put-pointer → tie.After-put-header
@@ -61,12 +61,15 @@ returns c =
     (omega (arith, fits .there, length-drop (a .place) (a .sections .now))) (fits .in-payload)
     (pointed .put-pointer .result)
     (pointed .put-pointer .ensures .1) (headed .put-header .last .0) (pointed .put-pointer .last .0)
-    (copied .put-bytes .last .1 .1 .1 .0)
+    (copied .copy .last .1 .1 .1 .0)
     (filled .fill .last .0) (headed .put-header .ensures) (pointed .put-pointer .ensures .0)
-    (copied .put-bytes .ensures)
+    (copied .copy .ensures .1
+    ∙ copied-laid (a .sections .now) (a .place) (a .t .bytes) (pointed .put-pointer .last .0)
+    (pointed .put-pointer .result)
+    (fits .there) (search needs))
     (filled .fill .ensures)
 
 pub put-packet-spec : {M : Type 1} → statement M
 put-packet-spec =
-    tie.close (tie.spec put-header-requires add-put-pointer put-pointer-requires put-bytes-requires add-fill add-fill-2
+    tie.close (tie.spec put-header-requires add-put-pointer put-pointer-requires copy-requires add-fill add-fill-2
     fill-requires same-length returns)
