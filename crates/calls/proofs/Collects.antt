@@ -79,7 +79,8 @@ told-after x hold out (takes q) s t = told-counter (q .counter) s
 
 told-on : (x : of.Record) (hold out packet : List ℕ) → NumbersTell x → NumbersTell (collected x hold out packet .rec)
 told-on x hold out packet t =
-    told-after x hold out (ruling (tooSmall (length hold) (length out)) (cannotStand x hold) (x .pid) (beforeOf x) packet)
+    told-after x hold out
+    (ruling (tooSmall (length hold) (length out)) (cannotStand x hold) (x .pid) (beforeOf x) packet)
     (small (tooSmall (length hold) (length out)) (cannotStand x hold) (x .pid) (beforeOf x) packet) t
 
 told-back : (x : of.Record) → NumbersTell x → recordIn (recordSays x) ≡ x
@@ -118,7 +119,8 @@ collect-tells (collector.taken n b) = tells-taken refl refl refl refl
 -- numbers that are written, read and written again in the same place are the same
 written-again : (r : Record) (x : of.Record) → recordAfter r (recordIn (recordAfter r x)) ≡ recordAfter r x
 written-again r x =
-    λ i. numbersWith (x .pid) (last-kept (lastSays (x .last)) i) (markSays (r .mark) (mark-told (r .mark) (x .mark) i)) (r .spare)
+    λ i. numbersWith (x .pid) (last-kept (lastSays (x .last)) i) (markSays (r .mark) (mark-told (r .mark) (x .mark) i))
+    (r .spare)
     (x .in_hand) (λ k. bytesCounted (done k) x) (r .«spare_counter»)
 
 -- so numbers that come to mean the same are the same
@@ -201,7 +203,8 @@ more ks r r₁ hold₁ k o is e b = record {
   record-stands = b .record-stands;
 }
 
-runs : (x : of.Record) (hold : List ℕ) (calls : List Call) (r r′ : Record) (hold′ : List ℕ) → NumbersTell x → r ≡ recordSays x
+runs : (x : of.Record) (hold : List ℕ) (calls : List Call) (r r′ : Record) (hold′ : List ℕ) → NumbersTell x
+    → r ≡ recordSays x
     → Run Promised r hold calls r′ hold′ → Beneath x hold calls r′ hold′
 runs x hold [] r r′ hold′ t is no-call = record {
   under = [];

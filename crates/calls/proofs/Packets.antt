@@ -35,9 +35,12 @@ pub numbered-exactly-if : NumberedExactlyIf
 numbered-exactly-if pid counter bytes sizes room room′ a p =
     let o : writer.Outcome = written pid counter bytes sizes room in
     let writes = writes-exactly-if pid counter bytes sizes room o refl in (
-      refused-as pid counter bytes sizes room room′ a p 101 (λ e. omega arith) (bad-start-exactly-if pid counter bytes sizes room o refl),
-      refused-as pid counter bytes sizes room room′ a p 102 (λ e. omega arith) (bad-section-exactly-if pid counter bytes sizes room o refl),
-      refused-as pid counter bytes sizes room room′ a p 103 (λ e. omega arith) (room-exactly-if pid counter bytes sizes room o refl),
+      refused-as pid counter bytes sizes room room′ a p 101 (λ e. omega arith)
+          (bad-start-exactly-if pid counter bytes sizes room o refl),
+      refused-as pid counter bytes sizes room room′ a p 102 (λ e. omega arith)
+          (bad-section-exactly-if pid counter bytes sizes room o refl),
+      refused-as pid counter bytes sizes room room′ a p 103 (λ e. omega arith)
+          (room-exactly-if pid counter bytes sizes room o refl),
       (
         λ z. writes (a .packets) .0 (said-wrote pid counter bytes sizes room room′ a p z),
         λ x. told-wrote pid counter bytes sizes room room′ a p (a .packets) (writes (a .packets) .1 x) .0,

@@ -37,15 +37,16 @@ use Rattle.calls.specs.Readings.{head, timeBytes, PromisedSatellite, Sat
 -- an answer whose first fields are zeros with a value, and else the refusal's
 module _ {A R : Type 0} (answer : Answered A → R) (first : R → Why) (is : (a : A) → first (answer (value a)) ≡ plain 0)
     (no : (w : Why) → first (answer (refused w)) ≡ w) (b : List ℕ) (fs : List Checked)
-    where
-  answer-tells : (r : Answered A) → RefusalTells b fs r → (x : R) → x ≡ answer r → Tells b fs (first x)
-  answer-tells (value a) tells x e =
-      subst (Tells b fs) (sym (ap first e ∙ is a)) (bare-tells b fs 0 (inl (omega arith)))
-  answer-tells (refused w) tells x e = subst (Tells b fs) (sym (ap first e ∙ no w)) (tells w refl)
+  where
+    answer-tells : (r : Answered A) → RefusalTells b fs r → (x : R) → x ≡ answer r → Tells b fs (first x)
+    answer-tells (value a) tells x e =
+        subst (Tells b fs) (sym (ap first e ∙ is a)) (bare-tells b fs 0 (inl (omega arith)))
+    answer-tells (refused w) tells x e = subst (Tells b fs) (sym (ap first e ∙ no w)) (tells w refl)
 
 pub satellite-told : SatelliteTells PromisedSatellite
 satellite-told s bytes =
-    answer-tells satelliteAnswer (λ (a : SatelliteAnswer). head (a .number) (a .place) (a .digit)) (λ a. refl) (λ w. refl)
+    answer-tells satelliteAnswer (λ (a : SatelliteAnswer). head (a .number) (a .place) (a .digit)) (λ a. refl)
+    (λ w. refl)
     (drop 2 s) satellite.checked (satellite.satellite s) (delivery.satellite-tells s bytes)
 
 pub cable-told : CableTells PromisedCable
@@ -55,8 +56,10 @@ cable-told s bytes =
 
 pub item-told : ItemTells PromisedItem
 item-told s bytes i =
-    answer-tells localTimeOffsetAnswer (λ (a : LocalTimeOffsetAnswer). head (a .number) (a .place) (a .digit)) (λ a. refl)
-    (λ w. refl) (drop 2 s) (offsets.checked (drop 2 s) (13 * i)) (offsets.localTimeOffset s i) (offset-item-tells s bytes i)
+    answer-tells localTimeOffsetAnswer (λ (a : LocalTimeOffsetAnswer). head (a .number) (a .place) (a .digit))
+    (λ a. refl)
+    (λ w. refl) (drop 2 s) (offsets.checked (drop 2 s) (13 * i)) (offsets.localTimeOffset s i)
+    (offset-item-tells s bytes i)
 
 -- ---- times
 
@@ -69,7 +72,8 @@ module _ (b : List ℕ) (fs : List Checked) where
   duration-answer : (r : Answered _) → RefusalTells b fs r → (x : DurationAnswer) → x ≡ durationAnswer r
       → Tells b fs (head (x .number) (x .place) (x .digit))
   duration-answer =
-      answer-tells durationAnswer (λ (a : DurationAnswer). head (a .number) (a .place) (a .digit)) (λ a. refl) (λ w. refl) b fs
+      answer-tells durationAnswer (λ (a : DurationAnswer). head (a .number) (a .place) (a .digit)) (λ a. refl)
+      (λ w. refl) b fs
 
 pub time-told : TimeTells PromisedTime
 time-told day h m s days hb mb sb =
@@ -78,7 +82,8 @@ time-told day h m s days hb mb sb =
 
 pub time-from-told : TimeFromTells PromisedTimeFrom
 time-from-told b bytes =
-    time-answer b (timeFields b 0) (timeFrom b) (judged-tells b (timeFields b 0) (timeFrom b) (clock.time-judged b bytes 0))
+    time-answer b (timeFields b 0) (timeFrom b)
+    (judged-tells b (timeFields b 0) (timeFrom b) (clock.time-judged b bytes 0))
 
 pub duration-told : DurationTells PromisedDuration
 duration-told h m s hb mb sb =

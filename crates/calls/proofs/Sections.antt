@@ -27,10 +27,12 @@ use Rattle.calls.specs.Sections.{HandsOutAll}
 
 all-whole : (secs : List (List ℕ)) → Each WholeSection secs → AllWhole secs
 all-whole [] x = room.AllWhole.none
-all-whole (s ∷ secs) x = room.AllWhole.more (record { header = x .0 .header; size = x .0 .exact }) (all-whole secs (x .1))
+all-whole (s ∷ secs) x =
+    room.AllWhole.more (record { header = x .0 .header; size = x .0 .exact }) (all-whole secs (x .1))
 
 abbrev Hands : Outcome → Type 0
-Hands o = HandsSections (o .out) (part 0 (o .answer .size)) (cut (o .answer .sections) (take (o .answer .size) (o .out)))
+Hands o =
+    HandsSections (o .out) (part 0 (o .answer .size)) (cut (o .answer .sections) (take (o .answer .size) (o .out)))
 
 -- nothing was finished
 none-out : (out : List ℕ) → HandsSections out (part 0 0) []
@@ -74,4 +76,5 @@ unfolding collecting
 hands-out-all r hold out packet o is =
     rw is
     (by-ruling r (recordIn r) hold out
-    (ruling (tooSmall (length hold) (length out)) (cannotStand (recordIn r) hold) (r .pid) (beforeOf (recordIn r)) packet))
+    (ruling (tooSmall (length hold) (length out)) (cannotStand (recordIn r) hold) (r .pid) (beforeOf (recordIn r))
+    packet))

@@ -108,28 +108,33 @@ module _ {M : Type 1} (𝓤 : URA M) (H : Heap 𝓤) (A : Atoms 𝓤) (at-mem : 
 
   pub open-promises : (κs : Lfts (opening.ended .signature .lifetimes)) (a : Args (opening.ended .signature) κs)
       (x : Res (opening.ended .signature) κs) (ws : Lasts opening.ended κs a)
-      → opening.clauses 𝓤 H A at-mem run κs a .ensures tt x (atExit opening.ended κs a ws) ≡ fact 𝓤 (sections.PromisedOpen (a .0 .now) x)
+      → opening.clauses 𝓤 H A at-mem run κs a .ensures tt x (atExit opening.ended κs a ws)
+      ≡ fact 𝓤 (sections.PromisedOpen (a .0 .now) x)
   open-promises κs a x ws = refl
 
-  pub next-section-promises : (κs : Lfts (next-section.ended .signature .lifetimes)) (a : Args (next-section.ended .signature) κs)
+  pub next-section-promises : (κs : Lfts (next-section.ended .signature .lifetimes))
+      (a : Args (next-section.ended .signature) κs)
       (x : Res (next-section.ended .signature) κs) (ws : Lasts next-section.ended κs a)
       → next-section.clauses 𝓤 H A at-mem run κs a .ensures tt x (atExit next-section.ended κs a ws)
-          ≡ fact 𝓤 (sections.PromisedSection (a .0 .now) (a .1 .0) x)
+      ≡ fact 𝓤 (sections.PromisedSection (a .0 .now) (a .1 .0) x)
   next-section-promises κs a x ws = refl
 
-  pub next-entry-promises : (κs : Lfts (next-entry.ended .signature .lifetimes)) (a : Args (next-entry.ended .signature) κs)
+  pub next-entry-promises : (κs : Lfts (next-entry.ended .signature .lifetimes))
+      (a : Args (next-entry.ended .signature) κs)
       (x : Res (next-entry.ended .signature) κs) (ws : Lasts next-entry.ended κs a)
       → next-entry.clauses 𝓤 H A at-mem run κs a .ensures tt x (atExit next-entry.ended κs a ws)
-          ≡ fact 𝓤 (sections.PromisedEntry (a .0 .now) (a .1 .0) x)
+      ≡ fact 𝓤 (sections.PromisedEntry (a .0 .now) (a .1 .0) x)
   next-entry-promises κs a x ws = refl
 
-  pub next-descriptor-promises : (κs : Lfts (next-descriptor.ended .signature .lifetimes)) (a : Args (next-descriptor.ended .signature) κs)
+  pub next-descriptor-promises : (κs : Lfts (next-descriptor.ended .signature .lifetimes))
+      (a : Args (next-descriptor.ended .signature) κs)
       (x : Res (next-descriptor.ended .signature) κs) (ws : Lasts next-descriptor.ended κs a)
       → next-descriptor.clauses 𝓤 H A at-mem run κs a .ensures tt x (atExit next-descriptor.ended κs a ws)
-          ≡ fact 𝓤 (sections.PromisedDescriptor (a .0 .now) (a .1 .0) x)
+      ≡ fact 𝓤 (sections.PromisedDescriptor (a .0 .now) (a .1 .0) x)
   next-descriptor-promises κs a x ws = refl
 
-  pub satellite-promises : (κs : Lfts (satellite.ended .signature .lifetimes)) (a : Args (satellite.ended .signature) κs)
+  pub satellite-promises : (κs : Lfts (satellite.ended .signature .lifetimes))
+      (a : Args (satellite.ended .signature) κs)
       (x : Res (satellite.ended .signature) κs) (ws : Lasts satellite.ended κs a)
       → satellite.clauses 𝓤 H A at-mem run κs a .ensures tt x (atExit satellite.ended κs a ws)
       ≡ fact 𝓤 (readings.PromisedSatellite (a .0 .now) x)
@@ -147,13 +152,15 @@ module _ {M : Type 1} (𝓤 : URA M) (H : Heap 𝓤) (A : Atoms 𝓤) (at-mem : 
       ≡ fact 𝓤 (readings.PromisedItem (a .0 .now) (a .1 .0) x)
   item-promises κs a x ws = refl
 
-  pub time-from-promises : (κs : Lfts (time-from.ended .signature .lifetimes)) (a : Args (time-from.ended .signature) κs)
+  pub time-from-promises : (κs : Lfts (time-from.ended .signature .lifetimes))
+      (a : Args (time-from.ended .signature) κs)
       (x : Res (time-from.ended .signature) κs) (ws : Lasts time-from.ended κs a)
       → time-from.clauses 𝓤 H A at-mem run κs a .ensures tt x (atExit time-from.ended κs a ws)
       ≡ fact 𝓤 (readings.PromisedTimeFrom (a .0 .now) x)
   time-from-promises κs a x ws = refl
 
-  pub duration-from-promises : (κs : Lfts (duration-from.ended .signature .lifetimes)) (a : Args (duration-from.ended .signature) κs)
+  pub duration-from-promises : (κs : Lfts (duration-from.ended .signature .lifetimes))
+      (a : Args (duration-from.ended .signature) κs)
       (x : Res (duration-from.ended .signature) κs) (ws : Lasts duration-from.ended κs a)
       → duration-from.clauses 𝓤 H A at-mem run κs a .ensures tt x (atExit duration-from.ended κs a ws)
       ≡ fact 𝓤 (readings.PromisedDurationFrom (a .0 .now) x)

@@ -102,6 +102,7 @@ no-more pid counter x ws each few k {r} {hold} y =
       none-broken = refl;
       none-skipped = refl;
       goes-on = subst (λ (n : ℕ). Ready pid n r hold) same (ready-of pid counter y (e .0));
+      room-left = y .room;
     }
 
 -- one call, and what comes of the calls behind it
@@ -119,6 +120,7 @@ one-more pid counter {r′ = r′} {hold′ = hold′} {ks = ks} s w d =
       none-broken = d .none-broken ∙ w .none-broken;
       none-skipped = d .none-skipped ∙ w .none-skipped;
       goes-on = subst (λ (n : ℕ). Ready pid n r′ hold′) same (d .goes-on);
+      room-left = d .room-left;
     }
 
 -- the call with the first packet, at today's value of what a whole section comes to

@@ -6,6 +6,7 @@ pub mod PacketLaws
 pub mod ObeysRule
 pub mod OnlyLayout
 pub mod NoneInside
+pub mod AtMost
 pub mod SentLaws
 pub mod RoomPackets
 pub mod CutSections
@@ -13,6 +14,7 @@ pub mod Carries
 pub mod OneTurn
 pub mod Taken
 pub mod FedBack
+pub mod CallAfterCall
 pub mod Writer
 pub mod Fixed
 pub mod AtWork

@@ -1,7 +1,7 @@
 -- "A fresh collector fed these packets delivers exactly these sections and breaks off nothing."
 use mathlib.Core.Path.{_≡_}
 use mathlib.Core.Bool.{true, false}
-use mathlib.Core.List.{List, map}
+use mathlib.Core.List.{List, [], _∷_, _++_, map, flatten}
 use Prim.Native.Nat.{ℕ, _+_, _%_, _^_, _≤_, _<_}
 use lib.ListN.{length}
 use Rattle.wire.specs.Each.{Each}
@@ -32,6 +32,7 @@ pub record Delivers (pid counter : ℕ) (sections : List (List ℕ)) (r : Record
   pub none-broken : bytesCounted (done broken) r′ ≡ bytesCounted (done broken) r
   pub none-skipped : bytesCounted (done skipped) r′ ≡ bytesCounted (done skipped) r
   pub goes-on : Ready pid ((counter + length calls) % 16) r′ hold′
+  pub room-left : 4096 ≤ length hold′
 
 -- of every run over these packets, with a hold and out rooms that are large enough, whatever they hold
 abbrev pub FedBack : Type 0
@@ -71,3 +72,20 @@ abbrev pub RunsOver : Type 0
 RunsOver = (pid counter : ℕ) (sections : List (List ℕ)) (r : Record) (hold : List ℕ) (outs : List (List ℕ))
     → length outs ≡ length (packetsOf pid counter sections)
     → RunOver r hold (packetsOf pid counter sections) outs
+
+-- ---- call after call
+
+-- the packets of several calls, each with the counter behind the last packet of the call before
+abbrev pub packetsOfCalls : ℕ → ℕ → List (List (List ℕ)) → List (List ℕ)
+packetsOfCalls pid counter [] = []
+packetsOfCalls pid counter (sections ∷ others) =
+    packetsOf pid counter sections
+    ++ packetsOfCalls pid ((counter + length (packetsOf pid counter sections)) % 16) others
+
+-- they are one stream, and all their sections come back
+abbrev pub CallAfterCall : Type 0
+CallAfterCall = (pid counter : ℕ) (batches : List (List (List ℕ))) (r : Record) (hold : List ℕ) (calls : List Call) (r′ : Record)
+    (hold′ : List ℕ) → counter ≤ 15 → Each (Each Sendable) batches
+    → Ready pid counter r hold → 4096 ≤ length hold → Each (λ k. 4280 ≤ length (k .out)) calls
+    → Run Promised r hold calls r′ hold′ → map (λ k. k .packet) calls ≡ packetsOfCalls pid counter batches
+    → Delivers pid counter (flatten batches) r calls r′ hold′

@@ -67,11 +67,11 @@ module _ (a : Ahead) where
   pub turn-is : TurnIs a (turnOf a)
   turn-is = turn-by (waits (a .waiting)) (ltb (a .left) 183) refl refl
 
-none-ahead : (sizes : List ℕ) → waits sizes ≡ false → sum sizes ≡ 0
+pub none-ahead : (sizes : List ℕ) → waits sizes ≡ false → sum sizes ≡ 0
 none-ahead [] e = refl
 none-ahead (size ∷ sizes) e = absurd (false≢true (sym e))
 
-waits-or : (t : Bool) (A : Type 0) → (t ≡ true → A) → (t ≡ false → A) → A
+pub waits-or : (t : Bool) (A : Type 0) → (t ≡ true → A) → (t ≡ false → A) → A
 waits-or true A f g = f refl
 waits-or false A f g = g refl
 

@@ -1,11 +1,10 @@
 -- `writer::layout::count` meets its contract: the packets counted and those ahead are all of them.
 use mathlib.Core.Path.{_≡_, sym, ap, _∙_}
 use mathlib.Core.List.{List}
-use Prim.Native.Nat.{ℕ, _+_, _-_, _≤_, _<_}
+use Prim.Native.Nat.{ℕ, _+_, _-_, _≤_}
 use native.Mathlib.Nat.{zero-add}
 use native.Mathlib.Omega.{arith}
 use lib.ListN.{length}
-use borrow.Author.Needs.{needs}
 use Rattle.writer.specs.Layout.{bytesAhead, unbegun, turnsFrom}
 use Rattle.writer.specs.Inner.{aheadOf, Leaps}
 use Rattle.writer.specs.declared.layout.Ahead.{Ahead}
@@ -60,7 +59,8 @@ module _ (b : tie.After-some-more Inv-loop μ-loop) where
   abbrev Looped : tie.At-loop Inv-loop μ-loop
   Looped = b .before .before
 
-  goes-on : Leaps (Looped .before .before .args .sizes .now) (Looped .loop .a) (Looped .loop .rest) (b .some-more .result)
+  goes-on : Leaps (Looped .before .before .args .sizes .now) (Looped .loop .a) (Looped .loop .rest)
+      (b .some-more .result)
   goes-on = b .some-more .ensures
 
 add-n : tie.Need-add-n Inv-loop μ-loop

@@ -80,7 +80,8 @@ module _ {pid : ℕ} {all sections sizes room₀ room : List ℕ} {a : Ahead} {p
       some-bytes : 0 < p .bytes
       some-bytes = let some = takes .some (omega (arith, i .ahead)) in omega (arith, x .bytes-are, some)
 
-      parts : drop at all ≡ packet ++ comingFrom pid ((c + 1) % 16) sections sizes (aheadOf sizes (p .ahead)) (place + p .bytes)
+      parts : drop at all
+          ≡ packet ++ comingFrom pid ((c + 1) % 16) sections sizes (aheadOf sizes (p .ahead)) (place + p .bytes)
       unfolding flatten
       parts =
           sym (i .to-come)
@@ -93,7 +94,8 @@ module _ {pid : ℕ} {all sections sizes room₀ room : List ℕ} {a : Ahead} {p
       -- one more is there
       one-more : Placed pid all sections sizes room₀ room′ (p .ahead) (place + p .bytes) (at + 188) ((c + 1) % 16)
       one-more =
-          let coming : List ℕ = comingFrom pid ((c + 1) % 16) sections sizes (aheadOf sizes (p .ahead)) (place + p .bytes) in
+          let coming : List ℕ =
+          comingFrom pid ((c + 1) % 16) sections sizes (aheadOf sizes (p .ahead)) (place + p .bytes) in
           let at-is : at ≡ 0 + length (take at all) = omega (arith, length-take-le at all (i .within)) in
           let left-ahead = ap bytesAhead (x .next-is) in
           let turns-left = ap (λ (b : Layout.Ahead). length (turnsFrom b)) (x .next-is) in
@@ -210,5 +212,6 @@ returns c = all-placed (c .before .loop .inv) (omega arith)
 
 pub put-all-spec : {M : Type 1} → statement M
 put-all-spec =
-    tie.close (tie.spec Inv-loop μ-loop loop-holds put-next-requires add-place add-at add-c loop-less loop-again same-length
+    tie.close (tie.spec Inv-loop μ-loop loop-holds put-next-requires add-place add-at add-c loop-less loop-again
+    same-length
     returns)

@@ -1,5 +1,5 @@
 -- `writer::packets::put_full` meets its contract.
-use mathlib.Core.Path.{_≡_, ap, _∙_}
+use mathlib.Core.Path.{ap, _∙_}
 use mathlib.Core.List.{List}
 use native.Mathlib.Omega.{arith}
 use lib.ListN.{take, drop}
@@ -36,7 +36,8 @@ returns c =
     ∙ copied-laid (a .sections .now) (a .place) 184 (headed .put-header .last .0) (a .at + 4) (known₂ .before .pre .3)
     (search needs)
     ∙ ap (λ (l : List ℕ). laid l (a .at + 4) bytes) (headed .put-header .ensures)
-    ∙ laid-then (a .room .now) (a .at) (headerOf (a .pid) (a .counter) false) bytes (omega (arith, known₂ .before .pre .0))
+    ∙ laid-then (a .room .now) (a .at) (headerOf (a .pid) (a .counter) false) bytes
+    (omega (arith, known₂ .before .pre .0))
 
 pub put-full-spec : {M : Type 1} → statement M
 put-full-spec = tie.close (tie.spec put-header-requires add-copy copy-requires same-length returns)

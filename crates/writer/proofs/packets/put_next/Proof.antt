@@ -1,15 +1,15 @@
 -- `writer::packets::put_next` meets its contract, whether the section begun fills the packet or not.
-use mathlib.Core.Path.{_≡_, refl, sym, ap, _∙_}
+use mathlib.Core.Path.{_≡_, sym, ap, _∙_}
 use mathlib.Core.Bool.{false}
 use mathlib.Core.List.{List, _++_}
-use Prim.Native.Nat.{ℕ, _+_, _-_, _≤_, _<_}
+use Prim.Native.Nat.{ℕ, _+_, _-_, _≤_}
 use native.Mathlib.Omega.{arith}
 use lib.ListN.{length, take, drop, length-drop}
 use lib.Dec.{ltb}
 use borrow.Author.Needs.{needs}
 use Rattle.copy.specs.Laid.{laid}
 use Rattle.writer.specs.Layout as Layout
-use Rattle.writer.specs.Layout.{bytesAhead, opened, turnWith, turnOf, payloadOf}
+use Rattle.writer.specs.Layout.{bytesAhead, opened, turnWith, payloadOf}
 use Rattle.writer.specs.Packets.{headerOf, packetOf}
 use Rattle.writer.specs.Inner.{aheadOf, turnSaid, Fits, Ready, Puts}
 use Rattle.writer.specs.declared.layout.Ahead.{Ahead}
@@ -40,7 +40,8 @@ module _ {room : List ℕ} {at pid counter : ℕ} {sections : List ℕ} {place :
           room-is =
               e
               ∙ ap (laid room at)
-              (full-packet pid counter (a .left) (drop place sections) (omega (arith, bytes-there, length-drop place sections))
+              (full-packet pid counter (a .left) (drop place sections)
+              (omega (arith, bytes-there, length-drop place sections))
               ∙ ap (λ (t : Layout.Turn). packetOf pid counter (payloadOf t (drop place sections))) (sym full));
           bytes-are = ap (λ (t : Layout.Turn). t .bytes) (sym full);
           next-is = sym (behind-full (a .left) (drop (a .next) sizes) k);
@@ -49,7 +50,8 @@ module _ {room : List ℕ} {at pid counter : ℕ} {sections : List ℕ} {place :
 
   -- ---- or not
 
-  module _ (t : Turn) (says : turnSaid t ≡ turnWith (ltb (a .next) (length sizes)) (a .left) (length sections - place)) where
+  module _ (t : Turn)
+      (says : turnSaid t ≡ turnWith (ltb (a .next) (length sizes)) (a .left) (length sections - place)) where
     fits-there : Fits t place (length sections)
     fits-there =
         let some = x .some in
