@@ -1,4 +1,11 @@
+use mathlib.Core.Path.{_≡_}
+use mathlib.Core.Bool.{true}
+use mathlib.Core.List.{List}
+use Prim.Native.Nat.{ℕ, _+_, _≤_}
 use native.Mathlib.Omega.{arith}
+use lib.ListN.{length, drop}
+use lib.Seq.{paste}
+use Rattle.copy.specs.Copy.{copies, copied}
 use borrow.Author.Needs.{needs}
 use Rattle.copy.proofs.Copies.{none, full, fits, made}
 use Rattle.copy.proofs.copy_by.Statement.{statement}
@@ -27,42 +34,51 @@ returns-2 c =
 size-of-requires : tie.Need-size-of-requires
 size-of-requires c κs = search needs
 
+-- src has the bytes, and dst the room
+module _ (b : tie.Else2) where
+  abbrev First : tie.After-lacks
+  First = b .before .before .before
+
+  abbrev Begin : tie.Start
+  Begin = First .before .before .before
+
+  abbrev Src : List ℕ
+  Src = Begin .args .src .now
+
+  abbrev Dst : List ℕ
+  Dst = Begin .args .dst .now
+
+  both : (Begin .args .from + Begin .args .n ≤ length Src) × (Begin .args .at + Begin .args .n ≤ length Dst)
+  both =
+      fits Src (Begin .args .from) (Begin .args .n) Dst (Begin .args .at) (First .lacks .ensures) (b .before .lacks2 .ensures)
+      (b .before .before .if1 .left) (b .if2 .left)
+
+  copied-so : {d : List ℕ} → d ≡ paste Dst (Begin .args .at) (drop (Begin .args .from) Src) (Begin .args .n)
+      → (true ≡ copies Src (Begin .args .from) (Begin .args .n) Dst (Begin .args .at))
+      × (d ≡ copied Src (Begin .args .from) (Begin .args .n) Dst (Begin .args .at))
+  copied-so e =
+      made Src (Begin .args .from) (Begin .args .n) Dst (Begin .args .at) (First .lacks .ensures)
+      (b .before .lacks2 .ensures) (b .before .before .if1 .left) (b .if2 .left) e
+
 singly-requires : tie.Need-singly-requires
-singly-requires c κs =
-    let else2 = c .before .before .before in
-    let lacks2 = else2 .before .lacks2 in
-    let if1 = else2 .before .before .if1 in
-    let after-lacks = else2 .before .before .before in
-    let a = after-lacks .before .before .before .args in
-    fits (a .src .now) (a .from) (a .n) (a .dst .now) (a .at) (after-lacks .lacks .ensures) (lacks2 .ensures)
-    (if1 .left) (else2 .if2 .left)
+singly-requires c κs = both (c .before .before .before)
 
 same-length : tie.Need-same-length
 same-length c = search needs
 
+abbrev Asked : tie.After-size-of → tie.Else2
+Asked b = b .before
+
 returns-3 : tie.Need-returns-3
 returns-3 c =
     let after-singly = c .before .before in
-    let after-size-of = after-singly .before .before .before in
-    let if2 = after-size-of .before .if2 in
-    let lacks2 = after-size-of .before .before .lacks2 in
-    let else1 = after-size-of .before .before .before in
-    let after-lacks = else1 .before in
-    let a = after-lacks .before .before .before .args in
-    made (a .src .now) (a .from) (a .n) (a .dst .now) (a .at) (after-lacks .lacks .ensures) (lacks2 .ensures)
-    (else1 .if1 .left) (if2 .left) (after-singly .singly .ensures)
+    copied-so (Asked (after-singly .before .before .before)) (after-singly .singly .ensures)
 
 in-blocks-requires : tie.Need-in-blocks-requires
 in-blocks-requires c κs =
-    let size-of = c .before .before .size-of in
-    let else2 = c .before .before .before in
-    let lacks2 = else2 .before .lacks2 in
-    let if1 = else2 .before .before .if1 in
-    let after-lacks = else2 .before .before .before in
-    let a = after-lacks .before .before .before .args in
-    let f = fits (a .src .now) (a .from) (a .n) (a .dst .now) (a .at) (after-lacks .lacks .ensures) (lacks2 .ensures)
-    (if1 .left) (else2 .if2 .left) in
-    (f .0, f .1, omega (arith, c .before .if3 .left, size-of .ensures))
+    let sized = c .before .before in
+    let f = both (Asked sized) in
+    (f .0, f .1, omega (arith, c .before .if3 .left, sized .size-of .ensures))
 
 same-length-2 : tie.Need-same-length-2
 same-length-2 c = search needs
@@ -70,14 +86,7 @@ same-length-2 c = search needs
 returns-4 : tie.Need-returns-4
 returns-4 c =
     let after-in-blocks = c .before .before in
-    let after-size-of = after-in-blocks .before .before .before in
-    let if2 = after-size-of .before .if2 in
-    let lacks2 = after-size-of .before .before .lacks2 in
-    let else1 = after-size-of .before .before .before in
-    let after-lacks = else1 .before in
-    let a = after-lacks .before .before .before .args in
-    made (a .src .now) (a .from) (a .n) (a .dst .now) (a .at) (after-lacks .lacks .ensures) (lacks2 .ensures)
-    (else1 .if1 .left) (if2 .left) (after-in-blocks .in-blocks .ensures)
+    copied-so (Asked (after-in-blocks .before .before .before)) (after-in-blocks .in-blocks .ensures)
 
 pub copy-by-spec : {M : Type 1} → statement M
 copy-by-spec =

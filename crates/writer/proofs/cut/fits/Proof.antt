@@ -71,12 +71,20 @@ returns c =
 can-go-requires : tie.Need-can-go-requires Inv-loop μ-loop
 can-go-requires c κs = omega arith
 
+-- the section is asked
+module _ (b : tie.After-can-go Inv-loop μ-loop) where
+  abbrev Looped : tie.At-loop Inv-loop μ-loop
+  Looped = let tested = b .before in tested .before .before .before
+
+  abbrev Asked : Bool
+  Asked = b .can-go .result
+
 returns-2 : tie.Need-returns-2 Inv-loop μ-loop
 returns-2 c =
-    let tested = c .before .before in
-    let l = tested .before .before .before .loop in
-    stays _ _ (l .at) (l .i) (omega arith) (l .inv .2) (tested .if1 .left) (c .before .can-go .result)
-    (c .before .can-go .ensures) (not-true (c .before .can-go .result) (c .if2 .taken))
+    let b = c .before in
+    let l = Looped b .loop in
+    stays _ _ (l .at) (l .i) (omega arith) (l .inv .2) (b .before .if1 .left) (Asked b) (b .can-go .ensures)
+    (not-true (Asked b) (c .if2 .taken))
 
 add-at : tie.Need-add-at Inv-loop μ-loop
 add-at c = search needs
@@ -89,12 +97,12 @@ loop-less c = search needs
 
 loop-again : tie.Need-loop-again Inv-loop μ-loop
 loop-again c =
-    let tested = c .before .before in
-    let l = tested .before .before .before .loop in (
+    let b = c .before in
+    let l = Looped b .loop in (
       omega arith,
       omega arith,
-      goes _ _ (l .at) (l .i) (omega arith) (l .inv .2) (tested .if1 .left) (c .before .can-go .result)
-          (c .before .can-go .ensures) (not-false (c .before .can-go .result) (c .if2 .left)),
+      goes _ _ (l .at) (l .i) (omega arith) (l .inv .2) (b .before .if1 .left) (Asked b) (b .can-go .ensures)
+          (not-false (Asked b) (c .if2 .left)),
     )
 
 -- no section is left

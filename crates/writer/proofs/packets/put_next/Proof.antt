@@ -108,7 +108,7 @@ put-packet-requires c κs =
 
 open-next-requires : tie.Need-open-next-requires
 open-next-requires c κs =
-    let t = c .before .before .before .before in
+    let t = (let put = c .before .before in put .before .before) in
     let x = Begin (Tested t) .pre in
     (few-bytes x (t .next-turn .result) (t .next-turn .ensures), x .next-there, x .few)
 
