@@ -693,6 +693,7 @@ lohitunga_roll_answer lohitunga_roll_take(lohitunga_roll *roll, const uint8_t *s
  *   lohitunga_next_entry             632
  *   lohitunga_roll_ask               304
  *   lohitunga_collect                256
+ *   lohitunga_packets                184
  *   lohitunga_read_local_time_offset 184
  *   lohitunga_read_satellite         184
  *   lohitunga_read_terrestrial       184
