@@ -36,7 +36,8 @@ fn begins_one(waits: bool, left: usize) -> bool
     false
 }
 
-// all: the bytes ahead.
+// "The start flag stands only where a section begins"; without it the packet has no byte of a section that waits. all: the
+// bytes ahead.
 pub fn next_turn(waits: bool, left: usize, all: usize) -> Turn
     ensures { λ r. ⌜ turnSaid r ≡ turnWith waits left all ⌝ }
 {
@@ -54,7 +55,7 @@ pub fn next_turn(waits: bool, left: usize, all: usize) -> Turn
     }
 }
 
-// What is ahead once n bytes more are laid.
+// What is ahead once n bytes more are laid: sections are begun as long as those begun have fewer.
 pub fn open_next(n: usize, a: Ahead, sizes: &[usize]) -> Ahead
     requires { ⌜ (n ≤ 184) × (a .next ≤ length (now sizes)) × Few (now sizes) ⌝ }
     ensures { λ r. ⌜ (aheadOf (now (sizes .entry)) r ≡ opened n (a .left) (drop (a .next) (now (sizes .entry))))

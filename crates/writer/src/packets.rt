@@ -14,12 +14,14 @@ ghost use Rattle.writer.specs.Layout.{sum, payloadOf, laidOut, unbegun, 
 ghost use Rattle.writer.specs.Packets.{headerOf, packetOf, packetsFrom};
 ghost use Rattle.writer.specs.Inner.{turnSaid, Few, Fits, Ready, Puts};
 
+// The start flag in byte 1.
 fn flag(start: bool) -> u8
     ensures { λ r. ⌜ r ≡ (if start then 0x40 else 0) ⌝ }
 {
     if start { 0x40 } else { 0 }
 }
 
+// The four bytes before the payload: no error, no priority, not scrambled, adaptation control 01.
 fn put_header(room: &mut [u8], at: usize, pid: u16, counter: u8, start: bool)
     requires { ⌜ (at + 4 ≤ length (now room)) × (pid ≤ 8191) × (counter ≤ 15) ⌝ }
     ensures { λ _. ⌜ now (room .exit) ≡ laid (now (room .entry)) at (headerOf pid counter start) ⌝ }
@@ -123,6 +125,7 @@ fn put_next(
     }
 }
 
+// Packet after packet, until every byte of the sections is out.
 pub fn put_all(pid: u16, counter: u8, sections: &[u8], sizes: &[usize], room: &mut [u8])
     requires { ⌜ (pid ≤ 8191) × (counter ≤ 15) × (length (now sections) ≡ sum (now sizes)) × Few (now sizes)
         × (length (turnsFrom (unbegun (now sizes))) * 188 ≤ length (now room)) ⌝ }
