@@ -27,24 +27,20 @@ module _ (b : tie.Else3) where
   abbrev Begin : tie.Start
   Begin = let known = b .before .before .before in let first = known .before .before .before in first .before
 
-  abbrev Second : tie.Else2
-  Second = b .before .before
-
   pid-small : Begin .args .pid ≤ 8191
-  pid-small = Second .before .if1 .left
+  pid-small = b .before .before .before .if1 .left
 
   counter-small : Begin .args .counter ≤ 15
-  counter-small = Second .if2 .left
+  counter-small = b .before .before .if2 .left
 
   fits : fit (Begin .args .sizes .now) (Begin .args .sections .now) ≡ true
   fits = let asked = b .before .fits2 in sym (asked .ensures) ∙ not-false (asked .result) (b .if3 .left)
 
 returns-3 : tie.Need-returns-3
 returns-3 c =
-    let asked = c .before .fits2 in
-    let second = c .before .before in
-    bad-section _ _ _ _ _ (second .before .if1 .left) (second .if2 .left)
-    (sym (asked .ensures) ∙ not-true (asked .result) (c .if3 .taken))
+    let asked = c .before in
+    bad-section _ _ _ _ _ (asked .before .before .if1 .left) (asked .before .if2 .left)
+    (sym (asked .fits2 .ensures) ∙ not-true (asked .fits2 .result) (c .if3 .taken))
 
 count-requires : tie.Need-count-requires
 count-requires c κs = (fit-sum _ _ (fits c), fit-few _ _ (fits c))
