@@ -1,12 +1,13 @@
 -- Laws of bytes laid into a room: none, one part more behind them, and bytes put back, which leave the room as it was.
 use mathlib.Core.Path.{_≡_, sym, ap, _∙_}
 use mathlib.Core.List.{List, [], _++_, append-assoc}
-use Prim.Native.Nat.{ℕ, _+_, _≤_}
+use Prim.Native.Nat.{ℕ, _+_, _-_, _≤_}
 use native.Mathlib.Nat.{add-zero}
 use native.Mathlib.Omega.{arith}
 use lib.ListN.{length, take, drop, length-append, length-drop, take-append-drop}
-use lib.Seq.{paste, take-all, take-at, drop-at, drop-drop, length-take-le}
+use lib.Seq.{paste, take-all, take-at, drop-at, drop-append-add, drop-drop, length-take-le}
 use Rattle.copy.specs.Laid.{laid}
+use Rattle.copy.proofs.Moves.{before}
 
 pub laid-none : (room : List ℕ) (at : ℕ) → room ≡ laid room at []
 laid-none room at = sym (take-append-drop at room) ∙ ap (λ (m : ℕ). take at room ++ drop m room) (sym (add-zero at))
@@ -39,6 +40,27 @@ pub pasted : (room : List ℕ) (at : ℕ) (s : List ℕ) (n : ℕ) → n ≤ len
 pasted room at s n k =
     append-assoc (take at room) (take n s) (drop (at + n) room)
     ∙ ap (λ (m : ℕ). take at room ++ (take n s ++ drop (at + m) room)) (sym (length-take-le n s k))
+
+-- one part more, whole
+pub laid-behind : (room : List ℕ) (at : ℕ) (bytes s : List ℕ) → at ≤ length room
+    → laid (laid room at bytes) (at + length bytes) s ≡ laid room at (bytes ++ s)
+laid-behind room at bytes s k =
+    let all : take (length s) s ≡ s = take-all (length s) s (omega arith) in
+    ap (laid (laid room at bytes) (at + length bytes)) (sym all)
+    ∙ sym (pasted (laid room at bytes) (at + length bytes) s (length s) (omega arith))
+    ∙ laid-more room at bytes s (length s) k (omega arith)
+    ∙ ap (λ (l : List ℕ). laid room at (bytes ++ l)) all
+
+pub laid-long : (room : List ℕ) (at : ℕ) (bytes : List ℕ) → at + length bytes ≤ length room
+    → length (laid room at bytes) ≡ length room
+laid-long room at bytes k =
+    omega (
+      arith,
+      length-append (take at room) (bytes ++ drop (at + length bytes) room),
+      length-append bytes (drop (at + length bytes) room),
+      length-take-le at room (omega arith),
+      length-drop (at + length bytes) room,
+    )
 
 -- bytes laid over others, and those put back
 pub put-back : (room : List ℕ) (at n : ℕ) (bytes : List ℕ) → at + n ≤ length room → length bytes ≡ n
@@ -73,3 +95,26 @@ copied-back room at n s k w =
     ∙ pasted (laid room at (take n s)) at saved n (omega (arith, saved-long))
     ∙ ap (laid (laid room at (take n s)) at) (take-all n saved (omega (arith, saved-long)))
     ∙ put-back room at n (take n s) k (length-take-le n s w)
+
+-- and so with a copy of more than was laid over: w bytes from index at on, among which those k are
+pub window-back : (room : List ℕ) (at w n k : ℕ) (s : List ℕ) → at ≤ n → n + k ≤ at + w → at + w ≤ length room → k ≤ length s
+    → paste (paste room n s k) at (take w (drop at room)) w ≡ room
+window-back room at w n k s first last fits long =
+    let saved : List ℕ = take w (drop at room) in
+    let front : List ℕ = take n room ++ take k s in
+    let front-long : length front ≡ n + k =
+    length-append (take n room) (take k s) ∙ (λ i. length-take-le n room (omega arith) i + length-take-le k s long i) in
+    let more : ℕ = at + w - (n + k) in
+    let there : at + w ≡ length front + more = omega (arith, front-long) in
+    let again : n + k + more ≡ at + w = omega (arith, there, front-long) in
+    let behind : drop (at + w) (paste room n s k) ≡ drop (at + w) room =
+    ap (λ (m : ℕ). drop m (front ++ drop (n + k) room)) there
+    ∙ drop-append-add front (drop (n + k) room) more
+    ∙ drop-drop more (n + k) room
+    ∙ ap (λ (m : ℕ). drop m room) again in
+    let saved-long : length saved ≡ w = length-take-le w (drop at room) (omega (arith, length-drop at room)) in
+    (λ i. (before room s n k at (omega arith) long first i ++ take-all w saved (omega (arith, saved-long)) i) ++ behind i)
+    ∙ append-assoc (take at room) saved (drop (at + w) room)
+    ∙ ap (λ (l : List ℕ). take at room ++ (saved ++ l)) (sym (drop-drop w at room))
+    ∙ ap (λ (l : List ℕ). take at room ++ l) (take-append-drop w (drop at room))
+    ∙ take-append-drop at room

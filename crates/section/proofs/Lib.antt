@@ -5,6 +5,7 @@ pub mod InEntries
 pub mod InSection
 pub mod HeaderTests
 pub mod Exactly
+pub mod Numbers
 pub mod Demands
 pub mod Handed
 pub mod Tied
