@@ -22,16 +22,18 @@ use Rattle.collector.proofs.ByteRuns.{total-prefix}
 module _ (r : Record) (hold : List ℕ) (e : cannotStand r hold ≡ false) where
   parts : (ltb 8191 (r .pid) ≡ false)
       × ((counterPast (r .last) ≡ false)
-      × ((ltb 4095 (r .in_hand) ≡ false) × (heldUnfit (r .in_hand) (isNone (r .last)) hold ≡ false)))
+      × ((ltb 10 (r .rejection) ≡ false)
+      × ((ltb 4095 (r .in_hand) ≡ false) × (heldUnfit (r .in_hand) (isNone (r .last)) hold ≡ false))))
   unfolding cannotStand
   parts =
       let a = or-false (ltb 8191 (r .pid)) _ e in
       let b = or-false (counterPast (r .last)) _ (a .1) in
-      let d = or-false (ltb 4095 (r .in_hand)) _ (b .1) in
-      (a .0, (b .0, (d .0, d .1)))
+      let n = or-false (ltb 10 (r .rejection)) _ (b .1) in
+      let d = or-false (ltb 4095 (r .in_hand)) _ (n .1) in
+      (a .0, (b .0, (n .0, (d .0, d .1))))
 
   pub few-held : r .in_hand < 4096
-  few-held = omega (arith, ltb-false 4095 (r .in_hand) (parts .1 .1 .0))
+  few-held = omega (arith, ltb-false 4095 (r .in_hand) (parts .1 .1 .1 .0))
 
   pub held-stands : r .in_hand ≤ length hold → Unfinished (take (r .in_hand) hold)
   held-stands w = record {
@@ -40,7 +42,7 @@ module _ (r : Record) (hold : List ℕ) (e : cannotStand r hold ≡ false) where
         let long : length (take n hold) ≡ n = length-take-le n hold w in
         let same : totalOf hold ≡ totalOf (take n hold) =
         ap totalOf (sym (take-append-drop n hold)) ∙ total-prefix (take n hold) (drop n hold) m in
-        let a = or-false (ltb 0 n && isNone (r .last)) _ (parts .1 .1 .1) in
+        let a = or-false (ltb 0 n && isNone (r .last)) _ (parts .1 .1 .1 .1) in
         let b = or-false (ltb 0 n && eqb (getD hold 0 0) 255) _ (a .1) in
         let three : 3 ≤ n = omega (arith, long) in
         let d = or-false (leb (totalOf hold) n) _ (and-false (leb 3 n) _ (b .1) (le-leb _ _ three)) in

@@ -8,6 +8,7 @@ pub mod StretchInHand
 pub mod Simulation
 pub mod Invariants
 pub mod StoryLaws
+pub mod Parted
 pub mod PayloadLaws
 pub mod Outcomes
 pub mod Fits

@@ -1,4 +1,4 @@
--- The turns of the loop over the sections of a stretch, for whatever a whole section comes to that is no kind of a rest.
+-- The turns of the loop over the sections of a stretch: the story for whatever a whole section comes to, and the answer by the judge.
 use mathlib.Core.Path.{_≡_, refl, sym, ap, _∙_, subst}
 use mathlib.Core.Bool.{Bool, true, false}
 use mathlib.Core.List.{List, [], _∷_, _++_, append-assoc, append-nil, flatten}
@@ -6,26 +6,35 @@ use mathlib.Core.Logic.{⊎-elim}
 use Prim.Native.Nat.{ℕ, zero, suc, _+_, _-_, _≤_, _<_}
 use native.Mathlib.Omega.{arith}
 use lib.ListN.{length, take, drop, getD, length-append, length-drop, drop-of-length-le}
-use lib.Seq.{paste, length-paste, drop-drop, drop-cons, length-take-le, take-all}
+use lib.Seq.{paste, drop-drop, drop-cons, length-take-le, take-all}
 use lib.Dec.{eqb}
 use borrow.Author.Tests.{eq-eqb, ne-eqb}
 use Rattle.wire.specs.If.{if_then_else_}
 use Rattle.wire.specs.Sections.{totalOf}
 use Rattle.copy.specs.Laid.{over, laid}
-use Rattle.copy.proofs.LaidLaws.{laid-none, laid-more}
-use Rattle.collector.specs.Rules.{Kind, broken, filler, Fate, done, in-hand, Mark, Story, sameKind, sameFate, bytesOf, handOf, marked, given, settled, brokenOff, finished, holding, begin, inside, outside, Rest, filling, kindOf, Next, begun, plain, stretch, sectionsIn, delivers}
-use Rattle.collector.specs.Inner.Stretch.{LookSays, gainWith, Ends}
+use Rattle.copy.proofs.LaidLaws.{laid-none, laid-long}
+use Rattle.collector.specs.Rules.{Kind, accepted, rejected, broken, filler, Fate, done, in-hand, Mark, Story, sameKind, sameFate, bytesOf, handOf, marked, given, settled, brokenOff, finished, holding, begin, inside, outside, Rest, filling, kindOf, Next, begun, plain, stretch, sectionsIn}
+use Rattle.collector.specs.Judged.{kindSaid, byJudge, lastNumber}
+use Rattle.verdict.specs.Verdict.{Said, isAccepted, numberOf}
+use Rattle.verdict.specs.Verdict as Verdict
+use Rattle.section.specs.Reading.{judged}
+use Rattle.section.proofs.Numbers.{refused-number}
+use Rattle.collector.specs.Inner.Settling.{handedOut}
+use Rattle.collector.specs.Inner.Stretch.{LookSays, gainOf, gainWith, nothing, withSection, Ends}
 use Rattle.collector.specs.declared.stretch.Look.{Look}
 use Rattle.collector.specs.declared.stretch.Look.the-variants.{Going, Over, Whole}
 use Rattle.collector.specs.declared.stretch.Gain.{Gain}
-use Rattle.collector.proofs.Counters.{gain-with, rest-apart}
+use Rattle.collector.proofs.Counters.{gain-with}
 use Rattle.collector.proofs.MarkLaws.{flatten-snoc, bytesOf-append, bytesOf-more, bytesOf-marked, settled-append, settled-marked}
+use Rattle.collector.proofs.Parted.{said-apart, parted, parted-said, handed-more, last-more}
 use Rattle.collector.proofs.ByteRuns.{place, all, all-none, hand-all, pass, grow-short, grow-going, law-over, law-whole}
 
 -- an answer says of a story what it says of an equal one
-pub ends-as : {s : Story ℕ} {hold out : List ℕ} {at : ℕ} {hold′ out′ : List ℕ} {r : Gain} (s′ : Story ℕ) → s ≡ s′
-    → Ends s′ hold out at hold′ out′ r → Ends s hold out at hold′ out′ r
-ends-as {s} {hold} {out} {at} {hold′} {out′} {r} s′ e h = subst (λ (x : Story ℕ). Ends x hold out at hold′ out′ r) (sym e) h
+pub ends-as : {s : Story ℕ} {was : ℕ} {hold out : List ℕ} {at : ℕ} {hold′ out′ : List ℕ} {r : Gain} (s′ : Story ℕ)
+    → s ≡ s′
+    → Ends s′ was hold out at hold′ out′ r → Ends s was hold out at hold′ out′ r
+ends-as {s} {was} {hold} {out} {at} {hold′} {out′} {r} s′ e h =
+    subst (λ (x : Story ℕ). Ends x was hold out at hold′ out′ r) (sym e) h
 
 -- ---- the story of a stretch of which only whole sections have come, with bytes of one more fate after them
 
@@ -33,13 +42,20 @@ ends-as {s} {hold} {out} {at} {hold′} {out′} {r} s′ e h = subst (λ (x : S
 abbrev pub Apart : (List ℕ → Kind) → Type 0
 Apart comes = (rest : Rest) (s : List ℕ) → sameKind (kindOf rest) (comes s) ≡ false
 
-pub delivers-apart : Apart delivers
-delivers-apart rest s = rest-apart rest .1
+pub byJudge-apart : Apart byJudge
+byJudge-apart rest s = said-apart rest (judged s)
 
--- the answer where m bytes have the fate g, behind so many sections with so many bytes
-abbrev pub answerOf : Fate → ℕ → ℕ → ℕ → Gain
-answerOf g sections bytes m =
-    gainWith (if sameFate in-hand g then m else 0) sections bytes (λ rest. if sameFate (done (kindOf rest)) g then m else 0)
+-- the answer for whole sections secs and m bytes of the fate g behind them
+abbrev pub answerOf : Fate → ℕ → List (List ℕ) → ℕ → Gain
+answerOf g was secs m =
+    gainWith (if sameFate in-hand g then m else 0) (length (parted accepted secs))
+    (length (flatten (parted accepted secs)))
+    (length (flatten (parted rejected secs))) (lastNumber was (parted rejected secs))
+    (λ rest. if sameFate (done (kindOf rest)) g then m else 0)
+
+-- and for nothing behind them
+abbrev pub gained : ℕ → List (List ℕ) → Gain
+gained was secs = answerOf (done filler) was secs 0
 
 if-long : (t : Bool) (l : List ℕ) (m : ℕ) → m ≡ length l → (if t then m else 0) ≡ length (if t then l else [])
 if-long true l m e = e
@@ -54,7 +70,8 @@ module _ (comes : List ℕ → Kind) where
   abbrev pub made : List (List ℕ) → Story ℕ
   made secs = record { marks = wholes secs; sections = secs }
 
-  wholes-more : (secs : List (List ℕ)) (s : List ℕ) → wholes (secs ++ (s ∷ [])) ≡ wholes secs ++ marked (done (comes s)) s
+  wholes-more : (secs : List (List ℕ)) (s : List ℕ)
+      → wholes (secs ++ (s ∷ [])) ≡ wholes secs ++ marked (done (comes s)) s
   wholes-more [] s = append-nil (marked (done (comes s)) s)
   wholes-more (t ∷ secs) s =
       ap (λ (l : List (Mark ℕ)). marked (done (comes t)) t ++ l) (wholes-more secs s)
@@ -78,7 +95,8 @@ module _ (comes : List ℕ → Kind) where
       ∙ wholes-none f e secs
 
   -- one section more
-  pub made-more : (secs : List (List ℕ)) (s : List ℕ) → finished (comes s) (all in-hand s (made secs)) ≡ made (secs ++ (s ∷ []))
+  pub made-more : (secs : List (List ℕ)) (s : List ℕ)
+      → finished (comes s) (all in-hand s (made secs)) ≡ made (secs ++ (s ∷ []))
   made-more secs s = λ i. record { marks = marks-is i; sections = secs ++ (hand-is i ∷ []) }
     where
       hand-is : handOf (all in-hand s (made secs)) ≡ s
@@ -87,41 +105,29 @@ module _ (comes : List ℕ → Kind) where
       marks-is : settled (done (comes s)) (wholes secs ++ marked in-hand s) ≡ wholes (secs ++ (s ∷ []))
       marks-is =
           settled-append (done (comes s)) (wholes secs) (marked in-hand s)
-          ∙ ap (λ (l : List (Mark ℕ)). l ++ settled (done (comes s)) (marked in-hand s)) (wholes-settled (done (comes s)) secs)
+          ∙ ap (λ (l : List (Mark ℕ)). l ++ settled (done (comes s)) (marked in-hand s))
+          (wholes-settled (done (comes s)) secs)
           ∙ ap (λ (l : List (Mark ℕ)). wholes secs ++ l) (settled-marked (done (comes s)) in-hand s)
           ∙ sym (wholes-more secs s)
 
   -- a section that declares too much, behind whole ones
-  pub made-broken : (secs : List (List ℕ)) (l : List ℕ) → brokenOff (all in-hand l (made secs)) ≡ all (done broken) l (made secs)
+  pub made-broken : (secs : List (List ℕ)) (l : List ℕ)
+      → brokenOff (all in-hand l (made secs)) ≡ all (done broken) l (made secs)
   made-broken secs l = λ i. record { marks = marks-is i; sections = secs }
     where
       marks-is : settled (done broken) (wholes secs ++ marked in-hand l) ≡ wholes secs ++ marked (done broken) l
       marks-is =
           settled-append (done broken) (wholes secs) (marked in-hand l)
-          ∙ ap (λ (x : List (Mark ℕ)). x ++ settled (done broken) (marked in-hand l)) (wholes-settled (done broken) secs)
+          ∙ ap (λ (x : List (Mark ℕ)). x ++ settled (done broken) (marked in-hand l))
+          (wholes-settled (done broken) secs)
           ∙ ap (λ (x : List (Mark ℕ)). wholes secs ++ x) (settled-marked (done broken) in-hand l)
 
   -- the bytes of a fate that no whole section comes to are all behind the sections
   pub rest-of : (f g : Fate) (secs : List (List ℕ)) (l : List ℕ) → ((s : List ℕ) → sameFate f (done (comes s)) ≡ false)
       → bytesOf f (all g l (made secs) .marks) ≡ (if sameFate f g then l else [])
   rest-of f g secs l e =
-      bytesOf-more f g (wholes secs) l ∙ ap (λ (x : List ℕ). x ++ (if sameFate f g then l else [])) (wholes-none f e secs)
-
-  pub ends-made : Apart comes → (g : Fate) (secs : List (List ℕ)) (l hold out : List ℕ) (at : ℕ) (hold′ out′ : List ℕ) (n b m : ℕ)
-      → n ≡ length secs → b ≡ length (flatten secs) → m ≡ length l
-      → hold′ ≡ over (if sameFate in-hand g then l else []) hold → out′ ≡ laid out at (flatten secs)
-      → Ends (all g l (made secs)) hold out at hold′ out′ (answerOf g n b m)
-  ends-made apart g secs l hold out at hold′ out′ n b m number bytes long eh eo = record {
-    in-hand = if-long (sameFate in-hand g) l m long ∙ ap length (sym (rest-of in-hand g secs l (λ s. refl)));
-    sections = number;
-    bytes = bytes;
-    counts = λ rest.
-        gain-with (if sameFate in-hand g then m else 0) n b (λ r. if sameFate (done (kindOf r)) g then m else 0) rest
-        ∙ if-long (sameFate (done (kindOf rest)) g) l m long
-        ∙ ap length (sym (rest-of (done (kindOf rest)) g secs l (apart rest)));
-    the-hold = eh ∙ ap (λ (x : List ℕ). over x hold) (sym (rest-of in-hand g secs l (λ s. refl)));
-    the-out = eo;
-  }
+      bytesOf-more f g (wholes secs) l
+      ∙ ap (λ (x : List ℕ). x ++ (if sameFate f g then l else [])) (wholes-none f e secs)
 
   -- ---- what one turn comes to, under the byte-at-a-time rules
 
@@ -156,14 +162,16 @@ module _ (comes : List ℕ → Kind) where
           sections = secs;
         })
 
-    turn-first : (b : ℕ) (l : List ℕ) → eqb b 255 ≡ false → from (b ∷ l) ≡ stretch comes plain begin (place inside (first b)) l .story
+    turn-first : (b : ℕ) (l : List ℕ) → eqb b 255 ≡ false
+        → from (b ∷ l) ≡ stretch comes plain begin (place inside (first b)) l .story
     turn-first b l e = ap (λ (t : Bool). stretch comes plain begin (begun t b (made secs)) l .story) e
 
     -- the run from the section's first byte on, as its header sees it
     here : (b : ℕ) (l : List ℕ) → handOf (first b) ++ l ≡ b ∷ l
     here b l = ap (λ (h : List ℕ). h ++ l) (first-hand b)
 
-    pub turn-going : (b : ℕ) (l : List ℕ) → eqb b 255 ≡ false → LookSays (b ∷ l) Going → from (b ∷ l) ≡ all in-hand (b ∷ l) (made secs)
+    pub turn-going : (b : ℕ) (l : List ℕ) → eqb b 255 ≡ false → LookSays (b ∷ l) Going
+        → from (b ∷ l) ≡ all in-hand (b ∷ l) (made secs)
     turn-going b l e says =
         let v = sym (here b l) in
         turn-first b l e
@@ -174,7 +182,8 @@ module _ (comes : List ℕ → Kind) where
         says)
         ∙ first-more b l
 
-    turn-over : (b : ℕ) (l : List ℕ) → eqb b 255 ≡ false → LookSays (b ∷ l) Over → from (b ∷ l) ≡ all (done broken) (b ∷ l) (made secs)
+    turn-over : (b : ℕ) (l : List ℕ) → eqb b 255 ≡ false → LookSays (b ∷ l) Over
+        → from (b ∷ l) ≡ all (done broken) (b ∷ l) (made secs)
     turn-over b l e says =
         let v = sym (here b l) in
         turn-first b l e
@@ -195,40 +204,140 @@ module _ (comes : List ℕ → Kind) where
         ∙ ap (λ (n : Next ℕ). n .story)
         (law-whole comes begin (first b) l k (omega (arith, one, same)) (omega (arith, says .1))
         (omega (arith, same, says .2)) (omega (arith, says .3)))
-        ∙ ap (λ (h : List ℕ). sectionsIn comes plain (finished (comes h) (all in-hand (take k l) (first b))) (drop k l)) (here b (take k l))
-        ∙ ap (λ (s : Story ℕ). sectionsIn comes plain (finished (comes (b ∷ take k l)) s) (drop k l)) (first-more b (take k l))
+        ∙ ap (λ (h : List ℕ). sectionsIn comes plain (finished (comes h) (all in-hand (take k l) (first b))) (drop k l))
+        (here b (take k l))
+        ∙ ap (λ (s : Story ℕ). sectionsIn comes plain (finished (comes (b ∷ take k l)) s) (drop k l))
+        (first-more b (take k l))
         ∙ ap (λ (s : Story ℕ). sectionsIn comes plain s (drop k l)) (made-more secs (b ∷ take k l))
 
--- ---- where the loop stands: the sections of which secs came, up to index i of the packet, are in out up to index o
+-- ---- the answer
 
-pub record Reached (comes : List ℕ → Kind) (packet : List ℕ) (from : ℕ) (hold₀ out₀ : List ℕ) (at : ℕ) (hold out : List ℕ)
-    (i o n : ℕ) : Type 0 where
-  pub apart : Apart comes
+pub ends-made : (g : Fate) (was : ℕ) (secs : List (List ℕ)) (l hold out : List ℕ) (at : ℕ) (hold′ out′ : List ℕ) (m : ℕ)
+    → m ≡ length l → hold′ ≡ over (if sameFate in-hand g then l else []) hold
+    → out′ ≡ laid out at (flatten (parted accepted secs))
+    → Ends (all g l (made byJudge secs)) was hold out at hold′ out′ (answerOf g was secs m)
+ends-made g was secs l hold out at hold′ out′ m long eh eo =
+    let hand = sym (rest-of byJudge in-hand g secs l (λ s. refl)) in
+    record {
+      in-hand = if-long (sameFate in-hand g) l m long ∙ ap length hand;
+      sections = refl;
+      bytes = refl;
+      rejected = refl;
+      rejection = refl;
+      counts = λ rest.
+          gain-with _ _ _ _ _ (λ r. if sameFate (done (kindOf r)) g then m else 0) rest
+          ∙ if-long (sameFate (done (kindOf rest)) g) l m long
+          ∙ ap length (sym (rest-of byJudge (done (kindOf rest)) g secs l (byJudge-apart rest)));
+      the-hold = eh ∙ ap (λ (x : List ℕ). over x hold) hand;
+      the-out = eo;
+    }
+
+-- one section more
+module _ (was : ℕ) (secs : List (List ℕ)) (s : List ℕ) where
+  abbrev acc : List (List ℕ)
+  acc = parted accepted secs
+
+  abbrev rej : List (List ℕ)
+  rej = parted rejected secs
+
+  -- the answer by the sections of each kind
+  abbrev answerBy : List (List ℕ) → List (List ℕ) → Gain
+  answerBy a r = gainWith 0 (length a) (length (flatten a)) (length (flatten r)) (lastNumber was r) (λ rest. 0)
+
+  now-parted : (v : Said) → judged s ≡ v
+      → answerBy (acc ++ (if sameKind accepted (kindSaid v) then s ∷ [] else []))
+      (rej ++ (if sameKind rejected (kindSaid v) then s ∷ [] else []))
+      ≡ gained was (secs ++ (s ∷ []))
+  now-parted v e = λ i. answerBy (sym (parted-said accepted secs s v e) i) (sym (parted-said rejected secs s v e) i)
+
+  longer : (l : List (List ℕ)) → length (flatten l) + length s ≡ length (flatten (l ++ (s ∷ [])))
+  longer l = sym (ap length (flatten-snoc l s) ∙ length-append (flatten l) s)
+
+  -- an answer with one section more, by whether its number is 0
+  abbrev moreBy : Bool → ℕ → Gain
+  moreBy t number =
+      if t then gainWith 0 (length acc + 1) (length (flatten acc) + length s) (length (flatten rej))
+      (lastNumber was rej) (λ rest. 0)
+      else gainWith 0 (length acc) (length (flatten acc)) (length (flatten rej) + length s) number (λ rest. 0)
+
+  by-said : (v : Said) → judged s ≡ v
+      → withSection (gained was secs) (length s) (numberOf v) ≡ gained was (secs ++ (s ∷ []))
+  by-said Verdict.accepted e =
+      (λ i. gainWith 0 (sym (length-append acc (s ∷ [])) i) (longer acc i) (length (flatten (sym (append-nil rej) i)))
+      (lastNumber was (sym (append-nil rej) i)) (λ rest. 0))
+      ∙ now-parted Verdict.accepted e
+  by-said (Verdict.refused k q) e =
+      let number : k ≡ lastNumber was (rej ++ (s ∷ [])) = sym (last-more was rej (s ∷ []) ∙ ap numberOf e) in
+      ap (λ (t : Bool). moreBy t k) (ne-eqb k 0 (λ z. omega (arith, refused-number s k q e)))
+      ∙ (λ i. gainWith 0 (length (sym (append-nil acc) i)) (length (flatten (sym (append-nil acc) i))) (longer rej i)
+      (number i)
+      (λ rest. 0))
+      ∙ now-parted (Verdict.refused k q) e
+
+  pub gained-more : withSection (gained was secs) (length s) (numberOf (judged s)) ≡ gained was (secs ++ (s ∷ []))
+  gained-more = by-said (judged s) refl
+
+-- it adds its bytes to those of one kind
+module _ (g : Gain) (t number : ℕ) where
+  abbrev addedTo : Bool → Gain
+  addedTo b =
+      if b then gainWith (g .in_hand) (g .sections + 1) (g .bytes + t) (g .rejected) (g .rejection) (gainOf g)
+      else gainWith (g .in_hand) (g .sections) (g .bytes) (g .rejected + t) number (gainOf g)
+
+  abbrev OneMore : Gain → Type 0
+  OneMore z = (z .sections ≤ z .bytes) × (z .bytes + z .rejected ≡ g .bytes + g .rejected + t)
+      × (z .bytes ≤ g .bytes + t)
+
+  one-more : 1 ≤ t → g .sections ≤ g .bytes → (b : Bool) → OneMore (addedTo b)
+  one-more some few true = (omega arith, omega arith, omega arith)
+  one-more some few false = (omega arith, omega arith, omega arith)
+
+handed-long : (out : List ℕ) (at : ℕ) (s : List ℕ) → at + length s ≤ length out
+    → length (handedOut out at s) ≡ length out
+handed-long out at s w = by (isAccepted (judged s))
+  where
+    by : (b : Bool) → length (if b then laid out at s else out) ≡ length out
+    by true = laid-long out at s w
+    by false = refl
+
+-- ---- where the loop stands: the sections secs came, up to index i of the packet; the accepted ones are in out
+
+pub record Reached (packet : List ℕ) (from was : ℕ) (hold₀ out₀ : List ℕ) (at : ℕ) (hold out : List ℕ) (i : ℕ)
+    (g : Gain)
+    : Type 0 where
   pub secs : List (List ℕ)
   pub inside-packet : i ≤ length packet
-  pub few : n ≤ i
-  pub number : n ≡ length secs
-  pub place : o ≡ at + length (flatten secs)
-  pub fits : o + (length packet - i) ≤ length out₀
+  pub gain : g ≡ gained was secs
+  pub few : g .sections ≤ g .bytes
+  pub passed : from + (g .bytes + g .rejected) ≤ i
+  pub fits : at + g .bytes + (length packet - i) ≤ length out₀
   pub long : length out ≡ length out₀
   pub the-hold : hold ≡ hold₀
   pub hold-long : length hold ≡ length hold₀
-  pub the-out : out ≡ laid out₀ at (flatten secs)
-  pub so-far : sectionsIn comes plain (holding []) (drop from packet) ≡ sectionsIn comes plain (made comes secs) (drop i packet)
+  pub the-out : out ≡ laid out₀ at (flatten (parted accepted secs))
+  pub so-far : sectionsIn byJudge plain (holding []) (drop from packet)
+      ≡ sectionsIn byJudge plain (made byJudge secs) (drop i packet)
 
 -- at the start no section has come
-pub none-yet : (comes : List ℕ → Kind) → Apart comes → (packet : List ℕ) (from : ℕ) (hold out : List ℕ) (at : ℕ) → from ≤ length packet
-    → at + (length packet - from) ≤ length out → Reached comes packet from hold out at hold out from at 0
+pub nothing-gained : (was : ℕ) → nothing was ≡ gained was []
 unfolding flatten
-none-yet comes apart packet from hold out at k w =
+nothing-gained was = refl
+
+pub none-yet : (packet : List ℕ) (from was : ℕ) (hold out : List ℕ) (at : ℕ) (g : Gain) → g ≡ nothing was
+    → from ≤ length packet
+    → at + (length packet - from) ≤ length out → Reached packet from was hold out at hold out from g
+unfolding flatten
+none-yet packet from was hold out at g e k w =
+    let no-bytes : g .bytes ≡ 0 = ap (λ (z : Gain). z .bytes) e in
+    let no-sections : g .sections ≡ 0 = ap (λ (z : Gain). z .sections) e in
+    let none-rejected : g .rejected ≡ 0 = ap (λ (z : Gain). z .rejected) e in
     record {
-      apart = apart;
       secs = [];
       inside-packet = k;
-      few = omega arith;
-      number = refl;
-      place = omega arith;
-      fits = w;
+      gain = e;
+      few = omega (arith, no-bytes, no-sections);
+      passed = omega (arith, no-bytes, none-rejected);
+      fits = omega (arith, no-bytes);
       long = refl;
       the-hold = refl;
       hold-long = refl;
@@ -243,26 +352,63 @@ look-here p i r r′ k says e =
     (take-all (length p - i) (drop i p) (omega (arith, length-drop i p)) ∙ drop-cons p i 0 k)
     (subst (LookSays (take (length p - i) (drop i p))) e says)
 
-module _ {comes : List ℕ → Kind} {p : List ℕ} {from : ℕ} {hold₀ out₀ : List ℕ} {at : ℕ} {hold out : List ℕ} {i o n : ℕ}
-    (x : Reached comes p from hold₀ out₀ at hold out i o n) where
+-- an answer with the bytes of a stretch's end
+abbrev pub withHand : Gain → ℕ → Gain
+withHand g m = gainWith m (g .sections) (g .bytes) (g .rejected) (g .rejection) (gainOf g)
+
+abbrev pub withBreaking : Gain → ℕ → Gain
+withBreaking g m = record {
+  in_hand = g .in_hand;
+  sections = g .sections;
+  bytes = g .bytes;
+  rejected = g .rejected;
+  rejection = g .rejection;
+  breaking = m;
+  filling = g .filling;
+  skipping = g .skipping;
+}
+
+abbrev pub withFilling : Gain → ℕ → Gain
+withFilling g m = record {
+  in_hand = g .in_hand;
+  sections = g .sections;
+  bytes = g .bytes;
+  rejected = g .rejected;
+  rejection = g .rejection;
+  breaking = g .breaking;
+  filling = m;
+  skipping = g .skipping;
+}
+
+abbrev pub withSkipping : Gain → ℕ → Gain
+withSkipping g m = record {
+  in_hand = g .in_hand;
+  sections = g .sections;
+  bytes = g .bytes;
+  rejected = g .rejected;
+  rejection = g .rejection;
+  breaking = g .breaking;
+  filling = g .filling;
+  skipping = m;
+}
+
+module _ {p : List ℕ} {from was : ℕ} {hold₀ out₀ : List ℕ} {at : ℕ} {hold out : List ℕ} {i : ℕ} {g : Gain}
+    (x : Reached p from was hold₀ out₀ at hold out i g) where
   abbrev End : List ℕ → Gain → Type 0
-  End hold′ r = Ends (sectionsIn comes plain (holding []) (drop from p)) hold₀ out₀ at hold′ out r
+  End hold′ r = Ends (sectionsIn byJudge plain (holding []) (drop from p)) was hold₀ out₀ at hold′ out r
 
-  -- the answer where so many bytes behind the sections have the fate g
-  abbrev answer : Fate → ℕ → Gain
-  answer g m = answerOf g n (o - at) m
+  -- an answer that is made of what the sections came to
+  of-gained : (f : Gain → Gain) (hold′ : List ℕ) → End hold′ (f (gained was (x .secs))) → End hold′ (f g)
+  of-gained f hold′ e = subst (λ (z : Gain). End hold′ (f z)) (sym (x .gain)) e
 
-  bytes-long : o - at ≡ length (flatten (x .secs))
-  bytes-long = omega (arith, x .place)
-
-  pub end-all : length p ≤ i → End hold (answer (done filler) 0)
+  pub end-all : length p ≤ i → End hold g
   end-all k =
-      ends-as (all (done filler) [] (made comes (x .secs)))
+      of-gained (λ z. z) hold
+      (ends-as (all (done filler) [] (made byJudge (x .secs)))
       (x .so-far
-      ∙ ap (sectionsIn comes plain (made comes (x .secs))) (drop-of-length-le p k)
-      ∙ sym (all-none (done filler) (made comes (x .secs))))
-      (ends-made comes (x .apart) (done filler) (x .secs) [] hold₀ out₀ at hold out n (o - at) 0 (x .number) bytes-long refl
-      (x .the-hold) (x .the-out))
+      ∙ ap (sectionsIn byJudge plain (made byJudge (x .secs))) (drop-of-length-le p k)
+      ∙ sym (all-none (done filler) (made byJudge (x .secs))))
+      (ends-made (done filler) was (x .secs) [] hold₀ out₀ at hold out 0 refl (x .the-hold) (x .the-out)))
 
   module _ (k : i < length p) where
     abbrev b : ℕ
@@ -274,41 +420,47 @@ module _ {comes : List ℕ → Kind} {p : List ℕ} {from : ℕ} {hold₀ out₀
     cons : drop i p ≡ b ∷ rest
     cons = drop-cons p i 0 k
 
-    now-here : sectionsIn comes plain (holding []) (drop from p) ≡ sectionsIn comes plain (made comes (x .secs)) (b ∷ rest)
-    now-here = x .so-far ∙ ap (sectionsIn comes plain (made comes (x .secs))) cons
+    now-here : sectionsIn byJudge plain (holding []) (drop from p)
+        ≡ sectionsIn byJudge plain (made byJudge (x .secs)) (b ∷ rest)
+    now-here = x .so-far ∙ ap (sectionsIn byJudge plain (made byJudge (x .secs))) cons
 
     long-here : length p - i ≡ length (b ∷ rest)
     long-here = omega (arith, length-drop (suc i) p)
 
-    pub end-filler : b ≡ 255 → End hold (answer (done filler) (length p - i))
+    pub end-filler : b ≡ 255 → End hold (withFilling g (length p - i))
     end-filler e =
-        ends-as (all (done filler) (b ∷ rest) (made comes (x .secs))) (now-here ∙ turn-filler comes (x .secs) b rest (eq-eqb b 255 e))
-        (ends-made comes (x .apart) (done filler) (x .secs) (b ∷ rest) hold₀ out₀ at hold out n (o - at) (length p - i) (x .number)
-        bytes-long long-here (x .the-hold) (x .the-out))
+        of-gained (λ z. withFilling z (length p - i)) hold
+        (ends-as (all (done filler) (b ∷ rest) (made byJudge (x .secs)))
+        (now-here ∙ turn-filler byJudge (x .secs) b rest (eq-eqb b 255 e))
+        (ends-made (done filler) was (x .secs) (b ∷ rest) hold₀ out₀ at hold out (length p - i) long-here (x .the-hold)
+        (x .the-out)))
 
     module _ (other : b ≡ 255 → ⊥) (r : Look) (says : LookSays (take (length p - i) (drop i p)) r) where
-      pub end-over : r ≡ Over → End hold (answer (done broken) (length p - i))
+      pub end-over : r ≡ Over → End hold (withBreaking g (length p - i))
       end-over e =
-          ends-as (all (done broken) (b ∷ rest) (made comes (x .secs)))
-          (now-here ∙ turn-over comes (x .secs) b rest (ne-eqb b 255 other) (look-here p i r Over k says e))
-          (ends-made comes (x .apart) (done broken) (x .secs) (b ∷ rest) hold₀ out₀ at hold out n (o - at) (length p - i) (x .number)
-          bytes-long long-here (x .the-hold) (x .the-out))
+          of-gained (λ z. withBreaking z (length p - i)) hold
+          (ends-as (all (done broken) (b ∷ rest) (made byJudge (x .secs)))
+          (now-here ∙ turn-over byJudge (x .secs) b rest (ne-eqb b 255 other) (look-here p i r Over k says e))
+          (ends-made (done broken) was (x .secs) (b ∷ rest) hold₀ out₀ at hold out (length p - i) long-here
+          (x .the-hold)
+          (x .the-out)))
 
       pub end-going : r ≡ Going → (hold′ : List ℕ) → hold′ ≡ paste hold 0 (drop i p) (length p - i)
-          → End hold′ (answer in-hand (length p - i))
+          → End hold′ (withHand g (length p - i))
       end-going e hold′ w =
           let l : List ℕ = b ∷ rest in
-          let taken : take (length p - i) (drop i p) ≡ l = take-all (length p - i) (drop i p) (omega (arith, length-drop i p)) ∙ cons in
+          let taken : take (length p - i) (drop i p) ≡ l =
+          take-all (length p - i) (drop i p) (omega (arith, length-drop i p)) ∙ cons in
           let from-zero : 0 + (length p - i) ≡ length l = omega (arith, long-here) in
           let kept : hold′ ≡ over l hold₀ =
           w
           ∙ ap (λ (z : List ℕ). z ++ drop (0 + (length p - i)) hold) taken
           ∙ ap (λ (m : ℕ). l ++ drop m hold) from-zero
           ∙ ap (λ (z : List ℕ). over l z) (x .the-hold) in
-          ends-as (all in-hand l (made comes (x .secs)))
-          (now-here ∙ turn-going comes (x .secs) b rest (ne-eqb b 255 other) (look-here p i r Going k says e))
-          (ends-made comes (x .apart) in-hand (x .secs) l hold₀ out₀ at hold′ out n (o - at) (length p - i) (x .number) bytes-long
-          long-here kept (x .the-out))
+          of-gained (λ z. withHand z (length p - i)) hold′
+          (ends-as (all in-hand l (made byJudge (x .secs)))
+          (now-here ∙ turn-going byJudge (x .secs) b rest (ne-eqb b 255 other) (look-here p i r Going k says e))
+          (ends-made in-hand was (x .secs) l hold₀ out₀ at hold′ out (length p - i) long-here kept (x .the-out)))
 
       module _ (t : ℕ) (e : r ≡ Whole t) where
         said : LookSays (b ∷ rest) (Whole t)
@@ -317,40 +469,41 @@ module _ {comes : List ℕ → Kind} {p : List ℕ} {from : ℕ} {hold₀ out₀
         pub whole-in : (3 ≤ t) × (t ≤ length p - i)
         whole-in = (omega (arith, said .1), omega (arith, said .3, long-here))
 
-        more : flatten (x .secs ++ (take t (drop i p) ∷ [])) ≡ flatten (x .secs) ++ take t (drop i p)
-        more = flatten-snoc (x .secs) (take t (drop i p))
+        abbrev s : List ℕ
+        s = take t (drop i p)
 
-        pub again : at ≤ length out₀ → (out′ : List ℕ) → out′ ≡ paste out o (drop i p) t
-            → Reached comes p from hold₀ out₀ at hold out′ (i + t) (o + t) (n + 1)
-        again fits out′ w = record {
-          apart = x .apart;
-          secs = x .secs ++ (take t (drop i p) ∷ []);
-          inside-packet = omega (arith, whole-in, x .inside-packet);
-          few = omega (arith, whole-in, x .few);
-          number = omega (arith, x .number, length-append (x .secs) (take t (drop i p) ∷ []));
-          place =
-              omega (
-                arith,
-                x .place,
-                ap length more,
-                length-append (flatten (x .secs)) (take t (drop i p)),
-                length-take-le t (drop i p) (omega (arith, whole-in, length-drop i p)),
-              );
-          fits = omega (arith, whole-in, x .fits);
-          long =
-              ap length w
-              ∙ length-paste out o (drop i p) t (omega (arith, whole-in, x .fits, x .long))
-              (omega (arith, whole-in, length-drop i p))
-              ∙ x .long;
-          the-hold = x .the-hold;
-          hold-long = x .hold-long;
-          the-out =
-              w
-              ∙ ap (λ (z : List ℕ). paste z o (drop i p) t) (x .the-out)
-              ∙ ap (λ (m : ℕ). paste (laid out₀ at (flatten (x .secs))) m (drop i p) t) (x .place)
-              ∙ laid-more out₀ at (flatten (x .secs)) (drop i p) t fits (omega (arith, whole-in, length-drop i p))
-              ∙ ap (laid out₀ at) (sym more);
-          so-far = now-here ∙ turn-whole comes (x .secs) b rest t (ne-eqb b 255 other) said
-              ∙ ap (λ (z : List ℕ). sectionsIn comes plain (made comes (x .secs ++ (take t z ∷ []))) (drop t z)) (sym cons)
-              ∙ ap (sectionsIn comes plain (made comes (x .secs ++ (take t (drop i p) ∷ [])))) (drop-drop t i p);
-        }
+        s-long : t ≡ length s
+        s-long = sym (length-take-le t (drop i p) (omega (arith, whole-in, length-drop i p)))
+
+        pub again : at ≤ length out₀ → (number : ℕ) → number ≡ numberOf (judged s) → (g′ : Gain)
+            → g′ ≡ withSection g t number
+            → (out′ : List ℕ) → out′ ≡ handedOut out (at + g .bytes) s
+            → Reached p from was hold₀ out₀ at hold out′ (i + t) g′
+        again fits number ne g′ ge out′ oe =
+            let one : OneMore g t number g′ =
+            subst (OneMore g t number) (sym ge)
+            (one-more g t number (omega (arith, whole-in)) (x .few) (eqb number 0)) in
+            let place : at + g .bytes ≡ at + length (flatten (parted accepted (x .secs))) =
+            ap (λ (z : Gain). at + z .bytes) (x .gain) in
+            record {
+              secs = x .secs ++ (s ∷ []);
+              inside-packet = omega (arith, whole-in, x .inside-packet);
+              gain =
+                  ge
+                  ∙ (λ j. withSection (x .gain j) (s-long j) (ne j))
+                  ∙ gained-more was (x .secs) s;
+              few = one .0;
+              passed = omega (arith, one, x .passed);
+              fits = omega (arith, one, whole-in, x .fits);
+              long =
+                  ap length oe
+                  ∙ handed-long out (at + g .bytes) s (omega (arith, whole-in, s-long, x .fits, x .long))
+                  ∙ x .long;
+              the-hold = x .the-hold;
+              hold-long = x .hold-long;
+              the-out = oe ∙ (λ j. handedOut (x .the-out j) (place j) s) ∙ handed-more out₀ at (x .secs) s fits;
+              so-far = now-here ∙ turn-whole byJudge (x .secs) b rest t (ne-eqb b 255 other) said
+                  ∙ ap (λ (z : List ℕ). sectionsIn byJudge plain (made byJudge (x .secs ++ (take t z ∷ []))) (drop t z))
+                  (sym cons)
+                  ∙ ap (sectionsIn byJudge plain (made byJudge (x .secs ++ (s ∷ [])))) (drop-drop t i p);
+            }

@@ -14,7 +14,7 @@ use Rattle.wire.proofs.IfLaws.{if-case}
 use Rattle.wire.specs.Each.{Each}
 use Rattle.wire.specs.Sections.{totalOf, WholeSection}
 use Rattle.wire.proofs.EachLaws.{each-append}
-use Rattle.collector.specs.Rules.{Kind, pointer, delivered, broken, Fate, in-hand, done, kinds, sumIn, sumOf, Mark, Story, kindNumber, sameKind, sameFate, outOfHand, bytesOf, countOf, handOf, marked, given, settled, brokenOff, finished, holding, Rest, filling, skipping, breaking, kindOf, going, whole, too-long, sizeOf, plain, sectionsOf, delivers}
+use Rattle.collector.specs.Rules.{Kind, pointer, broken, Fate, in-hand, done, kinds, sumIn, sumOf, Mark, Story, kindNumber, sameKind, sameFate, outOfHand, bytesOf, countOf, handOf, marked, given, settled, brokenOff, finished, holding, breaking, going, whole, too-long, sizeOf, plain, sectionsOf}
 use Rattle.collector.proofs.Counters.{times, once}
 use Rattle.collector.proofs.MarkLaws.{flatten-snoc, if-cons, bytesOf-more, bytesOf-marked, settled-append, settled-marked, settled-bytes, settled-other, settled-alike, settled-hand, settled-twice}
 use Rattle.collector.proofs.Invariants.{ByEnd, Keeps}
@@ -234,7 +234,7 @@ module _ {A : Type 0} where
 
 -- ---- no more sections than bytes of them
 
-few : {A : Type 0} (value : A → ℕ) (secs : List (List A)) → Each (λ (x : List A). WholeSection (map value x)) secs
+pub few : {A : Type 0} (value : A → ℕ) (secs : List (List A)) → Each (λ (x : List A). WholeSection (map value x)) secs
     → length secs ≤ length (flatten secs)
 unfolding flatten
 few value [] x = omega arith
@@ -320,23 +320,3 @@ sections-each comes value k P [] x = tt
 sections-each comes value k P (s ∷ secs) x =
     if-case (Each P) (sameKind k (comes (map value s)))
     (λ e. (x .0, sections-each comes value k P secs (x .1))) (λ e. sections-each comes value k P secs (x .1))
-
--- ---- where each whole section is delivered
-
-pub delivered-by-end : ByEnd delivered
-delivered-by-end = record { not-pointer = refl; not-rest = not-rest }
-  where
-    not-rest : (m : Rest) → sameKind delivered (kindOf m) ≡ false
-    not-rest filling = refl
-    not-rest skipping = refl
-    not-rest breaking = refl
-
-pub all-delivered : {A : Type 0} (value : A → ℕ) (secs : List (List A)) → sectionsOf delivers value delivered secs ≡ secs
-all-delivered value [] = refl
-all-delivered {A} value (s ∷ secs) = ap (λ (l : List (List A)). s ∷ l) (all-delivered value secs)
-
-pub delivered-in : {A : Type 0} (value : A → ℕ) (l : List A) (s : Story A) → Kept delivers value l s
-    → countOf (done delivered) (s .marks) ≡ length (flatten (s .sections))
-delivered-in {A} value l s x =
-    ended-in delivers value delivered delivered-by-end l s x
-    ∙ ap (λ (z : List (List A)). length (flatten z)) (all-delivered value (s .sections))

@@ -38,6 +38,9 @@ abbrev pub heldUnfit : ℕ → Bool → List ℕ → Bool
 heldUnfit n noCounter hold =
     (ltb 0 n && noCounter) || ((ltb 0 n && eqb (getD hold 0 0) 255) || (leb 3 n && (leb (totalOf hold) n || ltb 4096 (totalOf hold))))
 
--- "record can't stand: PID above 8,191; counter above 15; more than 4,095 in hand; .."
+-- "record can't stand: PID above 8,191; counter above 15; more than 4,095 in hand; .."; of a rejection's number "any .. but 0 to 10"
 unfoldable pub cannotStand : Record → List ℕ → Bool
-cannotStand r hold = ltb 8191 (r .pid) || (counterPast (r .last) || (ltb 4095 (r .in_hand) || heldUnfit (r .in_hand) (isNone (r .last)) hold))
+cannotStand r hold =
+    ltb 8191 (r .pid)
+    || (counterPast (r .last)
+    || (ltb 10 (r .rejection) || (ltb 4095 (r .in_hand) || heldUnfit (r .in_hand) (isNone (r .last)) hold)))

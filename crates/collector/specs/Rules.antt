@@ -11,21 +11,23 @@ use Rattle.wire.specs.If.{if_then_else_}
 use Rattle.wire.specs.Sections.{totalOf}
 use Rattle.packet.specs.Ruling.{joins, Carried}
 
--- "one fate ..: pointer, delivered, broken off, filler, skipped, or in hand": of what kind a byte is once it is done with
+-- "one fate ..: pointer, accepted, rejected, broken off, filler, skipped, or in hand": of what kind a byte is once it is done with
 pub data Kind : Type 0 where
   pointer : Kind
-  delivered : Kind
+  accepted : Kind
+  rejected : Kind
   broken : Kind
   filler : Kind
   skipped : Kind
 
 -- kind by kind: there is no other
-abbrev pub byKind : (P : Kind → Type 0) → P pointer → P delivered → P broken → P filler → P skipped → (k : Kind) → P k
-byKind P p d b f s pointer = p
-byKind P p d b f s delivered = d
-byKind P p d b f s broken = b
-byKind P p d b f s filler = f
-byKind P p d b f s skipped = s
+abbrev pub byKind : (P : Kind → Type 0) → P pointer → P accepted → P rejected → P broken → P filler → P skipped → (k : Kind) → P k
+byKind P p a r b f s pointer = p
+byKind P p a r b f s accepted = a
+byKind P p a r b f s rejected = r
+byKind P p a r b f s broken = b
+byKind P p a r b f s filler = f
+byKind P p a r b f s skipped = s
 
 pub data Fate : Type 0 where
   in-hand : Fate
@@ -45,10 +47,11 @@ pub record Story (A : Type 0) : Type 0 where
 
 abbrev pub kindNumber : Kind → ℕ
 kindNumber pointer = 0
-kindNumber delivered = 1
-kindNumber broken = 2
-kindNumber filler = 3
-kindNumber skipped = 4
+kindNumber accepted = 1
+kindNumber rejected = 2
+kindNumber broken = 3
+kindNumber filler = 4
+kindNumber skipped = 5
 
 abbrev pub sameKind : Kind → Kind → Bool
 sameKind j k = eqb (kindNumber j) (kindNumber k)
@@ -66,7 +69,7 @@ outOfHand f (done k) = done k
 
 -- each kind, once
 abbrev pub kinds : List Kind
-kinds = pointer ∷ delivered ∷ broken ∷ filler ∷ skipped ∷ []
+kinds = pointer ∷ accepted ∷ rejected ∷ broken ∷ filler ∷ skipped ∷ []
 
 abbrev pub sumIn : (Kind → ℕ) → List Kind → ℕ
 sumIn n [] = 0
@@ -214,9 +217,3 @@ module _ (comes : List ℕ → Kind) {A : Type 0} (value : A → ℕ) where
   -- a packet that is taken, after the last counter or none and the story so far
   abbrev pub storyAfter : Option ℕ → Story A → Carried A → Story A
   storyAfter last s q = payload (q .start) (joined (joins last (q .spliced) (q .counter)) s) (q .bytes)
-
--- ---- what a whole section comes to
-
--- "Out gets the finished sections": each is delivered
-abbrev pub delivers : List ℕ → Kind
-delivers s = delivered

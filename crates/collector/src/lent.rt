@@ -65,6 +65,9 @@ fn unfit(rec: Record, hold: &[u8]) -> bool
     if counter_past(last) {
         return true;
     }
+    if 10 < rec.rejection {
+        return true;
+    }
     let n = rec.in_hand;
     if 4095 < n {
         return true;

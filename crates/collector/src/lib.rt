@@ -1,7 +1,9 @@
-// The collector of document 01: packets of one PID go in, one at a time, and the sections that they carry come out.
+// The collector of document 01 with the judge in it: packets of one PID go in, one at a time, and of the sections that they
+// carry those come out that the judge accepts.
 mod bytes;
 mod lent;
 mod payload;
+mod settling;
 mod stretch;
 mod taking;
 
@@ -17,21 +19,24 @@ pub enum Last {
     Counter(u8),
 }
 
-// "It has the PID, the last counter or none, the bytes in hand, five 32-bit counters"; "The record gains a mark." The bytes
-// in hand stand at the start of the hold.
+// "It has the PID, the last counter or none, the bytes in hand", 32-bit counters, of which "The delivered counter splits into
+// accepted and rejected"; "The record gains a mark."; "A rejected section's number is kept in the record, the last one only".
+// The bytes in hand stand at the start of the hold.
 pub struct Record {
     pub pid: u16,
     pub last: Last,
     pub in_hand: usize,
     pub pointer: u32,
-    pub delivered: u32,
+    pub accepted: u32,
+    pub rejected: u32,
     pub broken: u32,
     pub filler: u32,
     pub skipped: u32,
     pub mark: bool,
+    pub rejection: u32,
 }
 
-// What a call answers. Taken: "the finished sections end to end, the answer their number and bytes".
+// What a call answers. Taken: "the finished sections end to end, the answer their number and bytes", of the accepted ones.
 pub enum Answer {
     Refused(Refusal),
     Repeated,
@@ -44,7 +49,8 @@ pub struct Stepped {
     pub answer: Answer,
 }
 
-// "A fresh one: no counter, nothing in hand, zeros." It is made for any number; one that is no PID is refused with 43 at each packet.
+// "A fresh one: no counter, nothing in hand, zeros."; of the number "0 at first". It is made for any number; one that is no
+// PID is refused with 43 at each packet.
 pub fn fresh(pid: u16) -> Record
     ensures { λ r. ⌜ r ≡ freshRecord pid ⌝ }
 {
@@ -53,11 +59,13 @@ pub fn fresh(pid: u16) -> Record
         last: Last::None,
         in_hand: 0,
         pointer: 0,
-        delivered: 0,
+        accepted: 0,
+        rejected: 0,
         broken: 0,
         filler: 0,
         skipped: 0,
         mark: false,
+        rejection: 0,
     }
 }
 

@@ -10,7 +10,8 @@ ghost use mathlib.Core.Bool.{_||_};
 ghost use Prim.Native.Nat.{_<_};
 ghost use lib.ListN.{take, drop};
 ghost use Rattle.packet.specs.Ruling.{markWith, joins, repeats, loadOf, ruledOn};
-ghost use Rattle.collector.specs.Rules.{holding, joined, plain, payload, delivers};
+ghost use Rattle.collector.specs.Rules.{holding, joined, plain, payload};
+ghost use Rattle.collector.specs.Judged.{byJudge};
 ghost use Rattle.collector.specs.Refusals.{lastOf, beforeOf};
 ghost use Rattle.collector.specs.Answer.{came};
 ghost use Rattle.collector.specs.Collected.{markedBy, outcomeAfter, outcomeOf};
@@ -61,11 +62,13 @@ pub fn marked(rec: Record, splice: bool) -> Record
         last,
         in_hand: rec.in_hand,
         pointer: rec.pointer,
-        delivered: rec.delivered,
+        accepted: rec.accepted,
+        rejected: rec.rejected,
         broken: rec.broken,
         filler: rec.filler,
         skipped: rec.skipped,
         mark: is_set(rec.mark, splice),
+        rejection: rec.rejection,
     }
 }
 
@@ -82,7 +85,8 @@ fn counted(rec: Record, counter: u8, e: Gain, broken: usize, start: bool) -> Rec
     ensures { λ r. ⌜ r ≡ countedOf rec counter e broken start ⌝ }
 {
     let point = point_count(start);
-    let bytes = e.bytes as u32;
+    let accepted = e.bytes as u32;
+    let rejected = e.rejected as u32;
     let lost = (broken + e.breaking) as u32;
     let filler = e.filling as u32;
     let skipped = e.skipping as u32;
@@ -91,11 +95,13 @@ fn counted(rec: Record, counter: u8, e: Gain, broken: usize, start: bool) -> Rec
         last: Last::Counter(counter),
         in_hand: e.in_hand,
         pointer: std::num::wrapping_add_u32(rec.pointer, point),
-        delivered: std::num::wrapping_add_u32(rec.delivered, bytes),
+        accepted: std::num::wrapping_add_u32(rec.accepted, accepted),
+        rejected: std::num::wrapping_add_u32(rec.rejected, rejected),
         broken: std::num::wrapping_add_u32(rec.broken, lost),
         filler: std::num::wrapping_add_u32(rec.filler, filler),
         skipped: std::num::wrapping_add_u32(rec.skipped, skipped),
         mark: false,
+        rejection: e.rejection,
     }
 }
 
@@ -121,13 +127,13 @@ fn taken(
     ensures { λ r. ⌜ came (r .record) (now (hold .exit)) (now (out .exit)) (r .answer)
         ≡ outcomeAfter rec
         (now (hold .entry)) (now (out .entry)) counter
-        (payload delivers plain start (joined next (holding (take (rec .in_hand) (now (hold .entry)))))
+        (payload byJudge plain start (joined next (holding (take (rec .in_hand) (now (hold .entry)))))
         (drop from (now (packet .entry)))) ⌝ }
 {
     let held = rec.in_hand;
     let n = kept(next, held);
     let broken = held - n;
-    let e = payload::carry(hold, n, packet, from, start, out);
+    let e = payload::carry(hold, n, packet, from, start, out, rec.rejection);
     Stepped {
         record: counted(rec, counter, e, broken, start),
         answer: Answer::Taken {

@@ -8,6 +8,26 @@ use Rattle.collector.specs.Refusals.{heldUnfit}
 use Rattle.collector.proofs.lent.held_unfit.Statement.{statement}
 use Rattle.collector.proofs.lent.held_unfit.Tie as tie
 
+-- where something is in hand, and there is a counter
+module _ (e : tie.Else2) where
+  abbrev start : tie.Start
+  start = e .before .before .before
+
+  some : 0 < start .args .n
+  some = omega (arith, e .before .if1 .left)
+
+-- and the first byte is no filler
+abbrev counted : tie.Else3 → tie.Else2
+counted e = e .before .before
+
+-- from where the section's bytes are known
+module _ (k : tie.After-total-of) where
+  abbrev long : tie.Else4
+  long = k .before .before .before
+
+  abbrev first : tie.Else3
+  first = long .before
+
 returns : tie.Need-returns
 returns c =
     let a = c .before .before .args in
@@ -24,16 +44,13 @@ shared-slice-read-if3 c = search needs
 returns-3 : tie.Need-returns-3
 returns-3 c =
     let else2 = c .before .before in
-    let args = else2 .before .before .before .args in
-    let some : 0 < args .n = omega arith in
-    simp (lt-ltb _ _ some, else2 .if2 .left, eq-eqb _ _ (c .if3 .taken))
+    simp (lt-ltb _ _ (some else2), else2 .if2 .left, eq-eqb _ _ (c .if3 .taken))
 
 returns-4 : tie.Need-returns-4
 returns-4 c =
-    let else2 = c .before .before .before in
-    let args = else2 .before .before .before .args in
-    let some : 0 < args .n = omega arith in
-    simp (lt-ltb _ _ some, else2 .if2 .left, ne-eqb _ _ (c .before .if3 .left), lt-leb _ _ (c .if4 .taken))
+    let else3 = c .before in
+    let else2 = counted else3 in
+    simp (lt-ltb _ _ (some else2), else2 .if2 .left, ne-eqb _ _ (else3 .if3 .left), lt-leb _ _ (c .if4 .taken))
 
 shared-slice-read-total-of : tie.Need-shared-slice-read-total-of
 shared-slice-read-total-of c = search needs
@@ -46,35 +63,27 @@ total-of-requires c κs = search needs
 
 returns-5 : tie.Need-returns-5
 returns-5 c =
-    let after-total-of = c .before in
-    let k = after-total-of .before .before .before in
-    let if3 = k .before .if3 in
-    let else2 = k .before .before .before in
-    let args = else2 .before .before .before .args in
-    let some : 0 < args .n = omega arith in
+    let k = c .before in
+    let else2 = counted (first k) in
     simp (
-      lt-ltb _ _ some,
+      lt-ltb _ _ (some else2),
       else2 .if2 .left,
-      ne-eqb _ _ (if3 .left),
-      le-leb _ _ (k .if4 .left),
-      ← after-total-of .total-of .ensures,
+      ne-eqb _ _ (first k .if3 .left),
+      le-leb _ _ (long k .if4 .left),
+      ← k .total-of .ensures,
       le-leb _ _ (c .if5 .taken),
     )
 
 returns-6 : tie.Need-returns-6
 returns-6 c =
-    let after-total-of = c .before in
-    let k = after-total-of .before .before .before in
-    let if3 = k .before .if3 in
-    let else2 = k .before .before .before in
-    let args = else2 .before .before .before .args in
-    let some : 0 < args .n = omega arith in
+    let k = c .before in
+    let else2 = counted (first k) in
     simp (
-      lt-ltb _ _ some,
+      lt-ltb _ _ (some else2),
       else2 .if2 .left,
-      ne-eqb _ _ (if3 .left),
-      le-leb _ _ (k .if4 .left),
-      ← after-total-of .total-of .ensures,
+      ne-eqb _ _ (first k .if3 .left),
+      le-leb _ _ (long k .if4 .left),
+      ← k .total-of .ensures,
       lt-leb _ _ (c .if5 .left),
     )
 

@@ -1,11 +1,29 @@
 -- `collector::lent::unfit` meets its contract: each test decides one part of `cannotStand`.
-use mathlib.Core.Path.{sym, ap, _∙_}
-use mathlib.Core.Bool.{Bool}
+use mathlib.Core.Path.{_≡_, sym, ap, _∙_}
+use mathlib.Core.Bool.{Bool, true, false}
 use borrow.Author.Needs.{needs}
 use borrow.Author.Tests.{lt-ltb, le-ltb}
-use Rattle.collector.specs.Refusals.{heldUnfit, cannotStand}
+use lib.Dec.{ltb}
+use Rattle.collector.specs.Refusals.{counterPast, heldUnfit, cannotStand}
+use Rattle.collector.specs.declared.Record.{Record}
 use Rattle.collector.proofs.lent.unfit.Statement.{statement}
 use Rattle.collector.proofs.lent.unfit.Tie as tie
+
+-- from where the counter was looked at
+module _ (k : tie.After-counter-past) where
+  abbrev start : tie.Start
+  start =
+      let else1 = k .before in
+      else1 .before .before .before
+
+  abbrev rec : Record
+  rec = start .args .rec
+
+  a-pid : ltb 8191 (rec .pid) ≡ false
+  a-pid = le-ltb _ _ (k .before .if1 .left)
+
+  counter-is : (b : Bool) → k .counter-past .result ≡ b → counterPast (rec .last) ≡ b
+  counter-is b e = sym (k .counter-past .ensures) ∙ e
 
 returns : tie.Need-returns
 unfolding cannotStand
@@ -16,16 +34,21 @@ counter-past-requires c κs = search needs
 
 returns-2 : tie.Need-returns-2
 unfolding cannotStand
-returns-2 c = simp (le-ltb _ _ (c .before .before .if1 .left), sym (c .before .counter-past .ensures) ∙ c .if2 .taken)
+returns-2 c = simp (a-pid (c .before), counter-is (c .before) true (c .if2 .taken))
 
 returns-3 : tie.Need-returns-3
 unfolding cannotStand
 returns-3 c =
-    simp (
-      le-ltb _ _ (c .before .before .before .if1 .left),
-      sym (c .before .before .counter-past .ensures) ∙ c .before .if2 .left,
-      lt-ltb _ _ (c .if3 .taken),
-    )
+    let else2 = c .before .before in
+    let k = else2 .before in
+    simp (a-pid k, counter-is k false (else2 .if2 .left), lt-ltb _ _ (c .if3 .taken))
+
+returns-4 : tie.Need-returns-4
+unfolding cannotStand
+returns-4 c =
+    let else2 = c .before .before .before in
+    let k = else2 .before in
+    simp (a-pid k, counter-is k false (else2 .if2 .left), le-ltb _ _ (c .before .if3 .left), lt-ltb _ _ (c .if4 .taken))
 
 is-none-requires : tie.Need-is-none-requires
 is-none-requires c κs = search needs
@@ -33,21 +56,23 @@ is-none-requires c κs = search needs
 held-unfit-requires : tie.Need-held-unfit-requires
 held-unfit-requires c κs = search needs
 
-returns-4 : tie.Need-returns-4
+returns-5 : tie.Need-returns-5
 unfolding cannotStand
-returns-4 c =
-    let k = c .before .before in
-    let if2 = k .before .if2 in
-    let counter-past = k .before .before .counter-past in
-    let else1 = k .before .before .before in
-    let a = else1 .before .before .before .args in
+returns-5 c =
+    let else4 = c .before .before in
+    let else2 = else4 .before .before .before in
+    let k = else2 .before in
     c .held-unfit .ensures
-    ∙ ap (λ (b : Bool). heldUnfit (a .rec .in_hand) b (a .hold .now)) (c .before .is-none .ensures)
+    ∙ ap (λ (b : Bool). heldUnfit (rec k .in_hand) b (start k .args .hold .now)) (c .before .is-none .ensures)
     ∙ sym (simp (
-      le-ltb _ _ (else1 .if1 .left),
-      sym (counter-past .ensures) ∙ if2 .left,
-      le-ltb _ _ (k .if3 .left),
+      a-pid k,
+      counter-is k false (else2 .if2 .left),
+      le-ltb _ _ (else4 .before .if3 .left),
+      le-ltb _ _ (else4 .if4 .left),
     ))
 
 pub unfit-spec : {M : Type 1} → statement M
-unfit-spec = tie.close (tie.spec returns counter-past-requires returns-2 returns-3 is-none-requires held-unfit-requires returns-4)
+unfit-spec =
+    tie.close
+    (tie.spec returns counter-past-requires returns-2 returns-3 returns-4 is-none-requires held-unfit-requires
+    returns-5)

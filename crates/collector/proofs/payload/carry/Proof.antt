@@ -7,7 +7,7 @@ use native.Mathlib.Omega.{arith}
 use borrow.Author.Needs.{needs}
 use lib.ListN.{length, take, drop, length-append, length-take, length-drop}
 use lib.Seq.{length-take-le}
-use Rattle.collector.specs.Rules.{delivers}
+use Rattle.collector.specs.Judged.{byJudge}
 use Rattle.collector.specs.declared.payload.Front.{Front}
 use Rattle.collector.proofs.PayloadLaws.{kept-gone, kept-back, gone-bytes, small-of, front-in, carry-start, carry-on}
 use Rattle.collector.proofs.payload.carry.Statement.{statement}
@@ -87,9 +87,9 @@ both-requires c κs =
     let g = gone (after-struct-known .before) in
     let k = known g in
     (
-      small-of _ _ (kept-gone delivers (not (s k .args .start)) (h k) (l k))
+      small-of _ _ (kept-gone byJudge (not (s k .args .start)) (h k) (l k))
           (omega (arith, inside k, length-append (h k) (l k), h-long k, l-long k)) (g .go-on .ensures),
-      small-of _ _ (kept-back delivers (l₂ k))
+      small-of _ _ (kept-back byJudge (l₂ k))
           (omega (arith, length-drop (front k .from + front k .bytes) (s k .args .packet .now))) (t .sections .ensures),
     )
 
@@ -108,7 +108,7 @@ returns c =
     let g = gone i in
     let k = known g in
     let a = s k .args in
-    carry-start delivers (a .hold .now) (a .out .now) (a .packet .now) (a .n) (a .from) (a .start) (i .if1 .taken)
+    carry-start (a .hold .now) (a .out .now) (a .packet .now) (a .n) (a .from) (a .was) (a .start) (i .if1 .taken)
     (s k .pre .from-within) (front k) (k .front-of .ensures) _ _ _ _ _ _ (g .go-on .ensures) (t .sections .ensures)
     _ (c .both .ensures)
 
@@ -124,7 +124,7 @@ returns-2 c =
     let g = after-slice-known3 .before .before in
     let k = known g in
     let a = s k .args in
-    carry-on delivers (a .hold .now) (a .out .now) (a .packet .now) (a .n) (a .from) (a .start) (c .if1 .left) (front k)
+    carry-on (a .hold .now) (a .out .now) (a .packet .now) (a .n) (a .from) (a .was) (a .start) (c .if1 .left) (front k)
     (k .front-of .ensures) _ _ _ (g .go-on .ensures)
 
 pub carry-spec : {M : Type 1} → statement M

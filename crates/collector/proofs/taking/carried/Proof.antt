@@ -4,7 +4,8 @@ use mathlib.Core.Bool.{Bool}
 use borrow.Author.Needs.{needs}
 use lib.ListN.{take, drop}
 use Rattle.wire.specs.If.{if_then_else_}
-use Rattle.collector.specs.Rules.{holding, joined, plain, payload, delivers}
+use Rattle.collector.specs.Rules.{holding, joined, plain, payload}
+use Rattle.collector.specs.Judged.{byJudge}
 use Rattle.collector.specs.Refusals.{beforeOf}
 use Rattle.packet.specs.Ruling.{markWith, repeats, joins, repeated, takes, loadOf}
 use Rattle.collector.specs.Answer.{Outcome}
@@ -28,7 +29,7 @@ module _ (s : tie.Start) where
   abbrev outcome : Bool → Outcome
   outcome next =
       outcomeAfter (s .args .rec) (s .args .hold .now) (s .args .out .now) (s .args .counter)
-      (payload delivers plain (s .args .start)
+      (payload byJudge plain (s .args .start)
       (joined next (holding (take (s .args .rec .in_hand) (s .args .hold .now))))
       (drop (s .args .from) (s .args .packet .now)))
 
@@ -43,7 +44,8 @@ module _ (r : tie.After-is-repeat) where
   again-is : r .is-repeat .result ≡ repeats (beforeOf (start .args .rec) .last) (spliced start) (start .args .counter)
   again-is =
       r .is-repeat .ensures
-      ∙ ap (λ (t : Bool). repeats (beforeOf (start .args .rec) .last) t (start .args .counter)) (marking .is-set .ensures)
+      ∙ ap (λ (t : Bool). repeats (beforeOf (start .args .rec) .last) t (start .args .counter))
+      (marking .is-set .ensures)
 
 is-set-requires : tie.Need-is-set-requires
 is-set-requires c κs = search needs
@@ -76,7 +78,8 @@ returns-2 c =
     let k = n .before in
     let s = start (k .before) in
     let next = n .is-joined .ensures
-    ∙ ap (λ (m : Bool). joins (beforeOf (s .args .rec) .last) m (s .args .counter)) (marking (k .before) .is-set .ensures) in
+    ∙ ap (λ (m : Bool). joins (beforeOf (s .args .rec) .last) m (s .args .counter))
+    (marking (k .before) .is-set .ensures) in
     t .taken .ensures ∙ ap (outcome s) next ∙ ap (ruled s) (sym (k .if1 .left) ∙ again-is (k .before))
 
 pub carried-spec : {M : Type 1} → statement M

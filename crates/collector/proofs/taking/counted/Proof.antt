@@ -11,8 +11,11 @@ use Rattle.collector.proofs.taking.counted.Tie as tie
 point-count-requires : tie.Need-point-count-requires
 point-count-requires c κs = search needs
 
-cast-bytes : tie.Need-cast-bytes
-cast-bytes c = search needs
+cast-accepted : tie.Need-cast-accepted
+cast-accepted c = search needs
+
+cast-rejected : tie.Need-cast-rejected
+cast-rejected c = search needs
 
 add-lost : tie.Need-add-lost
 add-lost c = search needs
@@ -22,6 +25,9 @@ cast-lost c = search needs
 
 cast-filler : tie.Need-cast-filler
 cast-filler c = search needs
+
+cast-skipped : tie.Need-cast-skipped
+cast-skipped c = search needs
 
 wrapping-add-u32-requires : tie.Need-wrapping-add-u32-requires
 wrapping-add-u32-requires c κs = search needs
@@ -38,23 +44,26 @@ wrapping-add-u32-requires-4 c κs = search needs
 wrapping-add-u32-requires-5 : tie.Need-wrapping-add-u32-requires-5
 wrapping-add-u32-requires-5 c κs = search needs
 
+wrapping-add-u32-requires-6 : tie.Need-wrapping-add-u32-requires-6
+wrapping-add-u32-requires-6 c κs = search needs
+
 returns : tie.Need-returns
 returns c =
-    let wrapping-add-u323 = c .before .before .wrapping-add-u323 in
-    let after-wrapping-add-u322 = c .before .before .before in
-    let k = after-wrapping-add-u322 .before in
-    let after-struct-known2 = k .before .before .before in
-    let point = after-struct-known2 .before .before in
+    let broken = c .before .before in
+    let rejected = broken .before in
+    let pointer = rejected .before .before in
+    let after-struct-known3 = pointer .before .before .before in
+    let point = after-struct-known3 .before .before .before in
     let a = point .before .args in
-    same-record _ _ refl refl refl refl
+    same-record _ _ refl refl refl refl refl
     (byKind (λ j. bytesCounted (done j) _ ≡ bytesCounted (done j) _)
-    (k .wrapping-add-u32 .ensures ∙ ap (λ (n : ℕ). (a .rec .pointer + n) % 2 ^ 32) (point .point-count .ensures))
-    (after-wrapping-add-u322 .wrapping-add-u322 .ensures) (wrapping-add-u323 .ensures)
-    (c .before .wrapping-add-u324 .ensures) (c .wrapping-add-u325 .ensures))
+    (pointer .wrapping-add-u32 .ensures ∙ ap (λ (n : ℕ). (a .rec .pointer + n) % 2 ^ 32) (point .point-count .ensures))
+    (rejected .before .wrapping-add-u322 .ensures) (rejected .wrapping-add-u323 .ensures)
+    (broken .wrapping-add-u324 .ensures) (c .before .wrapping-add-u325 .ensures) (c .wrapping-add-u326 .ensures))
 
 pub counted-spec : {M : Type 1} → statement M
 counted-spec =
     tie.close
-    (tie.spec point-count-requires cast-bytes add-lost cast-lost cast-filler (λ c. search needs) wrapping-add-u32-requires
-    wrapping-add-u32-requires-2 wrapping-add-u32-requires-3 wrapping-add-u32-requires-4 wrapping-add-u32-requires-5
-    returns)
+    (tie.spec point-count-requires cast-accepted cast-rejected add-lost cast-lost cast-filler cast-skipped
+    wrapping-add-u32-requires wrapping-add-u32-requires-2 wrapping-add-u32-requires-3 wrapping-add-u32-requires-4
+    wrapping-add-u32-requires-5 wrapping-add-u32-requires-6 returns)

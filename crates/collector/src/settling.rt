@@ -1,0 +1,57 @@
+// What becomes of a whole section: the judge is asked, and what it accepts goes to the out room.
+use crate::bytes;
+use section::judge::judge;
+use verdict::is_accepted;
+use verdict::number;
+ghost use mathlib.Core.Path.{_≡_};
+ghost use mathlib.Core.List.{_++_};
+ghost use Prim.Native.Nat.{_+_, _-_, _≤_, min};
+ghost use lib.ListN.{length, take, drop};
+ghost use Rattle.verdict.specs.Verdict.{numberOf};
+ghost use Rattle.section.specs.Reading.{judged};
+ghost use Rattle.collector.specs.Inner.Settling.{handedOut};
+
+// The section bytes[from..from+t], judged where it lies, goes to out[at..] if it is accepted. The answer is its rejection's
+// number, 0 where there is none.
+pub fn settle(bytes: &[u8], from: usize, t: usize, out: &mut [u8], at: usize) -> u8
+    requires { ⌜ (from + t ≤ length (now bytes)) × (at + t ≤ length (now out)) ⌝ }
+    ensures { λ r. ⌜ r ≡ numberOf (judged (take t (drop from (now (bytes .entry))))) ⌝ }
+    ensures { λ _. ⌜ now (out .exit) ≡ handedOut (now (out .entry)) at (take t (drop from (now (bytes .entry)))) ⌝ }
+{
+    let verdict = judge(&bytes[from..from + t]);
+    if is_accepted(verdict) {
+        bytes::copy_at(bytes, from, t, out, at);
+        return 0;
+    }
+    number(verdict)
+}
+
+// Where to begin, so that WINDOW bytes of a room of this size have all from n on that a packet can reach.
+const WINDOW: usize = 192;
+
+fn window_at(n: usize, size: usize) -> usize
+    requires { ⌜ 192 ≤ size ⌝ }
+    ensures { λ r. ⌜ r ≡ min n (size - 192) ⌝ }
+{
+    if n < size - WINDOW { n } else { size - WINDOW }
+}
+
+// The section whose first n bytes are in hand and whose last k are packet[from..from+k]. For the judge its end is laid
+// behind what is in hand, and the bytes that the hold had there are put back: always as many, for a copy of a size that
+// the compiler knows takes no loop.
+pub fn settle_held(hold: &mut [u8], n: usize, packet: &[u8], from: usize, k: usize, out: &mut [u8]) -> u8
+    requires { ⌜ (4096 ≤ length (now hold)) × (n + k ≤ length (now hold)) × (from + k ≤ length (now packet))
+        × (length (now packet) ≤ 188) × (n + k ≤ length (now out)) ⌝ }
+    ensures { λ r. ⌜ r ≡ numberOf (judged (take n (now (hold .entry)) ++ take k (drop from (now (packet .entry))))) ⌝ }
+    ensures { λ _. ⌜ now (hold .exit) ≡ now (hold .entry) ⌝ }
+    ensures { λ _. ⌜ now (out .exit)
+        ≡ handedOut (now (out .entry)) 0 (take n (now (hold .entry)) ++ take k (drop from (now (packet .entry)))) ⌝ }
+{
+    let at = window_at(n, hold.len());
+    let mut window = [0u8; WINDOW];
+    bytes::copy_at(hold, at, WINDOW, &mut window, 0);
+    bytes::copy_at(packet, from, k, hold, n);
+    let number = settle(hold, 0, n + k, out, 0);
+    bytes::copy_at(&window, 0, WINDOW, hold, at);
+    number
+}
