@@ -16,13 +16,14 @@ use Rattle.wire.specs.Each.{Each}
 use Rattle.wire.specs.Sections.{totalOf, WholeSection}
 use Rattle.copy.specs.Laid.{over}
 use Rattle.packet.specs.Ruling.{Before, noneBefore, markWith, repeats, Carried, handsOn, Ruling, repeated, takes, loadOf, ruledBy, ruling}
-use Rattle.collector.specs.Rules.{Kind, Fate, in-hand, done, Story, sameFate, countOf, handOf, marked, holding, plain, storyAfter, delivered, sectionsOf, delivers}
+use Rattle.collector.specs.Rules.{Kind, Fate, in-hand, done, Story, sameFate, countOf, handOf, marked, holding, plain, storyAfter, accepted, rejected, sectionsOf}
+use Rattle.collector.specs.Judged.{byJudge, deliveredOf, rejectedOf, lastNumber}
 use Rattle.packet.specs.Refusals.{Judged, refuse, has-payload, judged}
 use Rattle.collector.specs.Refusals.{beforeOf, cannotStand, tooSmall}
 use Rattle.packet.specs.Refusals as Refusals
 use Rattle.packet.specs.Ruling as Ruled
 use Rattle.collector.specs.Answer.{Outcome}
-use Rattle.collector.specs.Collected.{bytesCounted, freshRecord, markedBy, recordAfter, outcomeAfter, outcomeOf, deliveredOf}
+use Rattle.collector.specs.Collected.{bytesCounted, freshRecord, markedBy, recordAfter, outcomeAfter, outcomeOf}
 use Rattle.collector.specs.declared.Record.{Record}
 use Rattle.collector.specs.declared.Last.the-variants.{None, Counter}
 use Rattle.collector.proofs.Counters.{counts-with}
@@ -30,12 +31,13 @@ use Rattle.collector.proofs.MarkLaws.{bytesOf-marked}
 use Rattle.collector.proofs.ByteRuns.{total-prefix}
 use Rattle.collector.proofs.Simulation.{Beside, beside-taken}
 use Rattle.collector.proofs.Invariants.{keep-taken}
-use Rattle.collector.proofs.StoryLaws.{Any, AllWhole, keeps-whole, sections-more, sections-values, sections-each}
+use Rattle.collector.proofs.StoryLaws.{Any, Kept, keeps-kept, points-kept, kept-holding, sections-more, sections-values, sections-each}
+use Rattle.collector.proofs.Parted.{last-more, last-limit}
 use Rattle.collector.proofs.PayloadLaws.{any}
 use Rattle.packet.proofs.Table.{or-false, payload-of}
 use Rattle.history.specs.History.{Byte, valueOf, numbered, History, unbegun, numberedIn, historyAfter, historyFrom}
 use Rattle.history.specs.Run.{Promised, Call, Run, no-call, one-call, fareOf, ruledFare, lentOf, rulingOn, beforeAfter, ruledIn, faresFrom, ruledTaken, beforeFrom, cut, handedBy, handed, bytesBy, toldBy}
-use Rattle.history.specs.Demand3.{Counted, deliveredIn}
+use Rattle.history.specs.Demand3.{Counted, deliveredIn, rejectedIn, numberIn}
 use Rattle.history.proofs.TestLaws.{or-none}
 use Rattle.history.proofs.LeftInHand.{Standing, standing-none, stands-taken, few-standing, stands-after}
 
@@ -57,13 +59,18 @@ plain-whole : (secs : List (List ℕ)) → Each (λ (x : List ℕ). WholeSection
 plain-whole [] x = tt
 plain-whole (s ∷ secs) x = (subst WholeSection (map-id s) (x .0), plain-whole secs (x .1))
 
+-- what every story keeps, of a packet's own
+pub kept-taken : (comes : List ℕ → Kind) (last : Option ℕ) (h : List ℕ) (q : Carried ℕ)
+    → Kept comes plain (h ++ q .bytes) (storyAfter comes plain last (holding h) q)
+kept-taken comes last h q =
+    keep-taken comes plain Any (Kept comes plain) (keeps-kept comes plain) (points-kept comes plain) last h
+    (holding h) q (any (q .bytes)) (kept-holding comes plain h)
+
 -- the sections that a packet finishes are whole
 pub whole-taken : (comes : List ℕ → Kind) (last : Option ℕ) (h : List ℕ) (q : Carried ℕ)
     → Each WholeSection (storyAfter comes plain last (holding h) q .sections)
 whole-taken comes last h q =
-    plain-whole (storyAfter comes plain last (holding h) q .sections)
-    (keep-taken comes plain Any (AllWhole comes plain) (keeps-whole comes plain) (λ b l s r x. x) last h (holding h) q
-    (any (q .bytes)) tt)
+    plain-whole (storyAfter comes plain last (holding h) q .sections) (kept-taken comes last h q .whole)
 
 -- ---- what a ruling tells of a packet that is taken with payload
 
@@ -90,7 +97,8 @@ taking-at unfit pid size out before p (has-payload from start c splice) e =
 
 taking-of : (unfit : Bool) (pid size out : ℕ) (before : Before) (p : List ℕ)
     → Taking size (ruling (tooSmall size out) unfit pid before p)
-taking-of unfit pid size out before p = taking-at unfit pid size out before p (judged (tooSmall size out) unfit pid p) refl
+taking-of unfit pid size out before p =
+    taking-at unfit pid size out before p (judged (tooSmall size out) unfit pid p) refl
 
 -- ---- the record agrees with a history, and with what counts of the packets before
 
@@ -101,6 +109,7 @@ pub record Agrees (pid size : ℕ) (r : Record) (hold : List ℕ) (before : Befo
   pub last-is : before .last ≡ h .last
   pub stand-is : cannotStand r hold ≡ ltb 8191 pid
   pub counted : Counted r hold (h .story)
+  pub number-is : r .rejection ≡ numberIn (h .story)
   pub standing : Standing (map valueOf (handOf (h .story)))
 
 pub agrees-fresh : (pid : ℕ) (hold : List ℕ) → Agrees pid (length hold) (freshRecord pid) hold noneBefore unbegun
@@ -112,10 +121,11 @@ agrees-fresh pid hold = record {
   last-is = refl;
   stand-is = or-none (ltb 8191 pid);
   counted = record {
-    counters-are = counts-with pid None false 0 (λ k. 0);
+    counters-are = counts-with pid None false 0 0 (λ k. 0);
     in-hand-is = refl;
     hold-is = refl;
   };
+  number-is = refl;
   standing = standing-none;
 }
 
@@ -151,6 +161,12 @@ module _ {pid size : ℕ} {r : Record} {hold : List ℕ} {before : Before} {h : 
   none-other : (f : Fate) → sameFate f in-hand ≡ false → countOf f (marked in-hand hand) ≡ 0
   none-other f e = ap length (bytesOf-marked f in-hand hand ∙ ap (λ (t : Bool). if t then hand else []) e)
 
+  -- the number kept can stand
+  number-few : r .rejection ≤ 10
+  number-few =
+      subst (λ (n : ℕ). n ≤ 10) (sym (g .number-is))
+      (last-limit 0 (map (map valueOf) (rejectedIn (h .story))) (omega arith))
+
   -- the bytes in hand stand beside the whole history
   beside : Beside valueOf base secs (holding hand) (h .story)
   beside = record {
@@ -178,6 +194,24 @@ module _ {pid size : ℕ} {r : Record} {hold : List ℕ} {before : Before} {h : 
     standing-after : Standing (handOf s)
     standing-after = stands-taken comes (h .last) hand q (subst Standing (sym (g .counted .hold-is)) (g .standing))
 
+    -- the sections that a packet adds, of each kind that the judge tells
+    sections-taken : (k : Kind)
+        → map (map valueOf) (sectionsOf byJudge valueOf k (historyAfter comes h q .story .sections))
+        ≡ map (map valueOf) (sectionsOf byJudge valueOf k (h .story .sections))
+        ++ sectionsOf byJudge plain k (s .sections)
+    sections-taken k =
+        sections-values byJudge valueOf k (historyAfter comes h q .story .sections)
+        ∙ ap (sectionsOf byJudge plain k) (beside-after .sections)
+        ∙ sections-more byJudge plain k secs (s .sections)
+        ∙ ap (λ (l : List (List ℕ)). l ++ sectionsOf byJudge plain k (s .sections))
+        (sym (sections-values byJudge valueOf k (h .story .sections)))
+
+    number-after : lastNumber (r .rejection) (rejectedOf s) ≡ numberIn (historyAfter comes h q .story)
+    number-after =
+        ap (λ (n : ℕ). lastNumber n (rejectedOf s)) (g .number-is)
+        ∙ sym (last-more 0 (map (map valueOf) (rejectedIn (h .story))) (rejectedOf s))
+        ∙ ap (lastNumber 0) (sym (sections-taken rejected))
+
     agrees-taken : (q .counter ≤ 15) × (4096 ≤ size)
         → Agrees pid size (recordAfter r (q .counter) s) (over (handOf s) hold) (handsOn q) (historyAfter comes h q)
     agrees-taken x =
@@ -197,28 +231,22 @@ module _ {pid size : ℕ} {r : Record} {hold : List ℕ} {before : Before} {h : 
           last-is = refl;
           stand-is =
               stands-after (recordAfter r (q .counter) s) (q .counter) refl (x .0) (handOf s) standing-after refl
+              (last-limit (r .rejection) (rejectedOf s) number-few)
               (drop (length (handOf s)) hold)
               ∙ ap (ltb 8191) (g .pid-is);
           counted = record {
             counters-are = λ k.
-                counts-with (r .pid) (Counter (q .counter)) false (length (handOf s))
+                counts-with (r .pid) (Counter (q .counter)) false (lastNumber (r .rejection) (rejectedOf s))
+                (length (handOf s))
                 (λ j. (bytesCounted (done j) r + countOf (done j) (s .marks)) % 2 ^ 32) k
                 ∙ runs-round (bytesCounted (done k) r) (base (done k)) (countOf (done k) (s .marks)) _
                 (g .counted .counters-are k) (b .counts (done k) refl);
             in-hand-is = ap length (sym (b .hand)) ∙ map-long (handOf (historyAfter comes h q .story));
             hold-is = take-append-seam (handOf s) (drop (length (handOf s)) hold) ∙ sym (b .hand);
           };
+          number-is = number-after;
           standing = subst Standing (sym (b .hand)) standing-after;
         }
-
-    sections-taken : (k : Kind) → map (map valueOf) (sectionsOf comes valueOf k (historyAfter comes h q .story .sections))
-        ≡ map (map valueOf) (sectionsOf comes valueOf k (h .story .sections)) ++ sectionsOf comes plain k (s .sections)
-    sections-taken k =
-        sections-values comes valueOf k (historyAfter comes h q .story .sections)
-        ∙ ap (sectionsOf comes plain k) (beside-after .sections)
-        ∙ sections-more comes plain k secs (s .sections)
-        ∙ ap (λ (l : List (List ℕ)). l ++ sectionsOf comes plain k (s .sections))
-        (sym (sections-values comes valueOf k (h .story .sections)))
 
   -- a packet without payload changes the mark alone
   agrees-bare : (splice : Bool)
@@ -231,11 +259,13 @@ module _ {pid size : ℕ} {r : Record} {hold : List ℕ} {before : Before} {h : 
     stand-is = stand-marked splice r hold ∙ g .stand-is;
     counted = record {
       counters-are = λ k.
-          counts-with (r .pid) (r .last) (markWith (beforeOf r) splice) (r .in_hand) (λ j. bytesCounted (done j) r) k
+          counts-with (r .pid) (r .last) (markWith (beforeOf r) splice) (r .rejection) (r .in_hand)
+          (λ j. bytesCounted (done j) r) k
           ∙ g .counted .counters-are k;
       in-hand-is = g .counted .in-hand-is;
       hold-is = g .counted .hold-is;
     };
+    number-is = g .number-is;
     standing = g .standing;
   }
 
@@ -244,8 +274,8 @@ module _ {pid size : ℕ} {r : Record} {hold : List ℕ} {before : Before} {h : 
 -- what a call comes to, as it is ruled on
 record Went (pid size : ℕ) (before : Before) (h : History) (z : Ruling) (o : Outcome) : Type 0 where
   fare : fareOf (o .said) ≡ ruledFare z
-  agrees : Agrees pid size (o .rec) (o .hold) (beforeAfter before z) (historyFrom delivers h (ruledIn z))
-  sections : map (map valueOf) (deliveredIn (historyFrom delivers h (ruledIn z) .story))
+  agrees : Agrees pid size (o .rec) (o .hold) (beforeAfter before z) (historyFrom byJudge h (ruledIn z))
+  sections : map (map valueOf) (deliveredIn (historyFrom byJudge h (ruledIn z) .story))
       ≡ map (map valueOf) (deliveredIn (h .story)) ++ handedBy (o .said) (o .out)
   bytes : flatten (handedBy (o .said) (o .out)) ≡ bytesBy (o .said) (o .out)
   told : length (flatten (handedBy (o .said) (o .out))) ≡ toldBy (o .said)
@@ -253,20 +283,21 @@ record Went (pid size : ℕ) (before : Before) (h : History) (z : Ruling) (o : O
 module _ {pid size : ℕ} {r : Record} {hold : List ℕ} {before : Before} {h : History}
     (g : Agrees pid size r hold before h) (out : List ℕ) where
   went-taken : (q : Carried ℕ) → (q .counter ≤ 15) × (4096 ≤ size)
-      → Went pid size before h (takes q) (outcomeAfter r hold out (q .counter) (s g delivers q))
+      → Went pid size before h (takes q) (outcomeAfter r hold out (q .counter) (s g byJudge q))
   went-taken q x =
-      let secs : List (List ℕ) = deliveredOf (s g delivers q) in
+      let secs : List (List ℕ) = deliveredOf (s g byJudge q) in
       let front : take (length (flatten secs)) (over (flatten secs) out) ≡ flatten secs =
       take-append-seam (flatten secs) (drop (length (flatten secs)) out) in
       let given : cut (length secs) (take (length (flatten secs)) (over (flatten secs) out)) ≡ secs =
       ap (cut (length secs)) front
-      ∙ cut-whole secs (sections-each delivers plain delivered WholeSection (s g delivers q .sections)
-      (whole-taken delivers (h .last) (hand g) q)) in
+      ∙ cut-whole secs (sections-each byJudge plain accepted WholeSection (s g byJudge q .sections)
+      (whole-taken byJudge (h .last) (hand g) q)) in
       record {
         fare = refl;
-        agrees = agrees-taken g delivers q x;
+        agrees = agrees-taken g byJudge q x;
         sections =
-            sections-taken g delivers q delivered ∙ ap (λ (l : List (List ℕ)). map (map valueOf) (deliveredIn (h .story)) ++ l) (sym given);
+            sections-taken g byJudge q accepted
+            ∙ ap (λ (l : List (List ℕ)). map (map valueOf) (deliveredIn (h .story)) ++ l) (sym given);
         bytes = ap flatten given ∙ sym front;
         told = ap (λ (l : List (List ℕ)). length (flatten l)) given;
       }
@@ -281,7 +312,7 @@ module _ {pid size : ℕ} {r : Record} {hold : List ℕ} {before : Before} {h : 
   went-by (takes q) x =
       subst
       (λ (l : Option ℕ). Went pid size before h (takes q)
-      (outcomeAfter r hold out (q .counter) (storyAfter delivers plain l (holding (hand g)) q)))
+      (outcomeAfter r hold out (q .counter) (storyAfter byJudge plain l (holding (hand g)) q)))
       (sym (ap (λ (b : Before). b .last) (g .before-is) ∙ g .last-is)) (went-taken q x)
 
   -- the ruling on the packet is the one that the packets alone give
@@ -294,7 +325,8 @@ module _ {pid size : ℕ} {r : Record} {hold : List ℕ} {before : Before} {h : 
       let taking : Taking size z =
       subst (λ (n : ℕ). Taking n z) (g .size-is)
       (taking-of (cannotStand r hold) (r .pid) (length hold) (length out) (beforeOf r) packet) in
-      subst (λ (y : Ruling). Went pid size before h y o) same (subst (Went pid size before h z) (sym e) (went-by z taking))
+      subst (λ (y : Ruling). Went pid size before h y o) same
+      (subst (Went pid size before h z) (sym e) (went-by z taking))
 
 -- ---- a run of calls
 
@@ -306,8 +338,9 @@ history-append comes h (q ∷ a) c = history-append comes (historyAfter comes h 
 pub record Ran (pid size : ℕ) (before : Before) (h : History) (ks : List Call) (r′ : Record) (hold′ : List ℕ) : Type 0 where
   pub fares : map (λ k. fareOf (k .said)) ks ≡ faresFrom pid size before (map lentOf ks)
   pub agrees : Agrees pid size r′ hold′ (beforeFrom pid size before (map lentOf ks))
-      (historyFrom delivers h (ruledTaken pid size before (map lentOf ks)))
-  pub sections : map (map valueOf) (deliveredIn (historyFrom delivers h (ruledTaken pid size before (map lentOf ks)) .story))
+      (historyFrom byJudge h (ruledTaken pid size before (map lentOf ks)))
+  pub sections : map (map valueOf)
+      (deliveredIn (historyFrom byJudge h (ruledTaken pid size before (map lentOf ks)) .story))
       ≡ map (map valueOf) (deliveredIn (h .story)) ++ handed ks
   pub bytes : Each (λ k. flatten (handedBy (k .said) (k .out′)) ≡ bytesBy (k .said) (k .out′)) ks
   pub told : Each (λ k. length (flatten (handedBy (k .said) (k .out′))) ≡ toldBy (k .said)) ks
@@ -318,12 +351,12 @@ ran no-call before h g = record { fares = refl; agrees = g; sections = sym (appe
 ran {pid} {size} {r′ = r′} {hold′ = hold′} (one-call {k = k} {ks = ks} c rest) before h g =
     let w = went g (k .out) (k .packet) _ c in
     let z : Ruling = rulingOn pid size before (lentOf k) in
-    let h₁ : History = historyFrom delivers h (ruledIn z) in
+    let h₁ : History = historyFrom byJudge h (ruledIn z) in
     let next : Before = beforeAfter before z in
     let x = ran rest next h₁ (w .agrees) in
-    let from : historyFrom delivers h₁ (ruledTaken pid size next (map lentOf ks))
-    ≡ historyFrom delivers h (ruledIn z ++ ruledTaken pid size next (map lentOf ks)) =
-    sym (history-append delivers h (ruledIn z) (ruledTaken pid size next (map lentOf ks))) in
+    let from : historyFrom byJudge h₁ (ruledTaken pid size next (map lentOf ks))
+    ≡ historyFrom byJudge h (ruledIn z ++ ruledTaken pid size next (map lentOf ks)) =
+    sym (history-append byJudge h (ruledIn z) (ruledTaken pid size next (map lentOf ks))) in
     record {
       fares = λ i. w .fare i ∷ x .fares i;
       agrees = subst (Agrees pid size r′ hold′ (beforeFrom pid size next (map lentOf ks))) from (x .agrees);

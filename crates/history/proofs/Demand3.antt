@@ -13,18 +13,20 @@ use Rattle.wire.proofs.IfLaws.{true-not-false}
 use Rattle.wire.specs.Each.{Each}
 use Rattle.packet.specs.Ruling.{Before, noneBefore, Carried}
 use Rattle.collector.specs.Refusals.{tooSmall}
-use Rattle.collector.specs.Rules.{Kind, delivered, Fate, done, kinds, sumIn, sumOf, Mark, Story, sameFate, bytesOf, countOf, delivers}
+use Rattle.collector.specs.Rules.{Kind, accepted, rejected, Fate, done, kinds, sumIn, sumOf, Mark, Story, sameFate, bytesOf, countOf, sectionsOf}
+use Rattle.collector.specs.Judged.{byJudge}
 use Rattle.packet.specs.Refusals.{_when_, refusals}
 use Rattle.collector.specs.Answer.{refusedWith}
 use Rattle.collector.specs.Collected.{bytesCounted, freshRecord}
 use Rattle.collector.specs.declared.Record.{Record}
 use Rattle.wire.proofs.EachLaws.{each-of}
-use Rattle.collector.proofs.Invariants.{keep-taken}
-use Rattle.collector.proofs.StoryLaws.{Any, Kept, keeps-kept, points-kept, kept-holding, counts-in, sections-each, delivered-by-end}
+use Rattle.collector.proofs.Invariants.{ByEnd, keep-taken}
+use Rattle.collector.proofs.StoryLaws.{Any, Kept, keeps-kept, points-kept, kept-holding, counts-in, sections-each}
+use Rattle.collector.proofs.Parted.{accepted-by-end, rejected-by-end}
 use Rattle.history.specs.History.{Byte, valueOf, numbered, History, unbegun, numberedIn, historyAfter, historyFrom, historyOf, payloadsFrom, Unbroken, Unmarked, Among, none-left, left-out, had}
-use Rattle.history.specs.Run.{Promised, Call, Run, Fare, taken, fareOf, saidTaken, splicesFrom, lentOf, rulingOn, beforeAfter, faresFrom, NotRefused, NotRepeated, handed}
+use Rattle.history.specs.Run.{Promised, Call, Run, Fare, taken, fareOf, saidTaken, splicesFrom, lentOf, rulingOn, beforeAfter, faresFrom, NotRefused, NotRepeated}
 use Rattle.history.specs.Demand1.{First}
-use Rattle.history.specs.Demand3.{TakenCallByCall, RefusedIf, takenByRule, storyBy, Counted, deliveredIn, MadeUnbroken, RefusedExactlyIf, TakenExactlyIf, ByPacketsAlone, NeverUnfit, OneFateEach, CountersAreFates, CountersMakeUp, DeliveredInOrder, NoSectionSpans}
+use Rattle.history.specs.Demand3.{TakenCallByCall, RefusedIf, takenByRule, storyBy, Counted, deliveredIn, MadeUnbroken, RefusedExactlyIf, TakenExactlyIf, ByPacketsAlone, NeverUnfit, OneFateEach, CountersAreFates, CountersMakeUp, DeliveredInOrder, NoSectionSpans, RejectedSpanNothing, KeptNumber}
 use Rattle.history.proofs.Agrees.{Ran, ran, agrees-fresh}
 use Rattle.history.proofs.FaresByTable.{Never, never-first, fares-cut, taken-alike}
 use Rattle.history.proofs.FaresByTable as fares
@@ -42,7 +44,8 @@ module _ (comes : List ℕ → Kind) where
       subst (λ (z : List Byte). Kept comes valueOf z (historyFrom comes (historyAfter comes h q) qs .story))
       (append-assoc l (numbered (h .packets) (q .bytes)) (payloadsFrom (h .packets + 1) qs))
       (kept-from (historyAfter comes h q) (l ++ numbered (h .packets) (q .bytes)) qs
-      (keep-taken comes valueOf Any (Kept comes valueOf) (keeps-kept comes valueOf) (points-kept comes valueOf) (h .last) l
+      (keep-taken comes valueOf Any (Kept comes valueOf) (keeps-kept comes valueOf) (points-kept comes valueOf)
+      (h .last) l
       (h .story) (numberedIn (h .packets) q) (each-of Any (λ b. tt) (numbered (h .packets) (q .bytes))) x))
 
   pub kept-history : (qs : List (Carried ℕ)) → Kept comes valueOf (payloadsFrom 0 qs) (historyOf comes qs .story)
@@ -67,7 +70,8 @@ by-packets-alone pid hold calls r hold′ x = whole-run pid hold calls r hold′
 -- the packets that the answers call taken are those that are taken by the packets alone
 pub taken-by : (pid : ℕ) (hold : List ℕ) (calls : List Call) (r : Record) (hold′ : List ℕ)
     → Run Promised (freshRecord pid) hold calls r hold′ → saidTaken false calls ≡ takenByRule pid hold calls
-taken-by pid hold calls r hold′ x = taken-alike pid (length hold) noneBefore calls (by-packets-alone pid hold calls r hold′ x)
+taken-by pid hold calls r hold′ x =
+    taken-alike pid (length hold) noneBefore calls (by-packets-alone pid hold calls r hold′ x)
 
 pub counters-are-fates : CountersAreFates Promised
 counters-are-fates pid hold calls r hold′ x = counted pid hold calls r hold′ x
@@ -79,8 +83,12 @@ delivered-in-order pid hold calls r hold′ x =
       sections-are = sym (w .sections);
       bytes-are = w .bytes;
       told-are = w .told;
-      delivered-are = kept-history delivers (takenByRule pid hold calls) .order delivered delivered-by-end .out;
+      delivered-are = kept-history byJudge (takenByRule pid hold calls) .order accepted accepted-by-end .out;
+      rejected-are = kept-history byJudge (takenByRule pid hold calls) .order rejected rejected-by-end .out;
     }
+
+pub kept-number : KeptNumber Promised
+kept-number pid hold calls r hold′ x = whole-run pid hold calls r hold′ x .agrees .number-is
 
 -- what is equal modulo 2^32 has equal sums modulo 2^32
 add-round : (a b n m : ℕ) → a % 2 ^ 32 ≡ n % 2 ^ 32 → b % 2 ^ 32 ≡ m % 2 ^ 32 → (a + b) % 2 ^ 32 ≡ (n + m) % 2 ^ 32
@@ -102,7 +110,8 @@ counters-make-up pid hold calls r hold′ x =
     (λ k. round (bytesCounted (done k) r) (countOf (done k) (s .marks)) (c .counters-are k)) kinds in
     add-round _ (r .in_hand) _ _ counters (ap (λ (n : ℕ). n % 2 ^ 32) (c .in-hand-is))
     ∙ ap (λ (n : ℕ). n % 2 ^ 32)
-    (counts-in delivers valueOf (payloadsFrom 0 (takenByRule pid hold calls)) s (kept-history delivers (takenByRule pid hold calls)))
+    (counts-in byJudge valueOf (payloadsFrom 0 (takenByRule pid hold calls)) s
+    (kept-history byJudge (takenByRule pid hold calls)))
     ∙ ap (λ (qs : List (Carried ℕ)). length (payloadsFrom 0 qs) % 2 ^ 32) (sym (taken-by pid hold calls r hold′ x))
 
 -- the values of all sections, end to end
@@ -115,7 +124,7 @@ flatten-values (s ∷ secs) =
 pub one-fate-each : OneFateEach Promised
 one-fate-each pid hold calls r hold′ x =
     let s : Story Byte = storyBy pid hold calls in
-    let kept = kept-history delivers (takenByRule pid hold calls) in
+    let kept = kept-history byJudge (takenByRule pid hold calls) in
     let out = delivered-in-order pid hold calls r hold′ x in
     record {
       one-each = kept .seen ∙ ap (payloadsFrom 0) (sym (taken-by pid hold calls r hold′ x));
@@ -137,25 +146,39 @@ fate-among f [] = none-left
 fate-among f (m ∷ ms) =
     among-if (sameFate f (m .fate)) (m .byte) (bytesOf f ms) (map (λ k. k .byte) ms) (fate-among f ms)
 
-pub no-section-spans : NoSectionSpans Promised
-no-section-spans pid hold calls r hold′ x =
+-- the whole sections of a kind
+unbroken-of : (k : Kind) → ByEnd k → (pid : ℕ) (hold : List ℕ) (calls : List Call) (r : Record) (hold′ : List ℕ)
+    → Run Promised (freshRecord pid) hold calls r hold′
+    → MadeUnbroken (saidTaken false calls) (splicesFrom 0 calls)
+    (map (map valueOf) (sectionsOf byJudge valueOf k (storyBy pid hold calls .sections)))
+unbroken-of k w pid hold calls r hold′ x =
     let qs = takenByRule pid hold calls in
     let s : Story Byte = storyBy pid hold calls in
-    let out = delivered-in-order pid hold calls r hold′ x in
-    let among : Among (flatten (deliveredIn s)) (payloadsFrom 0 qs) =
-    subst (λ (l : List Byte). Among l (payloadsFrom 0 qs)) (out .delivered-are)
-    (subst (Among (bytesOf (done delivered) (s .marks))) (kept-history delivers qs .seen) (fate-among (done delivered) (s .marks))) in
-    subst (λ (z : List (Carried ℕ)). MadeUnbroken z (splicesFrom 0 calls) (handed calls))
+    let secs : List (List Byte) = sectionsOf byJudge valueOf k (s .sections) in
+    let kept = kept-history byJudge qs in
+    let among : Among (flatten secs) (payloadsFrom 0 qs) =
+    subst (λ (l : List Byte). Among l (payloadsFrom 0 qs)) (kept .order k w .out)
+    (subst (Among (bytesOf (done k) (s .marks))) (kept .seen) (fate-among (done k) (s .marks))) in
+    subst (λ (z : List (Carried ℕ)). MadeUnbroken z (splicesFrom 0 calls) (map (map valueOf) secs))
     (sym (taken-by pid hold calls r hold′ x))
     (record {
-      made-of = deliveredIn s;
-      values-are = sym (out .sections-are);
+      made-of = secs;
+      values-are = refl;
       once-in-order = among;
-      unbroken = sections-each delivers valueOf delivered (Unbroken qs) (s .sections) (sections-unbroken delivers qs);
-      unmarked = sections-each delivers valueOf delivered (Unmarked (splicesFrom 0 calls)) (s .sections)
-          (sections-unmarked delivers qs (splicesFrom 0 calls)
+      unbroken = sections-each byJudge valueOf k (Unbroken qs) (s .sections) (sections-unbroken byJudge qs);
+      unmarked = sections-each byJudge valueOf k (Unmarked (splicesFrom 0 calls)) (s .sections)
+          (sections-unmarked byJudge qs (splicesFrom 0 calls)
           (splices-marked pid (length hold) noneBefore calls (by-packets-alone pid hold calls r hold′ x)));
     })
+
+pub no-section-spans : NoSectionSpans Promised
+no-section-spans pid hold calls r hold′ x =
+    subst (MadeUnbroken (saidTaken false calls) (splicesFrom 0 calls))
+    (sym (delivered-in-order pid hold calls r hold′ x .sections-are))
+    (unbroken-of accepted accepted-by-end pid hold calls r hold′ x)
+
+pub rejected-span-nothing : RejectedSpanNothing Promised
+rejected-span-nothing pid hold calls r hold′ x = unbroken-of rejected rejected-by-end pid hold calls r hold′ x
 
 -- ---- taken exactly if neither refused nor repeated, and refused exactly with the first row that applies
 

@@ -12,24 +12,25 @@ use Rattle.wire.specs.Each.{Each}
 use Rattle.wire.specs.Sections.{totalOf}
 use Rattle.copy.specs.Laid.{over}
 use Rattle.packet.specs.Ruling.{Before, noneBefore, Ruling, takes, ruling}
-use Rattle.collector.specs.Rules.{in-hand, done, Story, countOf, handOf, holding, plain, storyAfter, delivers}
+use Rattle.collector.specs.Rules.{in-hand, done, Story, countOf, handOf, holding, plain, storyAfter}
+use Rattle.collector.specs.Judged.{byJudge, deliveredOf}
 use Rattle.collector.specs.Refusals.{lastOf, beforeOf, cannotStand, tooSmall}
 use Rattle.packet.specs.Ruling as Ruled
 use Rattle.collector.specs.Answer.{Reply, refusedWith, repeated, taken, Outcome}
-use Rattle.collector.specs.Collected.{recordWith, freshRecord, outcomeOf, collected, deliveredOf}
+use Rattle.collector.specs.Collected.{recordWith, freshRecord, outcomeOf, collected}
 use Rattle.collector.specs.declared.Record.{Record}
 use Rattle.collector.specs.declared.Last.{Last}
 use Rattle.collector.specs.declared.Last.the-variants.{None, Counter}
 use Rattle.history.specs.History.{valueOf, History, historyOf}
 use Rattle.history.specs.Run.{Collector, Promised, Call, Input, inputOf, Run, no-call, one-call, Fare, fareOf, ruledFare, Lent, lentOf, rulingOn, beforeAfter, faresFrom, ruledTaken, beforeFrom, cut, handedBy, handed, bytesBy, toldBy}
 use Rattle.history.specs.Run as R
-use Rattle.history.specs.Demand3.{TakenCallByCall, RefusedIf, deliveredIn}
+use Rattle.history.specs.Demand3.{TakenCallByCall, RefusedIf, deliveredIn, numberIn}
 use Rattle.history.specs.Fixed.{RecordTells, BeyondStays, Asked, OnlyAsPromised, Agree}
 use Rattle.history.proofs.Agrees.{ran, agrees-fresh}
 use Rattle.history.proofs.FaresByTable.{fareNumber}
 use Rattle.history.proofs.FaresByTable as fares
 use Rattle.history.proofs.Demand1.{said-refused}
-use Rattle.history.proofs.Demand3.{refused-exactly-if, taken-exactly-if, counters-are-fates, delivered-in-order}
+use Rattle.history.proofs.Demand3.{refused-exactly-if, taken-exactly-if, counters-are-fates, delivered-in-order, kept-number}
 
 -- ---- fares
 
@@ -42,7 +43,8 @@ same-fare R.repeated R.repeated a b = refl
 same-fare R.repeated R.taken a b = b .1 refl
 
 -- "refused exactly if" and "taken exactly if" leave one fare for each packet
-fares-by : (pid size : ℕ) (before : Before) (ks : List Call) → Each (RefusedIf pid size) ks → TakenCallByCall pid size before ks
+fares-by : (pid size : ℕ) (before : Before) (ks : List Call) → Each (RefusedIf pid size) ks
+    → TakenCallByCall pid size before ks
     → map (λ k. fareOf (k .said)) ks ≡ faresFrom pid size before (map lentOf ks)
 fares-by pid size before [] a b = refl
 fares-by pid size before (k ∷ ks) a b =
@@ -70,30 +72,34 @@ last-in (Counter c) = refl
 
 abbrev recordIn : ℕ → Before → History → Record
 recordIn pid before h =
-    recordWith pid (lastIn (before .last)) (before .mark) (countOf in-hand (h .story .marks))
+    recordWith pid (lastIn (before .last)) (before .mark) (numberIn (h .story)) (countOf in-hand (h .story .marks))
     (λ k. countOf (done k) (h .story .marks) % 2 ^ 32)
 
 record Shown (pid : ℕ) (hold : List ℕ) (xs : List Lent) (ks : List Call) (r : Record) (hold′ : List ℕ) : Type 0 where
   fares-are : map (λ k. fareOf (k .said)) ks ≡ faresFrom pid (length hold) noneBefore xs
   sections-are : handed ks
-      ≡ map (map valueOf) (deliveredIn (historyOf delivers (ruledTaken pid (length hold) noneBefore xs) .story))
+      ≡ map (map valueOf) (deliveredIn (historyOf byJudge (ruledTaken pid (length hold) noneBefore xs) .story))
   record-is : r
       ≡ recordIn pid (beforeFrom pid (length hold) noneBefore xs)
-      (historyOf delivers (ruledTaken pid (length hold) noneBefore xs))
-  hand-is : take (r .in_hand) hold′ ≡ map valueOf (handOf (historyOf delivers (ruledTaken pid (length hold) noneBefore xs) .story))
+      (historyOf byJudge (ruledTaken pid (length hold) noneBefore xs))
+  hand-is : take (r .in_hand) hold′
+      ≡ map valueOf (handOf (historyOf byJudge (ruledTaken pid (length hold) noneBefore xs) .story))
 
 shown : (C : Collector) → Asked C → (pid : ℕ) (hold : List ℕ) (ks : List Call) (r : Record) (hold′ : List ℕ)
     → Run C (freshRecord pid) hold ks r hold′ → Shown pid hold (map lentOf ks) ks r hold′
 shown C a pid hold ks r hold′ x =
     let c = a .counters pid hold ks r hold′ x in
     let t = a .record-tells pid hold ks r hold′ x in
+    let number = a .number pid hold ks r hold′ x in
     let last : r .last ≡ lastIn (beforeFrom pid (length hold) noneBefore (map lentOf ks) .last) =
     sym (last-in (r .last)) ∙ ap (λ (b : Before). lastIn (b .last)) (t .1) in
     record {
       fares-are =
-          fares-by pid (length hold) noneBefore ks (a .refused-if pid hold ks r hold′ x) (a .taken-if pid hold ks r hold′ x);
+          fares-by pid (length hold) noneBefore ks (a .refused-if pid hold ks r hold′ x)
+          (a .taken-if pid hold ks r hold′ x);
       sections-are = a .delivered pid hold ks r hold′ x .sections-are;
-      record-is = λ i. recordWith (t .0 i) (last i) (t .1 i .mark) (c .in-hand-is i) (λ k. c .counters-are k i);
+      record-is = λ i. recordWith (t .0 i) (last i) (t .1 i .mark) (number i) (c .in-hand-is i)
+          (λ k. c .counters-are k i);
       hand-is = c .hold-is;
     }
 
@@ -109,17 +115,19 @@ stays-by r hold out (Ruled.refuses n) = (refl, refl)
 stays-by r hold out Ruled.repeated = (refl, refl)
 stays-by r hold out (Ruled.bare splice) = (refl, refl)
 stays-by r hold out (takes q) =
-    let s : Story ℕ = storyAfter delivers plain (beforeOf r .last) (holding (take (r .in_hand) hold)) q in
+    let s : Story ℕ = storyAfter byJudge plain (beforeOf r .last) (holding (take (r .in_hand) hold)) q in
     (behind-over (flatten (deliveredOf s)) out, behind-over (handOf s) hold)
 
 pub beyond-stays : BeyondStays Promised
 beyond-stays r hold out packet o x =
     subst (λ (y : Outcome). (drop (toldBy (y .said)) (y .out) ≡ drop (toldBy (y .said)) out)
     × (drop (y .rec .in_hand) (y .hold) ≡ drop (y .rec .in_hand) hold)) (sym x)
-    (stays-by r hold out (ruling (tooSmall (length hold) (length out)) (cannotStand r hold) (r .pid) (beforeOf r) packet))
+    (stays-by r hold out
+    (ruling (tooSmall (length hold) (length out)) (cannotStand r hold) (r .pid) (beforeOf r) packet))
 
 pub record-tells : RecordTells Promised
-record-tells pid hold calls r hold′ x = let g = ran x noneBefore _ (agrees-fresh pid hold) .agrees in (g .pid-is, g .before-is)
+record-tells pid hold calls r hold′ x =
+    let g = ran x noneBefore _ (agrees-fresh pid hold) .agrees in (g .pid-is, g .before-is)
 
 pub promise-keeps : Asked Promised
 promise-keeps = record {
@@ -127,6 +135,7 @@ promise-keeps = record {
   taken-if = taken-exactly-if;
   counters = counters-are-fates;
   delivered = delivered-in-order;
+  number = kept-number;
   record-tells = record-tells;
   beyond-stays = beyond-stays;
 }
@@ -223,7 +232,8 @@ module _ (C D : Collector) (a : Asked C) (b : Asked D) (pid : ℕ) (hold : List 
       let the-out : o .out ≡ o₂ .out =
       rebuilt (toldBy (o .said)) (o .out) out (stays .0) ∙ (λ i. front i ++ drop (told i) out)
       ∙ sym (rebuilt (toldBy (o₂ .said)) (o₂ .out) out (stays₂ .0)) in
-      let held : take (o .rec .in_hand) (o .hold) ≡ take (o₂ .rec .in_hand) (o₂ .hold) = u .hand-is ∙ sym (v .hand-is) in
+      let held : take (o .rec .in_hand) (o .hold) ≡ take (o₂ .rec .in_hand) (o₂ .hold) =
+      u .hand-is ∙ sym (v .hand-is) in
       let the-hold : o .hold ≡ o₂ .hold =
       rebuilt (o .rec .in_hand) (o .hold) hold₁ (stays .1) ∙ (λ i. held i ++ drop (the-record i .in_hand) hold₁)
       ∙ sym (rebuilt (o₂ .rec .in_hand) (o₂ .hold) hold₁ (stays₂ .1)) in

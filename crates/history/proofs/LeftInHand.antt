@@ -101,7 +101,8 @@ module _ (comes : List ℕ → Kind) (after : Mode) (ends : (s : Story ℕ) → 
         omega (arith, ap length hand, length-append (handOf s) (b ∷ [])),
         subst Standing (sym hand) (grows (handOf s) b (x .0) (x .1) e),
       )
-  in-grown k whole b s e x = ends (finished k (given in-hand b s)) (settled-hand (done k) refl (given in-hand b s .marks))
+  in-grown k whole b s e x =
+      ends (finished k (given in-hand b s)) (settled-hand (done k) refl (given in-hand b s .marks))
   in-grown k too-long b s e x = settled-hand (done broken) refl (given in-hand b s .marks)
 
   in-byte : (m : Mode) (b : ℕ) (s : Story ℕ) → In m s
@@ -115,7 +116,8 @@ module _ (comes : List ℕ → Kind) (after : Mode) (ends : (s : Story ℕ) → 
   in-stretch : (n : Next ℕ) (bs : List ℕ) → In (n .mode) (n .story)
       → In (stretch comes plain after n bs .mode) (stretch comes plain after n bs .story)
   in-stretch n [] x = x
-  in-stretch n (b ∷ bs) x = in-stretch (byteIn comes plain after (n .mode) b (n .story)) bs (in-byte (n .mode) b (n .story) x)
+  in-stretch n (b ∷ bs) x =
+      in-stretch (byteIn comes plain after (n .mode) b (n .story)) bs (in-byte (n .mode) b (n .story) x)
 
 -- ---- a packet
 
@@ -128,7 +130,8 @@ module _ (comes : List ℕ → Kind) where
   stands-goes s bs x =
       let n : Next ℕ = record { mode = resumed (handOf s); story = s } in
       let m : Next ℕ = stretch comes plain (outside filling) n bs in
-      in-stands (m .mode) (m .story) (in-stretch comes (outside filling) (λ z e. e) n bs (in-resumed s (handOf s) refl x))
+      in-stands (m .mode) (m .story)
+      (in-stretch comes (outside filling) (λ z e. e) n bs (in-resumed s (handOf s) refl x))
 
   stands-sections : (s : Story ℕ) (bs : List ℕ) → handOf s ≡ [] → Standing (handOf (sectionsIn comes plain s bs))
   stands-sections s bs x =
@@ -136,7 +139,8 @@ module _ (comes : List ℕ → Kind) where
       let m : Next ℕ = stretch comes plain begin n bs in
       in-stands (m .mode) (m .story) (in-stretch comes begin (λ z e. e) n bs x)
 
-  stands-payload : (t : Bool) (s : Story ℕ) (bs : List ℕ) → Standing (handOf s) → Standing (handOf (payload comes plain t s bs))
+  stands-payload : (t : Bool) (s : Story ℕ) (bs : List ℕ) → Standing (handOf s)
+      → Standing (handOf (payload comes plain t s bs))
   stands-payload false s bs x = stands-goes s bs x
   stands-payload true s [] x = x
   stands-payload true s (p ∷ bs) x =
@@ -151,7 +155,8 @@ module _ (comes : List ℕ → Kind) where
       → Standing (handOf (storyAfter comes plain last (holding h) q))
   stands-taken last h q x =
       stands-payload (q .start) (joined (joins last (q .spliced) (q .counter)) (holding h)) (q .bytes)
-      (stands-joined (joins last (q .spliced) (q .counter)) (holding h) (subst Standing (sym (bytesOf-marked in-hand in-hand h)) x))
+      (stands-joined (joins last (q .spliced) (q .counter)) (holding h)
+      (subst Standing (sym (bytesOf-marked in-hand in-hand h)) x))
 
 -- ---- the record
 
@@ -180,16 +185,20 @@ held-ok (b ∷ h) x rest =
         simp (lt-leb _ _ above, le-ltb _ _ below)
 
 pub stands-after : (r : Record) (c : ℕ) → r .last ≡ Counter c → c ≤ 15 → (h : List ℕ) → Standing h
-    → r .in_hand ≡ length h → (rest : List ℕ) → cannotStand r (h ++ rest) ≡ ltb 8191 (r .pid)
+    → r .in_hand ≡ length h → r .rejection ≤ 10 → (rest : List ℕ) → cannotStand r (h ++ rest) ≡ ltb 8191 (r .pid)
 unfolding cannotStand
-stands-after r c e k h x n rest =
+stands-after r c e k h x n m rest =
     let few : length h ≤ 4095 = omega (arith, few-standing h x) in
     ap (λ (l : Last). ltb 8191 (r .pid)
-    || (counterPast l || (ltb 4095 (r .in_hand) || heldUnfit (r .in_hand) (isNone l) (h ++ rest))))
+    || (counterPast l
+    || (ltb 10 (r .rejection) || (ltb 4095 (r .in_hand) || heldUnfit (r .in_hand) (isNone l) (h ++ rest)))))
     e
-    ∙ ap (λ (m : ℕ). ltb 8191 (r .pid) || (ltb 15 c || (ltb 4095 m || heldUnfit m false (h ++ rest)))) n
-    ∙ ap (λ (t : Bool). ltb 8191 (r .pid) || (t || (ltb 4095 (length h) || heldUnfit (length h) false (h ++ rest))))
+    ∙ ap (λ (t : Bool). ltb 8191 (r .pid)
+    || (t || (ltb 10 (r .rejection) || (ltb 4095 (r .in_hand) || heldUnfit (r .in_hand) false (h ++ rest)))))
     (le-ltb 15 c k)
+    ∙ ap (λ (t : Bool). ltb 8191 (r .pid) || (t || (ltb 4095 (r .in_hand) || heldUnfit (r .in_hand) false (h ++ rest))))
+    (le-ltb 10 (r .rejection) m)
+    ∙ ap (λ (m : ℕ). ltb 8191 (r .pid) || (ltb 4095 m || heldUnfit m false (h ++ rest))) n
     ∙ ap (λ (t : Bool). ltb 8191 (r .pid) || (t || heldUnfit (length h) false (h ++ rest))) (le-ltb 4095 (length h) few)
     ∙ ap (λ (t : Bool). ltb 8191 (r .pid) || t) (held-ok h x rest)
     ∙ or-none (ltb 8191 (r .pid))

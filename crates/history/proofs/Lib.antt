@@ -14,5 +14,8 @@ pub mod AtWork
 pub mod OtherEnds
 pub mod Promise
 pub mod Fixed
+pub mod FullSections
 pub mod OutRoom
+pub mod Judging
+pub mod Splits
 pub mod Tied

@@ -1,41 +1,52 @@
 -- One call hands out 4,278 bytes at most.
-use mathlib.Core.Path.{_≡_, refl, sym, ap, _∙_, subst}
+use mathlib.Core.Path.{_≡_, refl, ap, _∙_, subst}
 use mathlib.Core.Bool.{Bool, true, false}
 use mathlib.Core.List.{List, [], _∷_, _++_, append-nil, map, map-id, flatten}
 use mathlib.Core.Option.{Option}
-use Prim.Native.Nat.{ℕ, _≤_, _<_}
+use Prim.Native.Nat.{ℕ, _%_, _^_, _≤_, _<_}
 use native.Mathlib.Omega.{arith}
-use lib.ListN.{length, take, drop, replicate, length-append, length-take, length-drop}
+use lib.ListN.{length, take, drop, length-append, length-take, length-drop}
 use lib.Dec.{eqb}
 use Rattle.wire.specs.If.{if_then_else_}
+use Rattle.wire.proofs.IfLaws.{if-case}
 use Rattle.wire.specs.Each.{Each}
 use Rattle.packet.specs.Ruling.{markWith, joins, Carried, repeats, repeated, takes, loadOf, ruledBy}
 use Rattle.wire.specs.Sections.{WholeSection}
-use Rattle.collector.specs.Rules.{pointer, broken, done, in-hand, Story, bytesOf, sameKind, countOf, handOf, marked, given, brokenOff, finished, holding, Mode, begin, inside, outside, filling, Next, Size, going, whole, too-long, sizeOf, plain, begun, grown, resumed, joined, byteIn, stretch, goesOn, sectionsIn, payload, storyAfter, delivered, Kind, delivers}
+use Rattle.collector.specs.Rules.{pointer, broken, done, in-hand, Story, bytesOf, sameKind, countOf, handOf, marked, given, brokenOff, finished, holding, Mode, begin, inside, outside, filling, Next, Size, going, whole, too-long, sizeOf, plain, begun, grown, resumed, joined, byteIn, stretch, goesOn, sectionsIn, payload, storyAfter, sectionsOf, accepted, Kind}
+use Rattle.collector.specs.Judged.{kindSaid, byJudge, acceptedAmong, deliveredOf}
 use Rattle.packet.specs.Refusals.{Judged, refuse, has-payload, judged}
 use Rattle.collector.specs.Refusals.{beforeOf, cannotStand, tooSmall}
 use Rattle.packet.specs.Refusals as Refusals
+use Rattle.section.specs.Reading as Reading
+use Rattle.crc.specs.Crc.{crc}
+use Rattle.verdict.specs.Verdict.{Said}
+use Rattle.verdict.specs.Verdict as Verdict
 use Rattle.collector.specs.Answer.{Outcome}
 use Rattle.collector.specs.Collected.{outcomeOf}
 use Rattle.collector.specs.declared.Record.{Record}
 use Rattle.collector.proofs.MarkLaws.{bytesOf-more, bytesOf-marked, settled-hand, settled-other}
 use Rattle.collector.proofs.Simulation.{Beside, beside-sections}
-use Rattle.collector.proofs.Invariants.{keep-goes, keep-sections, keep-taken}
-use Rattle.collector.proofs.StoryLaws.{Any, Kept, keeps-kept, points-kept, kept-holding, keeps-points, counts-in, all-delivered, delivered-in}
+use Rattle.collector.proofs.Invariants.{keep-goes, keep-sections}
+use Rattle.collector.proofs.StoryLaws.{Any, keeps-points, counts-in, ended-in, sections-each}
+use Rattle.collector.proofs.Parted.{accepted-by-end, said-no-pointer}
 use Rattle.collector.proofs.PayloadLaws.{any, more-sections, beside-nothing}
 use Rattle.collector.proofs.Fits.{fit-of}
 use Rattle.history.specs.Run.{Promised, toldBy}
-use Rattle.history.specs.OutRoom.{AtMost, Reaches}
-use Rattle.history.proofs.Agrees.{whole-taken}
+use Rattle.history.specs.OutRoom.{AtMost, closed, longest, shorter, Reaches}
+use Rattle.history.proofs.Agrees.{kept-taken, whole-taken}
+use Rattle.history.proofs.FullSections.{longest-accepted, shorter-accepted}
 
 -- ---- with the start flag: the pointer byte is not handed out
 
 no-pointer : (t : Bool) (h : List ℕ) → countOf (done pointer) (joined t (holding h) .marks) ≡ 0
 no-pointer true h = ap length (bytesOf-marked (done pointer) in-hand h)
 no-pointer false h =
-    ap length (settled-other (done broken) (done pointer) refl refl (marked in-hand h) ∙ bytesOf-marked (done pointer) in-hand h)
+    ap length
+    (settled-other (done broken) (done pointer) refl refl (marked in-hand h)
+    ∙ bytesOf-marked (done pointer) in-hand h)
 
-one-pointer : (comes : List ℕ → Kind) → ((bs : List ℕ) → sameKind pointer (comes bs) ≡ false) → (s : Story ℕ) (p : ℕ) (bs : List ℕ)
+one-pointer : (comes : List ℕ → Kind) → ((bs : List ℕ) → sameKind pointer (comes bs) ≡ false)
+    → (s : Story ℕ) (p : ℕ) (bs : List ℕ)
     → countOf (done pointer) (s .marks) ≡ 0
     → countOf (done pointer) (payload comes plain true s (p ∷ bs) .marks) ≡ 1
 one-pointer comes none-points s p bs e =
@@ -48,7 +59,8 @@ one-pointer comes none-points s p bs e =
     let f : Story ℕ = goesOn comes plain (given (done pointer) p s) (take p bs) in
     let y = keep-goes comes plain Any _ (keeps-points comes plain none-points 1) [] (given (done pointer) p s)
     (take p bs) (any (take p bs)) first in
-    keep-sections comes plain Any _ (keeps-points comes plain none-points 1) [] (brokenOff f) (drop p bs) (any (drop p bs))
+    keep-sections comes plain Any _ (keeps-points comes plain none-points 1) [] (brokenOff f) (drop p bs)
+    (any (drop p bs))
     (keeps-points comes plain none-points 1 .breaks [] f y)
 
 -- ---- without it: at most one section ends
@@ -108,41 +120,50 @@ whole-most [] k x = omega arith
 whole-most (s ∷ []) k x = omega (arith, x .0 .exact, x .0 .limit, length-append s [])
 whole-most (s ∷ z ∷ secs) k x = absurd (omega arith)
 
--- ---- a packet, at today's value: what is handed out is every byte of the whole sections
+-- ---- a packet: the accepted sections are some of those that come whole
+
+fewer : (k : Kind) (secs : List (List ℕ)) → length (sectionsOf byJudge plain k secs) ≤ length secs
+fewer k [] = omega arith
+fewer k (s ∷ secs) =
+    if-case (λ (l : List (List ℕ)). length l ≤ length (s ∷ secs)) (sameKind k (byJudge (map plain s)))
+    (λ e. omega (arith, fewer k secs)) (λ e. omega (arith, fewer k secs))
 
 most-in : (last : Option ℕ) (h : List ℕ) (q : Carried ℕ) (start : Bool) (bs : List ℕ) → q .start ≡ start → q .bytes ≡ bs
     → length h ≤ 4095 → 0 < length bs → length bs ≤ 184
-    → length (flatten (storyAfter delivers plain last (holding h) q .sections)) ≤ 4278
+    → length (flatten (deliveredOf (storyAfter byJudge plain last (holding h) q))) ≤ 4278
 most-in last h q false bs e w few some long =
-    let one : length (storyAfter delivers plain last (holding h) q .sections) ≤ 1 =
+    let s : Story ℕ = storyAfter byJudge plain last (holding h) q in
+    let one : length (s .sections) ≤ 1 =
     rw e
-    (one-goes delivers (joined (joins last (q .spliced) (q .counter)) (holding h)) (q .bytes)
+    (one-goes byJudge (joined (joins last (q .spliced) (q .counter)) (holding h)) (q .bytes)
     (none-yet (joins last (q .spliced) (q .counter)) h)) in
-    omega (arith, whole-most (storyAfter delivers plain last (holding h) q .sections) one (whole-taken delivers last h q))
+    let fits = whole-most (deliveredOf s) (omega (arith, one, fewer accepted (s .sections)))
+    (sections-each byJudge plain accepted WholeSection (s .sections) (whole-taken byJudge last h q)) in
+    omega (arith, fits)
 most-in last h q true [] e w few some long = absurd (omega arith)
 most-in last h q true (p ∷ bs) e w few some long =
-    let s : Story ℕ = storyAfter delivers plain last (holding h) q in
-    let kept = keep-taken delivers plain Any (Kept delivers plain) (keeps-kept delivers plain)
-    (points-kept delivers plain) last h (holding h) q
-    (any (q .bytes)) (kept-holding delivers plain h) in
+    let s : Story ℕ = storyAfter byJudge plain last (holding h) q in
+    let kept = kept-taken byJudge last h q in
     let point : countOf (done pointer) (s .marks) ≡ 1 =
     rw (e, w)
-    (one-pointer delivers (λ l. refl) (joined (joins last (q .spliced) (q .counter)) (holding h)) p bs
+    (one-pointer byJudge (λ l. said-no-pointer (Reading.judged l))
+    (joined (joins last (q .spliced) (q .counter)) (holding h)) p bs
     (no-pointer (joins last (q .spliced) (q .counter)) h)) in
     omega (
       arith,
-      counts-in delivers plain (h ++ q .bytes) s kept,
-      delivered-in plain (h ++ q .bytes) s kept,
+      counts-in byJudge plain (h ++ q .bytes) s kept,
+      ended-in byJudge plain accepted accepted-by-end (h ++ q .bytes) s kept,
       length-append h (q .bytes),
       ap length w,
       point,
     )
 
 most-ruled : (r : Record) (hold out : List ℕ) (q : Carried ℕ) (t : Bool)
-    → length (flatten (storyAfter delivers plain (beforeOf r .last) (holding (take (r .in_hand) hold)) q .sections)) ≤ 4278
+    → length (flatten (deliveredOf (storyAfter byJudge plain (beforeOf r .last) (holding (take (r .in_hand) hold)) q)))
+    ≤ 4278
     → toldBy (outcomeOf r hold out (if t then repeated else takes q) .said) ≤ 4278
 most-ruled r hold out q true x = omega arith
-most-ruled r hold out q false x = subst (λ (l : List (List ℕ)). length (flatten l) ≤ 4278) (sym (all-delivered plain _)) x
+most-ruled r hold out q false x = x
 
 most-judged : (r : Record) (hold out packet : List ℕ) (j : Judged)
     → judged (tooSmall (length hold) (length out)) (cannotStand r hold) (r .pid) packet ≡ j
@@ -160,7 +181,8 @@ most-judged r hold out packet (has-payload from start counter splice) e =
 
 pub at-most-4278 : AtMost 4278 Promised
 at-most-4278 r hold out packet o x =
-    let most = most-judged r hold out packet (judged (tooSmall (length hold) (length out)) (cannotStand r hold) (r .pid) packet)
+    let most = most-judged r hold out packet
+    (judged (tooSmall (length hold) (length out)) (cannotStand r hold) (r .pid) packet)
     refl in
     let same : toldBy (o .said) ≡ _ = ap (λ (y : Outcome). toldBy (y .said)) x in
     omega (arith, most, same)
@@ -181,65 +203,81 @@ module _ (h : List ℕ) (b c : ℕ) (tail : List ℕ) (e : sizeOf (c ∷ h ++ (b
       ∙ append-nil (handOf (holding hand))
       ∙ bytesOf-marked in-hand in-hand hand
 
-  ended : goesOn delivers plain pointed (b ∷ []) ≡ finished delivered (given in-hand b pointed)
+  abbrev comes-to : Kind
+  comes-to = byJudge (map plain (handOf pointed ++ (b ∷ [])))
+
+  ended : goesOn byJudge plain pointed (b ∷ []) ≡ finished comes-to (given in-hand b pointed)
   ended =
-      ap (λ (m : Mode). byteIn delivers plain (outside filling) m b pointed .story) (ap resumed hand-is)
-      ∙ ap (λ (z : Size). grown (outside filling) delivered z (given in-hand b pointed) .story)
+      ap (λ (m : Mode). byteIn byJudge plain (outside filling) m b pointed .story) (ap resumed hand-is)
+      ∙ ap (λ (z : Size). grown (outside filling) comes-to z (given in-hand b pointed) .story)
       (ap sizeOf (map-id (handOf pointed ++ (b ∷ [])) ∙ ap (λ (l : List ℕ). l ++ (b ∷ [])) hand-is) ∙ e)
 
   abbrev settled-story : Story ℕ
-  settled-story = brokenOff (finished delivered (given in-hand b pointed))
+  settled-story = brokenOff (finished comes-to (given in-hand b pointed))
 
   first-out : handOf (given in-hand b pointed) ≡ hand ++ (b ∷ [])
   first-out = bytesOf-more in-hand in-hand (pointed .marks) (b ∷ []) ∙ ap (λ (l : List ℕ). l ++ (b ∷ [])) hand-is
 
   -- what follows is told beside it
   beside-tail : Beside plain (λ f. countOf f (settled-story .marks)) (settled-story .sections)
-      (sectionsIn delivers plain (holding []) tail) (sectionsIn delivers plain settled-story tail)
+      (sectionsIn byJudge plain (holding []) tail) (sectionsIn byJudge plain settled-story tail)
   beside-tail =
       subst
       (λ (l : List ℕ). Beside plain (λ f. countOf f (settled-story .marks)) (settled-story .sections)
-      (sectionsIn delivers plain (holding []) l) (sectionsIn delivers plain settled-story tail))
+      (sectionsIn byJudge plain (holding []) l) (sectionsIn byJudge plain settled-story tail))
       (map-id tail)
-      (beside-sections delivers plain _ _ (holding []) settled-story tail
-      (beside-nothing settled-story (settled-hand (done broken) refl (finished delivered (given in-hand b pointed) .marks))))
+      (beside-sections byJudge plain _ _ (holding []) settled-story tail
+      (beside-nothing settled-story
+      (settled-hand (done broken) refl (finished comes-to (given in-hand b pointed) .marks))))
 
-  all-out : payload delivers plain true (holding hand) (1 ∷ b ∷ tail) .sections
-      ≡ (hand ++ (b ∷ [])) ∷ sectionsIn delivers plain (holding []) tail .sections
+  all-out : payload byJudge plain true (holding hand) (1 ∷ b ∷ tail) .sections
+      ≡ (hand ++ (b ∷ [])) ∷ sectionsIn byJudge plain (holding []) tail .sections
   all-out =
-      ap (λ (s : Story ℕ). sectionsIn delivers plain (brokenOff s) tail .sections) ended
+      ap (λ (s : Story ℕ). sectionsIn byJudge plain (brokenOff s) tail .sections) ended
       ∙ more-sections beside-tail
-      ∙ ap (λ (l : List ℕ). l ∷ sectionsIn delivers plain (holding []) tail .sections) first-out
+      ∙ ap (λ (l : List ℕ). l ∷ sectionsIn byJudge plain (holding []) tail .sections) first-out
 
--- the section in hand, and the one behind the pointer's target
+both-accepted : (a c : List ℕ) → Reading.judged a ≡ Verdict.accepted → Reading.judged c ≡ Verdict.accepted
+    → acceptedAmong (a ∷ c ∷ []) ≡ a ∷ c ∷ []
+both-accepted a c e w =
+    ap (λ (v : Said). among (kindSaid v) (byJudge (map plain c))) (ap Reading.judged (map-id a) ∙ e)
+    ∙ ap (λ (v : Said). among accepted (kindSaid v)) (ap Reading.judged (map-id c) ∙ w)
+  where
+    among : Kind → Kind → List (List ℕ)
+    among j k =
+        let rest : List (List ℕ) = if sameKind accepted k then c ∷ [] else [] in
+        if sameKind accepted j then a ∷ rest else rest
+
+-- the section in hand but its last byte
 held : List ℕ
-held = 0x7F ∷ 0xFD ∷ take 4092 (replicate 4093 0)
+held = take 4094 (drop 1 (closed longest))
 
-behind : List ℕ
-behind = 0x70 ∷ 0x70 ∷ 179 ∷ replicate 179 0
+last : ℕ
+last = crc longest % 2 ^ 8
 
-ends-there : sizeOf (0x70 ∷ held ++ (0 ∷ [])) ≡ whole
-unfolding sizeOf held
+one-long : 0x50 ∷ held ++ (last ∷ []) ≡ closed longest
+unfolding held last flatten
+one-long = refl
+
+ends-there : sizeOf (0x50 ∷ held ++ (last ∷ [])) ≡ whole
+unfolding sizeOf held flatten
 ends-there = refl
 
-follows-it : length (flatten (sectionsIn delivers plain (holding []) behind .sections)) ≡ 182
-unfolding sizeOf behind flatten
+follows-it : sectionsIn byJudge plain (holding []) (closed shorter) .sections ≡ closed shorter ∷ []
+unfolding sizeOf
 follows-it = refl
 
-held-long : length (0x70 ∷ held ++ (0 ∷ [])) ≡ 4096
-unfolding held
-held-long = refl
-
-both-long : (a : List ℕ) (secs : List (List ℕ)) → length a ≡ 4096 → length (flatten secs) ≡ 182
-    → length (flatten (a ∷ secs)) ≡ 4278
-unfolding flatten
-both-long a secs e w = omega (arith, length-append a (flatten secs))
-
-all-told : length (flatten (payload delivers plain true (holding (0x70 ∷ held)) (1 ∷ 0 ∷ behind) .sections)) ≡ 4278
+all-told : deliveredOf (payload byJudge plain true (holding (0x50 ∷ held)) (1 ∷ last ∷ closed shorter))
+    ≡ closed longest ∷ closed shorter ∷ []
 all-told =
-    ap (λ (l : List (List ℕ)). length (flatten l)) (all-out held 0 0x70 behind ends-there)
-    ∙ both-long _ _ held-long follows-it
+    ap acceptedAmong
+    (all-out held last 0x50 (closed shorter) ends-there ∙ λ i. one-long i ∷ follows-it i)
+    ∙ both-accepted (closed longest) (closed shorter) longest-accepted shorter-accepted
+
+long : length (flatten (closed longest ∷ closed shorter ∷ [])) ≡ 4278
+unfolding flatten
+long = refl
 
 pub reached : Reaches 4278
-unfolding judged cannotStand joins repeats held behind
-reached = ap (λ (l : List (List ℕ)). length (flatten l)) (all-delivered plain _) ∙ all-told
+unfolding judged cannotStand joins repeats held last flatten
+reached = ap (λ (l : List (List ℕ)). length (flatten l)) all-told ∙ long

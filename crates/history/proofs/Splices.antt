@@ -17,11 +17,12 @@ use Rattle.packet.specs.Refusals.{Row, refusals, has-payload, judgedBy, judged}
 use Rattle.packet.specs.Ruling.{markWith, repeats, joins, Ruling, takes, ruledBy}
 use Rattle.packet.specs.Ruling as Ruled
 use Rattle.packet.proofs.Table.{or-false, all-passed}
-use Rattle.collector.specs.Refusals.{beforeOf, cannotStand, tooSmall}
-use Rattle.collector.specs.Rules.{Kind, pointer, delivered, broken, filler, skipped, byKind, done, Story, sameKind, countOf, handOf, holding, joined, plain, sectionsOf, payload, delivers}
+use Rattle.collector.specs.Refusals.{beforeOf, counterPast, cannotStand, tooSmall}
+use Rattle.collector.specs.Rules.{Kind, pointer, accepted, rejected, broken, filler, skipped, byKind, done, Story, sameKind, countOf, handOf, holding, joined, plain, payload}
+use Rattle.collector.specs.Judged.{byJudge, deliveredOf, rejectedOf, lastNumber, acceptedAmong, rejectedAmong}
 use Rattle.collector.specs.Answer.{Outcome, repeated, taken}
 use Rattle.collector.specs.Answer as Answer
-use Rattle.collector.specs.Collected.{bytesCounted, recordWith, unaltered, markedBy, outcomeAfter, outcomeOf, collected, deliveredOf}
+use Rattle.collector.specs.Collected.{bytesCounted, recordWith, unaltered, markedBy, outcomeAfter, outcomeOf, collected}
 use Rattle.collector.specs.declared.Record.{Record}
 use Rattle.collector.specs.declared.Last.the-variants.{Counter}
 use Rattle.collector.proofs.Fits.{few-held}
@@ -82,7 +83,9 @@ module _ (r : Record) (hold out p : List ℕ) (w : NotRefused r hold out p) wher
 
   is-ruled : collected r hold out p ≡ outcomeOf r hold out (ruled (eqb (control p) 2))
   unfolding judged
-  is-ruled = ap (λ o. outcomeOf r hold out (ruledBy (beforeOf r) p (judgedBy o p))) (all-passed (refusals small unfit (r .pid) p) w)
+  is-ruled =
+      ap (λ o. outcomeOf r hold out (ruledBy (beforeOf r) p (judgedBy o p)))
+      (all-passed (refusals small unfit (r .pid) p) w)
 
   bare-is : control p ≡ 2 → collected r hold out p ≡ unaltered (markedBy (discontinuity p) r) hold out (taken 0 0)
   bare-is e = is-ruled ∙ ap (λ (t : Bool). outcomeOf r hold out (ruled t)) (eq-eqb _ _ e)
@@ -98,7 +101,9 @@ bare-sets-the-mark r hold out p o x w e =
     let mark : o .rec .mark ≡ markWith (beforeOf r) (discontinuity p) = ap (λ (y : Outcome). y .rec .mark) is in
     let m = marked-exactly r p in (
       (λ s. m .0 (sym mark ∙ s), λ s. mark ∙ m .1 s),
-      is ∙ ap (λ (t : Bool). unaltered (recordWith (r .pid) (r .last) t (r .in_hand) (λ k. bytesCounted (done k) r)) hold out (taken 0 0))
+      is ∙ ap (λ (t : Bool). unaltered
+          (recordWith (r .pid) (r .last) t (r .rejection) (r .in_hand) (λ k. bytesCounted (done k) r)) hold out
+          (taken 0 0))
           (sym mark),
     )
 
@@ -143,20 +148,25 @@ repeated-unaltered r hold out p o x e =
 
 -- ---- what is in hand is broken off
 
--- of a record without counter, mark and bytes in hand 43 has the PID alone
+-- of a record without counter, mark and bytes in hand 43 has the PID and the rejection's number alone
 anew-stands : (r : Record) (hold : List ℕ) → cannotStand r hold ≡ false → cannotStand (anew r) hold ≡ false
 unfolding cannotStand
-anew-stands r hold e = ap (λ (t : Bool). t || false) (or-false (ltb 8191 (r .pid)) _ e .0)
+anew-stands r hold e =
+    let p = or-false (ltb 8191 (r .pid)) _ e in
+    let c = or-false (counterPast (r .last)) _ (p .1) in
+    let n = or-false (ltb 10 (r .rejection)) _ (c .1) in
+    λ i. p .0 i || (n .0 i || false)
 
 anew-passes : (r : Record) (hold out p : List ℕ) → NotRefused r hold out p → NotRefused (anew r) hold out p
 anew-passes r hold out p w =
     let e = w .1 .1 .0 in
-    subst (λ (t : Bool). Each (λ (row : Row). row .applies ≡ false) (refusals (tooSmall (length hold) (length out)) t (r .pid) p))
+    subst (λ (t : Bool). Each (λ (row : Row). row .applies ≡ false)
+    (refusals (tooSmall (length hold) (length out)) t (r .pid) p))
     (e ∙ sym (anew-stands r hold e)) w
 
 -- the story of the payload, as what is in hand goes on in it or not
 abbrev storyIf : Bool → List ℕ → List ℕ → Story ℕ
-storyIf next h p = payload delivers plain (startFlag p) (joined next (holding h)) (payloadOf p)
+storyIf next h p = payload byJudge plain (startFlag p) (joined next (holding h)) (payloadOf p)
 
 -- with nothing in hand, no counter and no mark, whatever the packet's own bit is
 anew-is : (r : Record) (hold out p : List ℕ) → NotRefused r hold out p → (control p ≡ 2 → ⊥)
@@ -191,7 +201,7 @@ module _ (r : Record) (hold out p : List ℕ) (few : r .in_hand ≤ length hold)
   s = storyIf true [] p
 
   b : Beside plain (lost (length (take (r .in_hand) hold))) [] s S
-  b = beside-break delivers (startFlag p) (take (r .in_hand) hold) (payloadOf p)
+  b = beside-break byJudge (startFlag p) (take (r .in_hand) hold) (payloadOf p)
 
   long : length (take (r .in_hand) hold) ≡ r .in_hand
   long = length-take-le (r .in_hand) hold few
@@ -204,19 +214,25 @@ module _ (r : Record) (hold out p : List ℕ) (few : r .in_hand ≤ length hold)
 
   counts : (k : Kind) → Counts k
   counts =
-      byKind Counts (λ n. omega (arith, b .counts (done pointer) refl)) (λ n. omega (arith, b .counts (done delivered) refl))
+      byKind Counts (λ n. omega (arith, b .counts (done pointer) refl))
+      (λ n. omega (arith, b .counts (done accepted) refl))
+      (λ n. omega (arith, b .counts (done rejected) refl))
       (λ n. omega (arith, b .counts (done broken) refl, long)) (λ n. omega (arith, b .counts (done filler) refl))
       (λ n. omega (arith, b .counts (done skipped) refl))
 
   abbrev r₂ : Record
   r₂ = outcomeAfter (anew r) hold out (counterOf p) s .rec
 
-  breaks-off : outcomeAfter r hold out (counterOf p) S ≡ breakingOff (r .in_hand) (outcomeAfter (anew r) hold out (counterOf p) s)
+  breaks-off : outcomeAfter r hold out (counterOf p) S
+      ≡ breakingOff (r .in_hand) (outcomeAfter (anew r) hold out (counterOf p) s)
   breaks-off =
       let hand : handOf S ≡ handOf s = same-hand b in
-      let secs : deliveredOf S ≡ deliveredOf s = ap (sectionsOf delivers plain delivered) (more-sections b) in
+      let secs : deliveredOf S ≡ deliveredOf s = ap acceptedAmong (more-sections b) in
+      let others : rejectedOf S ≡ rejectedOf s = ap rejectedAmong (more-sections b) in
       λ i. record {
-        rec = recordWith (r .pid) (Counter (counterOf p)) false (length (hand i)) (λ k. the-counts k i);
+        rec =
+            recordWith (r .pid) (Counter (counterOf p)) false (lastNumber (r .rejection) (others i)) (length (hand i))
+            (λ k. the-counts k i);
         hold = over (hand i) hold;
         out = over (flatten (secs i)) out;
         said = Answer.taken (length (secs i)) (length (flatten (secs i)));
@@ -227,7 +243,8 @@ module _ (r : Record) (hold out p : List ℕ) (few : r .in_hand ≤ length hold)
       the-counts =
           byKind (λ k. (bytesCounted (done k) r + countOf (done k) (S .marks)) % 2 ^ 32
           ≡ (if sameKind k broken then (bytesCounted (done k) r₂ + r .in_hand) % 2 ^ 32 else bytesCounted (done k) r₂))
-          (counts pointer (r .pointer)) (counts delivered (r .delivered)) (counts broken (r .broken))
+          (counts pointer (r .pointer)) (counts accepted (r .accepted)) (counts rejected (r .rejected))
+          (counts broken (r .broken))
           (counts filler (r .filler)) (counts skipped (r .skipped))
 
 pub marked-breaks-off : MarkedBreaksOff Promised

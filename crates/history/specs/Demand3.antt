@@ -9,7 +9,8 @@ use lib.Dec.{ltb}
 use Rattle.wire.specs.Each.{Each}
 use Rattle.packet.specs.Ruling.{Before, noneBefore, Carried}
 use Rattle.collector.specs.Refusals.{tooSmall}
-use Rattle.collector.specs.Rules.{Kind, delivered, in-hand, done, sumOf, Mark, Story, bytesOf, countOf, handOf, sectionsOf, delivers}
+use Rattle.collector.specs.Rules.{Kind, accepted, rejected, in-hand, done, sumOf, Mark, Story, bytesOf, countOf, handOf, sectionsOf}
+use Rattle.collector.specs.Judged.{byJudge, lastNumber}
 use Rattle.packet.specs.Refusals.{refusals}
 use Rattle.collector.specs.Answer.{refusedWith}
 use Rattle.collector.specs.Collected.{bytesCounted, freshRecord}
@@ -36,33 +37,42 @@ abbrev pub takenByRule : ℕ → List ℕ → List Call → List (Carried ℕ)
 takenByRule pid hold calls = ruledTaken pid (length hold) noneBefore (map lentOf calls)
 
 abbrev pub storyBy : ℕ → List ℕ → List Call → Story Byte
-storyBy pid hold calls = historyOf delivers (takenByRule pid hold calls) .story
+storyBy pid hold calls = historyOf byJudge (takenByRule pid hold calls) .story
 
--- "Modulo 2^32 the five counters equal the bytes of each fate"; the bytes in hand are those whose fate this is, at the
+-- "Modulo 2^32 the six counters equal the bytes of each fate"; the bytes in hand are those whose fate this is, at the
 -- start of the hold
 pub record Counted (r : Record) (hold : List ℕ) (s : Story Byte) : Type 0 where
   pub counters-are : (k : Kind) → bytesCounted (done k) r ≡ countOf (done k) (s .marks) % 2 ^ 32
   pub in-hand-is : r .in_hand ≡ countOf in-hand (s .marks)
   pub hold-is : take (r .in_hand) hold ≡ map valueOf (handOf s)
 
--- "every payload byte of the packets taken so far has one fate": there is one mark for each, the delivered ones are the
+-- "every payload byte of the packets taken so far has one fate": there is one mark for each, the accepted ones are the
 -- bytes handed out, and those in hand stand in the hold
 pub record Fated (calls : List Call) (r : Record) (hold : List ℕ) (marks : List (Mark Byte)) : Type 0 where
   pub one-each : map (λ m. m .byte) marks ≡ payloadsFrom 0 (saidTaken false calls)
-  pub handed-are : flatten (handed calls) ≡ map valueOf (bytesOf (done delivered) marks)
+  pub handed-are : flatten (handed calls) ≡ map valueOf (bytesOf (done accepted) marks)
   pub held-are : take (r .in_hand) hold ≡ map valueOf (bytesOf in-hand marks)
 
--- the sections delivered
+-- the sections delivered, which the judge accepts, and those that it rejects
 abbrev pub deliveredIn : Story Byte → List (List Byte)
-deliveredIn s = sectionsOf delivers valueOf delivered (s .sections)
+deliveredIn s = sectionsOf byJudge valueOf accepted (s .sections)
 
--- "Delivered bytes come out once, in order": what the calls hand out, cut at the sections' own headers, are the
--- delivered sections, and the bytes that each answer speaks of are those of its sections, as many as it says
+abbrev pub rejectedIn : Story Byte → List (List Byte)
+rejectedIn s = sectionsOf byJudge valueOf rejected (s .sections)
+
+-- the number of the last section rejected, 0 where none was
+abbrev pub numberIn : Story Byte → ℕ
+numberIn s = lastNumber 0 (map (map valueOf) (rejectedIn s))
+
+-- "Delivered bytes come out once, in order", and "delivered bytes are the accepted ones": what the calls hand out, cut at
+-- the sections' own headers, are the delivered sections, and the bytes that each answer speaks of are those of its
+-- sections, as many as it says
 pub record HandedOut (calls : List Call) (s : Story Byte) : Type 0 where
   pub sections-are : handed calls ≡ map (map valueOf) (deliveredIn s)
   pub bytes-are : Each (λ k. flatten (handedBy (k .said) (k .out′)) ≡ bytesBy (k .said) (k .out′)) calls
   pub told-are : Each (λ k. length (flatten (handedBy (k .said) (k .out′))) ≡ toldBy (k .said)) calls
-  pub delivered-are : bytesOf (done delivered) (s .marks) ≡ flatten (deliveredIn s)
+  pub delivered-are : bytesOf (done accepted) (s .marks) ≡ flatten (deliveredIn s)
+  pub rejected-are : bytesOf (done rejected) (s .marks) ≡ flatten (rejectedIn s)
 
 -- "no delivered section spans a break .. or a mark": sections that are made of payload bytes of these packets, each byte
 -- once and in order, and no two bytes of one section have a break or a splice between them
@@ -117,3 +127,12 @@ module _ (C : Collector) where
   -- mark"
   abbrev pub NoSectionSpans : Type 0
   NoSectionSpans = OverRuns (λ pid hold calls r hold′. MadeUnbroken (saidTaken false calls) (splicesFrom 0 calls) (handed calls))
+
+  -- nor does one that is rejected
+  abbrev pub RejectedSpanNothing : Type 0
+  RejectedSpanNothing = OverRuns (λ pid hold calls r hold′.
+      MadeUnbroken (saidTaken false calls) (splicesFrom 0 calls) (map (map valueOf) (rejectedIn (storyBy pid hold calls))))
+
+  -- "A rejected section's number is kept in the record, the last one only, 0 at first"
+  abbrev pub KeptNumber : Type 0
+  KeptNumber = OverRuns (λ pid hold calls r hold′. r .rejection ≡ numberIn (storyBy pid hold calls))

@@ -10,11 +10,11 @@ use Rattle.collector.specs.Answer.{Outcome}
 use Rattle.collector.specs.Collected.{freshRecord}
 use Rattle.collector.specs.declared.Record.{Record}
 use Rattle.history.specs.Run.{Collector, Promised, Call, inputOf, Run, lentOf, beforeFrom, toldBy}
-use Rattle.history.specs.Demand3.{OverRuns, RefusedExactlyIf, TakenExactlyIf, CountersAreFates, DeliveredInOrder}
+use Rattle.history.specs.Demand3.{OverRuns, RefusedExactlyIf, TakenExactlyIf, CountersAreFates, DeliveredInOrder, KeptNumber}
 
 module _ (C : Collector) where
-  -- "It has the PID, the last counter or none, the bytes in hand, five 32-bit counters", and the mark: the PID, the
-  -- counter and the mark, by the packets and the rooms' sizes alone
+  -- "It has the PID, the last counter or none, the bytes in hand", six "32-bit counters", the mark and the number of the
+  -- last rejected section: the PID, the counter and the mark, by the packets and the rooms' sizes alone
   abbrev pub RecordTells : Type 0
   RecordTells = OverRuns C (λ pid hold calls r hold′.
       (r .pid ≡ pid) × (beforeOf r ≡ beforeFrom pid (length hold) noneBefore (map lentOf calls)))
@@ -30,6 +30,7 @@ module _ (C : Collector) where
     pub taken-if : TakenExactlyIf C
     pub counters : CountersAreFates C
     pub delivered : DeliveredInOrder C
+    pub number : KeptNumber C
     pub record-tells : RecordTells
     pub beyond-stays : BeyondStays
 

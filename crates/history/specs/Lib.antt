@@ -1,5 +1,5 @@
--- The statements of demands 1 and 3 about a collector, that they leave one, the wrong ones that they shut out, and
--- stories of packets.
+-- The statements of demands 1 and 3 about a collector, with those of requests (viii) and (ix), that they leave one, the
+-- wrong ones that they shut out, and stories of packets.
 pub mod History
 pub mod Run
 pub mod Demand1
@@ -7,6 +7,8 @@ pub mod Demand3
 pub mod Splices
 pub mod Fixed
 pub mod OutRoom
+pub mod Judging
+pub mod Splits
 pub mod WrongCollectors
 pub mod AtWork
 pub mod OtherEnds

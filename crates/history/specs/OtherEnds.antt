@@ -1,5 +1,5 @@
--- What a whole section comes to is a parameter of the rules: here a second value of it, by which sections of an even length are delivered and
--- the others broken off. A story that has both kinds, and what holds of any packets by the same laws.
+-- What a whole section comes to is a parameter of the rules: here a second value of it, by which sections of an even length are accepted and
+-- the others rejected. A story that has both kinds, and what holds of any packets by the same laws.
 use mathlib.Core.Path.{_≡_}
 use mathlib.Core.Bool.{true, false}
 use mathlib.Core.List.{List, [], _∷_, _++_, map, flatten}
@@ -9,19 +9,19 @@ use lib.Dec.{eqb}
 use Rattle.wire.specs.If.{if_then_else_}
 use Rattle.wire.specs.Each.{Each}
 use Rattle.packet.specs.Ruling.{Carried}
-use Rattle.collector.specs.Rules.{Kind, pointer, delivered, broken, filler, done, sumOf, Story, bytesOf, countOf, sectionsOf}
+use Rattle.collector.specs.Rules.{Kind, pointer, accepted, rejected, filler, done, sumOf, Story, bytesOf, countOf, sectionsOf}
 use Rattle.history.specs.History.{Byte, valueOf, historyOf, payloadsFrom, Unbroken}
 use Rattle.history.specs.AtWork.{tdt}
 
-abbrev pub evenDelivered : List ℕ → Kind
-evenDelivered s = if eqb (length s % 2) 0 then delivered else broken
+abbrev pub evenAccepted : List ℕ → Kind
+evenAccepted s = if eqb (length s % 2) 0 then accepted else rejected
 
 abbrev pub storyOf : List (Carried ℕ) → Story Byte
-storyOf qs = historyOf evenDelivered qs .story
+storyOf qs = historyOf evenAccepted qs .story
 
 -- the whole sections of a kind, by their bytes' values
 abbrev pub valuesOf : Kind → Story Byte → List (List ℕ)
-valuesOf k s = map (map valueOf) (sectionsOf evenDelivered valueOf k (s .sections))
+valuesOf k s = map (map valueOf) (sectionsOf evenAccepted valueOf k (s .sections))
 
 -- ---- a story
 
@@ -35,15 +35,18 @@ two-packets =
 pub record BothKinds : Type 0 where
   pub fates : map (λ m. m .fate) (storyOf two-packets .marks)
       ≡ done pointer
-      ∷ replicate 8 (done delivered)
-      ++ (replicate 3 (done broken) ++ (replicate 4 (done delivered) ++ (done filler ∷ [])))
-  pub even : valuesOf delivered (storyOf two-packets) ≡ tdt ∷ (0x70 ∷ 0x70 ∷ 0x01 ∷ 0xAA ∷ []) ∷ []
+      ∷ replicate 8 (done accepted)
+      ++ (replicate 3 (done rejected) ++ (replicate 4 (done accepted) ++ (done filler ∷ [])))
+  pub even : valuesOf accepted (storyOf two-packets) ≡ tdt ∷ (0x70 ∷ 0x70 ∷ 0x01 ∷ 0xAA ∷ []) ∷ []
+  pub odd : valuesOf rejected (storyOf two-packets) ≡ (0x70 ∷ 0x70 ∷ 0x00 ∷ []) ∷ []
 
 -- ---- whatever the packets
 
 pub record StillHolds (qs : List (Carried ℕ)) : Type 0 where
   pub one-each : map (λ m. m .byte) (storyOf qs .marks) ≡ payloadsFrom 0 qs
   pub make-up : sumOf (λ f. countOf f (storyOf qs .marks)) ≡ length (payloadsFrom 0 qs)
-  pub in-order : bytesOf (done delivered) (storyOf qs .marks)
-      ≡ flatten (sectionsOf evenDelivered valueOf delivered (storyOf qs .sections))
+  pub in-order : bytesOf (done accepted) (storyOf qs .marks)
+      ≡ flatten (sectionsOf evenAccepted valueOf accepted (storyOf qs .sections))
+  pub others-too : bytesOf (done rejected) (storyOf qs .marks)
+      ≡ flatten (sectionsOf evenAccepted valueOf rejected (storyOf qs .sections))
   pub unbroken : Each (Unbroken qs) (storyOf qs .sections)

@@ -3,9 +3,10 @@
 -- than 4,096.
 use mathlib.Core.Path.{_≡_}
 use mathlib.Core.Bool.{false}
-use mathlib.Core.List.{List, _∷_}
-use Prim.Native.Nat.{ℕ, _≤_}
+use mathlib.Core.List.{List, _∷_, _++_, flatten}
+use Prim.Native.Nat.{ℕ, _%_, _^_, _≤_}
 use lib.ListN.{replicate}
+use Rattle.crc.specs.Crc.{crc, bytesOf}
 use Rattle.collector.specs.Answer.{Outcome}
 use Rattle.collector.specs.Collected.{recordWith, collected}
 use Rattle.collector.specs.declared.Record.{Record}
@@ -17,15 +18,26 @@ abbrev pub AtMost : ℕ → Collector → Type 0
 AtMost n C = (r : Record) (hold out packet : List ℕ) (o : Outcome) → C r hold out packet o → toldBy (o .said) ≤ n
 
 -- a call that hands out so many: a section of 4,096 bytes, of which 4,095 are in hand, ends in front of the pointer's
--- target, and one of 182 bytes fills the rest
+-- target, and one of 182 bytes fills the rest. Each is an EIT of one event, whose descriptors fill it, with its CRC_32.
 abbrev pub before : Record
-before = recordWith 20 (Counter 0) false 4095 (λ k. 0)
+before = recordWith 20 (Counter 0) false 0 4095 (λ k. 0)
 
-abbrev pub full : List ℕ
-full = 0x70 ∷ 0x7F ∷ 0xFD ∷ replicate 4093 0
+abbrev pub closed : List ℕ → List ℕ
+closed s = s ++ bytesOf (crc s)
 
+-- a descriptor with n bytes in it
+abbrev pub ofBytes : ℕ → List ℕ
+ofBytes n = 0x00 ∷ n ∷ replicate n 0
+
+abbrev pub longest : List ℕ
+longest = 0x50 ∷ 0xFF ∷ 0xFD ∷ replicate 21 0 ++ (0x0F ∷ 0xE2 ∷ flatten (replicate 15 (ofBytes 255)) ++ ofBytes 209)
+
+abbrev pub shorter : List ℕ
+shorter = 0x50 ∷ 0xF0 ∷ 0xB3 ∷ replicate 21 0 ++ (0x00 ∷ 0x98 ∷ ofBytes 150)
+
+-- the last byte of the first, and the second
 abbrev pub fullest : List ℕ
-fullest = 0x47 ∷ 0x40 ∷ 0x14 ∷ 0x11 ∷ 1 ∷ 0 ∷ 0x70 ∷ 0x70 ∷ 179 ∷ replicate 179 0
+fullest = 0x47 ∷ 0x40 ∷ 0x14 ∷ 0x11 ∷ 1 ∷ (crc longest % 2 ^ 8) ∷ closed shorter
 
 abbrev pub Reaches : ℕ → Type 0
-Reaches n = toldBy (collected before full (replicate 4280 0) fullest .said) ≡ n
+Reaches n = toldBy (collected before (closed longest) (replicate 4280 0) fullest .said) ≡ n

@@ -43,16 +43,16 @@ Marked r packet = (r .mark ≡ true) ⊎ HasBit packet
 
 -- the record, with another mark
 abbrev pub withMarkOf : Record → Record → Record
-withMarkOf other r = recordWith (r .pid) (r .last) (other .mark) (r .in_hand) (λ k. bytesCounted (done k) r)
+withMarkOf other r = recordWith (r .pid) (r .last) (other .mark) (r .rejection) (r .in_hand) (λ k. bytesCounted (done k) r)
 
 -- the record without a counter, without a mark and with nothing in hand
 abbrev pub anew : Record → Record
-anew r = recordWith (r .pid) None false 0 (λ k. bytesCounted (done k) r)
+anew r = recordWith (r .pid) None false (r .rejection) 0 (λ k. bytesCounted (done k) r)
 
 -- an outcome with n bytes more broken off
 abbrev pub breakingOff : ℕ → Outcome → Outcome
 breakingOff n o = record {
-  rec = recordWith (o .rec .pid) (o .rec .last) (o .rec .mark) (o .rec .in_hand)
+  rec = recordWith (o .rec .pid) (o .rec .last) (o .rec .mark) (o .rec .rejection) (o .rec .in_hand)
       (λ k. if sameKind k broken then (bytesCounted (done k) (o .rec) + n) % 2 ^ 32 else bytesCounted (done k) (o .rec));
   hold = o .hold;
   out = o .out;
@@ -97,7 +97,7 @@ module _ (C : Collector) where
 
 -- a record with a section's first byte in hand
 abbrev pub heldOne : ℕ → Bool → Record
-heldOne last mark = recordWith 20 (Counter last) mark 1 (λ k. 0)
+heldOne last mark = recordWith 20 (Counter last) mark 0 1 (λ k. 0)
 
 abbrev pub hold₁ : List ℕ
 hold₁ = 0x70 ∷ hold₀
