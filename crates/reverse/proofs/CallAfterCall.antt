@@ -7,12 +7,16 @@ use native.Mathlib.Omega.{arith}
 use lib.ListN.{length, length-append, length-map}
 use Rattle.wire.specs.Each.{Each}
 use Rattle.wire.proofs.EachLaws.{each-append}
+use Rattle.collector.specs.Rules.{accepted, rejected, plain}
+use Rattle.collector.specs.Judged.{byJudge}
 use Rattle.collector.specs.declared.Record.{Record}
+use Rattle.collector.proofs.StoryLaws.{sections-more}
 use Rattle.history.specs.Run.{Promised, Call, Run, no-call, one-call, taken, fareOf, handedBy, handed}
 use Rattle.writer.specs.Layout.{Turn, unbegun, laidOut}
 use Rattle.writer.specs.Packets.{packetsFrom, packetsOf}
 use Rattle.writer.proofs.TurnLaws.{turns-stop}
 use Rattle.reverse.specs.FedBack.{Ready, Delivers, packetsOfCalls, CallAfterCall}
+use Rattle.reverse.proofs.Leaves.{left-by, leaves-more, delivered}
 use Rattle.reverse.proofs.FedBack.{fed-back}
 
 abbrev packetOf : Call → List ℕ
@@ -22,7 +26,8 @@ abbrev Roomy : Call → Type 0
 Roomy k = 4280 ≤ length (k .out)
 
 -- a run whose packets are of two parts, in two
-record Parted (ps qs : List (List ℕ)) (r : Record) (hold : List ℕ) (calls : List Call) (r′ : Record) (hold′ : List ℕ) : Type 0 where
+record Parted (ps qs : List (List ℕ)) (r : Record) (hold : List ℕ) (calls : List Call) (r′ : Record) (hold′ : List ℕ)
+    : Type 0 where
   first : List Call
   others : List Call
   are : calls ≡ first ++ others
@@ -75,20 +80,20 @@ handed-append (k ∷ a) c =
     ∙ sym (append-assoc (handedBy (k .said) (k .out′)) (handed a) (handed c))
 
 -- what comes of both
-both : (pid counter : ℕ) (ss more : List (List ℕ)) {r r₁ r′ : Record} {hold₁ hold′ : List ℕ} (a c : List Call)
-    → Delivers pid counter ss r a r₁ hold₁ → Delivers pid ((counter + length a) % 16) more r₁ c r′ hold′
+both : (pid counter : ℕ) (ss more : List (List ℕ)) {r r₁ r′ : Record} {hold hold₁ hold′ : List ℕ} (a c : List Call)
+    → Ready pid counter r hold → Delivers pid counter ss r a r₁ hold₁
+    → Delivers pid ((counter + length a) % 16) more r₁ c r′ hold′
     → Delivers pid counter (ss ++ more) r (a ++ c) r′ hold′
-both pid counter ss more {r′ = r′} {hold′ = hold′} a c x y =
+both pid counter ss more {r′ = r′} {hold′ = hold′} a c ready x y =
     let same : ((counter + length a) % 16 + length c) % 16 ≡ (counter + length (a ++ c)) % 16 =
     omega (arith, length-append a c) in
-    record {
-      each-taken = each-append (λ k. fareOf (k .said) ≡ taken) a c (x .each-taken) (y .each-taken);
-      handed-are = handed-append a c ∙ (λ i. x .handed-are i ++ y .handed-are i);
-      none-broken = y .none-broken ∙ x .none-broken;
-      none-skipped = y .none-skipped ∙ x .none-skipped;
-      goes-on = subst (λ (n : ℕ). Ready pid n r′ hold′) same (y .goes-on);
-      room-left = y .room-left;
-    }
+    delivered (ss ++ more) (ready .counters rejected)
+    (handed-append a c
+    ∙ (λ i. x .handed-are i ++ y .handed-are i)
+    ∙ sym (sections-more byJudge plain accepted ss more))
+    (leaves-more ss more (left-by x) (left-by y)) pid counter
+    (each-append (λ k. fareOf (k .said) ≡ taken) a c (x .each-taken) (y .each-taken))
+    (subst (λ (n : ℕ). Ready pid n r′ hold′) same (y .goes-on)) (y .room-left)
 
 no-packets : (pid counter : ℕ) → packetsOf pid counter [] ≡ []
 unfolding flatten
@@ -113,5 +118,5 @@ call-after-call pid counter (sections ∷ batches) r hold calls r′ hold′ few
     (p .run₂)
     (p .others-are) in
     subst (λ (l : List Call). Delivers pid counter (sections ++ flatten batches) r l r′ hold′) (sym (p .are))
-    (both pid counter sections (flatten batches) (p .first) (p .others) x
+    (both pid counter sections (flatten batches) (p .first) (p .others) ready x
     (subst (λ (n : ℕ). Delivers pid n (flatten batches) (p .rec) (p .others) r′ hold′) (sym next) y))

@@ -1,4 +1,4 @@
--- The collector, fed the writer's packets, gives the writer's sections back.
+-- The collector, fed the writer's packets, gives those of the writer's sections back that the judge accepts.
 use mathlib.Core.Path.{_≡_, refl, sym, ap, _∙_, subst}
 use mathlib.Core.Bool.{true}
 use mathlib.Core.List.{List, [], _∷_, _++_, map, flatten}
@@ -8,13 +8,15 @@ use native.Mathlib.Omega.{arith}
 use lib.ListN.{length, take, getD}
 use borrow.Author.Tests.{le-ltb}
 use Rattle.wire.specs.Each.{Each}
-use Rattle.collector.specs.Rules.{Kind, byKind, done, delivers}
+use Rattle.collector.specs.Rules.{Kind, accepted, rejected, byKind, done, plain}
+use Rattle.collector.specs.Judged.{byJudge}
 use Rattle.collector.specs.Refusals.{cannotStand}
 use Rattle.collector.specs.Answer.{Outcome}
 use Rattle.collector.specs.Collected.{bytesCounted, freshRecord, collected}
 use Rattle.collector.specs.declared.Record.{Record}
 use Rattle.collector.proofs.ByteRuns.{lt-or-ge}
-use Rattle.collector.proofs.SectionLoop.{delivers-apart}
+use Rattle.collector.proofs.SectionLoop.{byJudge-apart}
+use Rattle.collector.proofs.StoryLaws.{sections-more}
 use Rattle.history.specs.Run.{Promised, Call, Input, inputOf, Run, no-call, one-call}
 use Rattle.history.proofs.Promise.{runs-exist}
 use Rattle.history.proofs.TestLaws.{or-none}
@@ -26,6 +28,7 @@ use Rattle.reverse.specs.Sent.{Sendable}
 use Rattle.reverse.specs.FedBack.{Ready, Delivers, FedBack, FreshDelivers, RunsOver}
 use Rattle.reverse.proofs.CutSections.{Begun, none, part, unended, aheadOf, begun-stands, ahead-long}
 use Rattle.reverse.proofs.OneTurn.{bodyOf, body-points, Step, step}
+use Rattle.reverse.proofs.Leaves.{left-by, leaves-none, leaves-more, delivered}
 use Rattle.reverse.proofs.Taken.{Holds, Went, went}
 
 -- ---- the packets of what is ahead
@@ -96,37 +99,30 @@ no-more : (pid counter : ℕ) {h rest : List ℕ} → Begun h rest → (ws : Lis
 no-more pid counter x ws each few k {r} {hold} y =
     let e = all-ended x ws each k in
     let same : counter ≡ (counter + 0) % 16 = omega arith in
-    record {
-      each-taken = tt;
-      handed-are = sym (e .1);
-      none-broken = refl;
-      none-skipped = refl;
-      goes-on = subst (λ (n : ℕ). Ready pid n r hold) same (ready-of pid counter y (e .0));
-      room-left = y .room;
-    }
+    subst (λ (l : List (List ℕ)). Delivers pid counter l r [] r hold) (sym (e .1))
+    (delivered [] (y .counters rejected) refl (leaves-none r (y .counters)) pid counter tt
+    (subst (λ (n : ℕ). Ready pid n r hold) same (ready-of pid counter y (e .0))) (y .room))
 
 -- one call, and what comes of the calls behind it
 one-more : {comes : List ℕ → Kind} (pid counter : ℕ) {h rest : List ℕ} {ws : List (List ℕ)}
-    {r r₁ r′ : Record} {hold₁ hold′ : List ℕ} {k : Call} {ks : List Call}
-    → (s : Step comes h rest ws (turnOf (aheadOf rest ws)))
+    {r r₁ r′ : Record} {hold hold₁ hold′ : List ℕ} {k : Call} {ks : List Call}
+    → (s : Step comes h rest ws (turnOf (aheadOf rest ws))) → Holds pid counter h r hold
     → Went pid counter (s .ended) (s .hand) r (record { rec = r₁; hold = hold₁; out = k .out′; said = k .said })
     → Delivers pid ((counter + 1) % 16) (unended (s .hand) (s .left) (s .waiting)) r₁ ks r′ hold′
     → Delivers pid counter (unended h rest ws) r (k ∷ ks) r′ hold′
-one-more pid counter {r′ = r′} {hold′ = hold′} {ks = ks} s w d =
+one-more pid counter {r = r} {r′ = r′} {hold′ = hold′} {k = k} {ks = ks} s y w d =
+    let others : List (List ℕ) = unended (s .hand) (s .left) (s .waiting) in
     let same : ((counter + 1) % 16 + length ks) % 16 ≡ (counter + suc (length ks)) % 16 = omega arith in
-    record {
-      each-taken = (w .is-taken, d .each-taken);
-      handed-are = (λ i. w .handed-are i ++ d .handed-are i) ∙ sym (s .sections-are);
-      none-broken = d .none-broken ∙ w .none-broken;
-      none-skipped = d .none-skipped ∙ w .none-skipped;
-      goes-on = subst (λ (n : ℕ). Ready pid n r′ hold′) same (d .goes-on);
-      room-left = d .room-left;
-    }
+    subst (λ (l : List (List ℕ)). Delivers pid counter l r (k ∷ ks) r′ hold′) (sym (s .sections-are))
+    (delivered (s .ended ++ others) (y .counters rejected)
+    ((λ i. w .handed-are i ++ d .handed-are i) ∙ sym (sections-more byJudge plain accepted (s .ended) others))
+    (leaves-more (s .ended) others (w .leaves) (left-by d)) pid counter (w .is-taken, d .each-taken)
+    (subst (λ (n : ℕ). Ready pid n r′ hold′) same (d .goes-on)) (d .room-left))
 
--- the call with the first packet, at today's value of what a whole section comes to
+-- the call with the first packet
 first-call : (pid counter : ℕ) {h rest : List ℕ} (ws : List (List ℕ)) {r : Record} {hold : List ℕ} (out : List ℕ)
     → counter ≤ 15 → Holds pid counter h r hold → 4280 ≤ length out
-    → (s : Step delivers h rest ws (turnOf (aheadOf rest ws)))
+    → (s : Step byJudge h rest ws (turnOf (aheadOf rest ws)))
     → (o : Outcome) → o ≡ collected r hold out (firstAhead pid counter rest ws)
     → Went pid counter (s .ended) (s .hand) r o
 first-call pid counter {h} {rest} ws out few x enough s o e =
@@ -149,20 +145,20 @@ fed : (pid counter : ℕ) {h rest : List ℕ} → Begun h rest → (ws : List (L
     → Delivers pid counter (unended h rest ws) r calls r′ hold′
 fed pid counter {rest = rest} x ws each few y rooms no-call e =
     ⊎-elim
-    (λ w. let s = step delivers delivers-apart x ws each w in
+    (λ w. let s = step byJudge byJudge-apart x ws each w in
     let l = ap length (e ∙ one-ahead pid counter rest ws w s) in absurd (omega arith))
     (λ w. no-more pid counter x ws each few w y) (lt-or-ge 0 (all rest ws))
 fed pid counter {rest = rest} x ws each few {r = r} {hold = hold} y rooms (one-call {k = k} {ks = ks} c run) e =
     ⊎-elim
     (λ w.
-    let s = step delivers delivers-apart x ws each w in
+    let s = step byJudge byJudge-apart x ws each w in
     let cut : k .packet ∷ map (λ j. j .packet) ks
     ≡ firstAhead pid counter rest ws ∷ packetsAhead pid ((counter + 1) % 16) (s .left) (s .waiting) =
     e ∙ one-ahead pid counter rest ws w s in
     let first : k .packet ≡ firstAhead pid counter rest ws = cc in
     let others : map (λ j. j .packet) ks ≡ packetsAhead pid ((counter + 1) % 16) (s .left) (s .waiting) = cc in
     let g = first-call pid counter ws (k .out) few y (rooms .0) s _ (c ∙ ap (collected r hold (k .out)) first) in
-    one-more pid counter s g
+    one-more pid counter s y g
     (fed pid ((counter + 1) % 16) (s .begun) (s .waiting) (s .each-waiting) (omega arith) (g .holds) (rooms .1) run
     others))
     (λ w. let l = ap length (e ∙ none-ahead pid counter rest ws w) in absurd (omega arith)) (lt-or-ge 0 (all rest ws))
@@ -182,7 +178,7 @@ fresh-ready pid counter hold k = record {
   next = refl;
   counters =
       byKind (λ k. bytesCounted (done k) (freshRecord pid) < 2 ^ 32) (omega arith) (omega arith) (omega arith)
-      (omega arith) (omega arith);
+      (omega arith) (omega arith) (omega arith);
 }
 
 pub fed-back-fresh : FreshDelivers
@@ -192,6 +188,10 @@ fed-back-fresh pid counter sections hold calls r′ hold′ a-pid few each room 
     record {
       each-taken = d .each-taken;
       handed-are = d .handed-are;
+      accepted-are = omega (arith, d .accepted-are);
+      rejected-are = omega (arith, d .rejected-are);
+      number-is = d .number-is;
+      all-accepted = d .all-accepted;
       none-broken = d .none-broken;
       none-skipped = d .none-skipped;
       none-in-hand = d .goes-on .none-in-hand;

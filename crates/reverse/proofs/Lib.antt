@@ -1,4 +1,5 @@
--- That the writer's packets obey the rule, that no others do, and that the collector gives their sections back.
+-- That the writer's packets obey the rule, that no others do, and that the collector gives those of their sections back
+-- that the judge accepts.
 pub mod CellLaws
 pub mod AheadLaws
 pub mod HeaderLaws
@@ -12,6 +13,7 @@ pub mod RoomPackets
 pub mod CutSections
 pub mod Carries
 pub mod OneTurn
+pub mod Leaves
 pub mod Taken
 pub mod FedBack
 pub mod CallAfterCall

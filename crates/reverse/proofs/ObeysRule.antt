@@ -11,9 +11,10 @@ use lib.Dec.{leb}
 use Rattle.wire.specs.If.{if_then_else_}
 use Rattle.wire.specs.Each.{Each}
 use Rattle.wire.proofs.EachLaws.{each-append, each-take}
+use Rattle.collector.proofs.ByteRuns.{lt-or-ge}
 use Rattle.writer.specs.Layout.{Ahead, sum, bytesAhead, Turn, least, waits, turnOf, behind, turnsFrom, unbegun, Cell, pointer, byte, filler, Payload, pointed, filledUp, payloadOf, laidOut}
 use Rattle.writer.specs.Packets.{packetsFrom, packetsOf}
-use Rattle.writer.proofs.TurnLaws.{least-law, Flagged, Unflagged, TurnIs, flagged, unflagged, turn-is, Takes, turn-takes, behind-ahead, turns-stop, turns-on}
+use Rattle.writer.proofs.TurnLaws.{least-law, Flagged, Unflagged, TurnIs, flagged, unflagged, turn-is, none-ahead, Takes, turn-takes, behind-ahead, turns-stop, turns-on}
 use Rattle.reverse.specs.Places.{Place, placed}
 use Rattle.reverse.specs.Rule.{bytesIn, NoPointer, BeginsNothing, Points, FlagBy, NoneWaits, OneLeft, FillerOnly, AllHeaded, Obeys}
 use Rattle.reverse.proofs.CellLaws.{Cells, none-there, bytesIn-filled, bytesIn-fillers, NoBegin, begins-of-bytes, begins-of-fillers, pointerless-bytes, pointerless-fillers, no-filler-bytes, AtEnd, at-end}
@@ -27,19 +28,16 @@ abbrev Course : Ahead → List Turn → Type 0
 Course a [] = bytesAhead a ≡ 0
 Course a (t ∷ ts) = (0 < bytesAhead a) × (t ≡ turnOf a) × Course (behind a) ts
 
-zero-or-more : (n : ℕ) → (n ≡ 0) ⊎ (0 < n)
-zero-or-more zero = inl refl
-zero-or-more (suc n) = inr (omega arith)
-
 course-within : (n : ℕ) (a : Ahead) → bytesAhead a ≤ n → Course a (turnsFrom a)
 course-within zero a k =
     let none : bytesAhead a ≡ 0 = omega (arith, k) in
     subst (Course a) (sym (turns-stop a none)) none
 course-within (suc n) a k =
-    ⊎-elim (λ e. subst (Course a) (sym (turns-stop a e)) e)
+    ⊎-elim
     (λ v. subst (Course a) (sym (turns-on a v))
     (v, refl, course-within n (behind a) (omega (arith, k, behind-ahead a, turn-takes a .some v))))
-    (zero-or-more (bytesAhead a))
+    (λ v. let none : bytesAhead a ≡ 0 = omega arith in subst (Course a) (sym (turns-stop a none)) none)
+    (lt-or-ge 0 (bytesAhead a))
 
 course-from : (a : Ahead) → Course a (turnsFrom a)
 course-from a = course-within (bytesAhead a) a (omega arith)
@@ -227,10 +225,6 @@ module _ (bytes : List Place) (a : Ahead) (h : AheadOf bytes a) (ts : List Turn)
       let all : m ≡ a .left = least-all 184 (a .left) room in
       by (waits (a .waiting)) refl m (ap (λ (t : Turn). t .bytes) (u .is)) all room cells refl long r
     where
-      none-ahead : (sizes : List ℕ) → waits sizes ≡ false → sum sizes ≡ 0
-      none-ahead [] w = refl
-      none-ahead (size ∷ sizes) w = absurd (false≢true (sym w))
-
       by : (t : Bool) → waits (a .waiting) ≡ t → (m : ℕ) → turnOf a .bytes ≡ m → m ≡ a .left → m < 184 → (cells : Cells)
           → cells ≡ map byte (take m bytes) → length cells ≡ m → AtEnd cells (184 - length cells) front back
           → NoneWaits back (laidOut ts (drop m bytes)) ⊎ OneLeft false front back

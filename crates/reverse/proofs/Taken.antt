@@ -14,18 +14,23 @@ use borrow.Author.Tests.{ltb-false, eqb-true, le-ltb, eq-eqb, ne-eqb}
 use Rattle.wire.specs.If.{if_then_else_}
 use Rattle.wire.specs.Each.{Each}
 use Rattle.wire.specs.Sections.{WholeSection}
+use Rattle.copy.specs.Laid.{over}
 use Rattle.packet.specs.Header.{startFlag, pidOf, scrambling, control, counterOf, adaptation, discontinuity, payloadFrom, payloadOf, pointerOf}
 use Rattle.packet.specs.Refusals.{wrongAdaptation, pointsPast, refusals, bare, has-payload, judgedBy, judged}
 use Rattle.packet.specs.Ruling.{Before, equalTo, nextTo, repeats, joins, Carried, loadOf, repeated, takes, ruledBy, ruling}
 use Rattle.packet.proofs.Table.{or-false, Passed, all-passed}
-use Rattle.collector.specs.Refusals.{lastOf, beforeOf, cannotStand, tooSmall}
-use Rattle.collector.specs.Rules.{Kind, broken, skipped, done, Story, countOf, handOf, holding, joined, plain, payload, storyAfter, delivers}
+use Rattle.collector.specs.Refusals.{lastOf, beforeOf, counterPast, cannotStand, tooSmall}
+use Rattle.collector.specs.Rules.{Kind, accepted, rejected, broken, skipped, done, Story, countOf, handOf, holding, joined, plain, payload, storyAfter}
+use Rattle.collector.specs.Judged.{byJudge, acceptedAmong, rejectedAmong, deliveredOf, rejectedOf, lastNumber}
 use Rattle.collector.specs.Answer.{Outcome}
-use Rattle.collector.specs.Collected.{bytesCounted, recordAfter, deliveredOf, outcomeAfter, outcomeOf, collected}
+use Rattle.collector.specs.Collected.{bytesCounted, recordAfter, outcomeAfter, outcomeOf, collected}
 use Rattle.collector.specs.declared.Record.{Record}
 use Rattle.collector.specs.declared.Last.the-variants.{Counter}
 use Rattle.collector.proofs.Counters.{counts-with}
-use Rattle.collector.proofs.StoryLaws.{all-delivered}
+use Rattle.collector.proofs.Invariants.{ByEnd}
+use Rattle.collector.proofs.StoryLaws.{Kept, ended-in, sections-each}
+use Rattle.collector.proofs.Parted.{parted, accepted-by-end, rejected-by-end, last-limit}
+use Rattle.collector.proofs.Outcomes.{kept-payload}
 use Rattle.history.specs.Run.{taken, fareOf, cut, handedBy}
 use Rattle.history.proofs.TestLaws.{and-none}
 use Rattle.history.proofs.LeftInHand.{Standing, stands-after}
@@ -33,6 +38,7 @@ use Rattle.history.proofs.Agrees.{cut-whole, whole-taken}
 use Rattle.writer.specs.Packets.{headerOf}
 use Rattle.reverse.proofs.HeaderLaws.{packet-long, no-error, flag-is, pid-is, clear, control-is, counter-is, from-is, no-bit}
 use Rattle.reverse.proofs.Carries.{Tells}
+use Rattle.reverse.proofs.Leaves.{Leaves, stays}
 
 -- ---- a packet of the writer
 
@@ -150,51 +156,62 @@ pub record Holds (pid counter : ℕ) (h : List ℕ) (r : Record) (hold : List �
   pub counters : (k : Kind) → bytesCounted (done k) r < 2 ^ 32
   pub room : 4096 ≤ length hold
 
--- what a call comes to: taken, these sections handed out, nothing broken off or skipped, and the record stands with
--- these bytes in hand
+-- what a call comes to: taken, those of these sections handed out that the judge accepts, what all of them leave in the
+-- record, and that it stands with these bytes in hand
 pub record Went (pid counter : ℕ) (sections : List (List ℕ)) (h : List ℕ) (r : Record) (o : Outcome) : Type 0 where
   pub is-taken : fareOf (o .said) ≡ taken
-  pub handed-are : handedBy (o .said) (o .out) ≡ sections
-  pub none-broken : bytesCounted (done broken) (o .rec) ≡ bytesCounted (done broken) r
-  pub none-skipped : bytesCounted (done skipped) (o .rec) ≡ bytesCounted (done skipped) r
+  pub handed-are : handedBy (o .said) (o .out) ≡ acceptedAmong sections
+  pub leaves : Leaves sections r (o .rec)
   pub holds : Holds pid ((counter + 1) % 16) h (o .rec) (o .hold)
 
+-- what a record that can stand says
 a-pid-of : (r : Record) (hold : List ℕ) → cannotStand r hold ≡ false → r .pid ≤ 8191
 unfolding cannotStand
 a-pid-of r hold e = ltb-false 8191 (r .pid) (or-false (ltb 8191 (r .pid)) _ e .0)
 
+a-number-of : (r : Record) (hold : List ℕ) → cannotStand r hold ≡ false → r .rejection ≤ 10
+unfolding cannotStand
+a-number-of r hold e =
+    let behind = or-false (counterPast (r .last)) _ (or-false (ltb 8191 (r .pid)) _ e .1) .1 in
+    ltb-false 10 (r .rejection) (or-false (ltb 10 (r .rejection)) _ behind .0)
+
 roomy : (hold out : ℕ) → 4096 ≤ hold → 4280 ≤ out → tooSmall hold out ≡ false
 roomy hold out k w = ap (λ (t : Bool). t || ltb out 4280) (le-ltb hold 4096 k) ∙ le-ltb out 4280 w
 
--- a counter that no byte is added to stays
-stays : (c n : ℕ) → n ≡ 0 → c < 2 ^ 32 → (c + n) % 2 ^ 32 ≡ c
-stays c n e k = omega arith
-
 module _ {pid counter : ℕ} {h : List ℕ} {r : Record} {hold : List ℕ} (x : Holds pid counter h r hold)
     (a-counter : counter ≤ 15) where
-  -- a story that tells so much, of which each whole section is delivered
-  went-by : (s : Story ℕ) (out : List ℕ) (sections : List (List ℕ)) (h′ : List ℕ) → Tells s sections h′ → Standing h′
-      → Each WholeSection (s .sections) → deliveredOf s ≡ s .sections
-      → Went pid counter sections h′ r (outcomeAfter r hold out counter s)
-  went-by s out sections h′ t standing whole all =
-      let d : List (List ℕ) = deliveredOf s in
-      let stand : Standing (handOf s) = subst Standing (sym (t .hand-is)) standing in
-      let counts : (k : Kind) → bytesCounted (done k) (recordAfter r counter s)
-      ≡ (bytesCounted (done k) r + countOf (done k) (s .marks)) % 2 ^ 32 =
-      counts-with (r .pid) (Counter counter) false (length (handOf s))
-      (λ k. (bytesCounted (done k) r + countOf (done k) (s .marks)) % 2 ^ 32) in
-      record {
-        is-taken = refl;
-        handed-are =
-            ap (cut (length d)) (take-append-seam (flatten d) (drop (length (flatten d)) out))
-            ∙ cut-whole d (subst (Each WholeSection) (sym all) whole)
-            ∙ all
-            ∙ t .sections-are;
-        none-broken = counts broken ∙ stays (bytesCounted (done broken) r) _ (t .none-broken) (x .counters broken);
-        none-skipped = counts skipped ∙ stays (bytesCounted (done skipped) r) _ (t .none-skipped) (x .counters skipped);
-        holds = record {
+  module _ (s : Story ℕ) (sections : List (List ℕ)) (h′ : List ℕ) (t : Tells s sections h′) where
+    -- a story that tells so much, as the record counts it
+    counts : (k : Kind) → bytesCounted (done k) (recordAfter r counter s)
+        ≡ (bytesCounted (done k) r + countOf (done k) (s .marks)) % 2 ^ 32
+    counts =
+        counts-with (r .pid) (Counter counter) false (lastNumber (r .rejection) (rejectedOf s)) (length (handOf s))
+        (λ k. (bytesCounted (done k) r + countOf (done k) (s .marks)) % 2 ^ 32)
+
+    left-of : (l : List ℕ) → Kept byJudge plain l s → Leaves sections r (recordAfter r counter s)
+    left-of l kept = record {
+      accepted-are = ended accepted accepted-by-end;
+      rejected-are = ended rejected rejected-by-end;
+      number-is = ap (λ (secs : List (List ℕ)). lastNumber (r .rejection) (rejectedAmong secs)) (t .sections-are);
+      none-broken = counts broken ∙ stays (bytesCounted (done broken) r) _ (t .none-broken) (x .counters broken);
+      none-skipped = counts skipped ∙ stays (bytesCounted (done skipped) r) _ (t .none-skipped) (x .counters skipped);
+    }
+      where
+        ended : (k : Kind) → ByEnd k → bytesCounted (done k) (recordAfter r counter s)
+            ≡ (bytesCounted (done k) r + length (flatten (parted k sections))) % 2 ^ 32
+        ended k w =
+            counts k
+            ∙ ap (λ (n : ℕ). (bytesCounted (done k) r + n) % 2 ^ 32)
+            (ended-in byJudge plain k w l s kept
+            ∙ ap (λ (secs : List (List ℕ)). length (flatten (parted k secs))) (t .sections-are))
+
+    holds-after : Standing h′ → Holds pid ((counter + 1) % 16) h′ (recordAfter r counter s) (over (handOf s) hold)
+    holds-after standing =
+        let stand : Standing (handOf s) = subst Standing (sym (t .hand-is)) standing in
+        record {
           stands =
               stands-after (recordAfter r counter s) counter refl a-counter (handOf s) stand refl
+              (last-limit (r .rejection) (rejectedOf s) (a-number-of r hold (x .stands)))
               (drop (length (handOf s)) hold)
               ∙ le-ltb 8191 (r .pid) (a-pid-of r hold (x .stands));
           pid-is = x .pid-is;
@@ -208,13 +225,26 @@ module _ {pid counter : ℕ} {h : List ℕ} {r : Record} {hold : List ℕ} (x : 
               let left = length-drop (length (handOf s)) hold in
               let enough = x .room in
               omega arith;
-        };
-      }
+        }
 
-  -- at today's value of what a whole section comes to
+    -- the accepted ones of its whole sections are handed out
+    went-by : (out : List ℕ) → Standing h′ → Each WholeSection (s .sections) → (l : List ℕ) → Kept byJudge plain l s
+        → Went pid counter sections h′ r (outcomeAfter r hold out counter s)
+    went-by out standing whole l kept =
+        let d : List (List ℕ) = deliveredOf s in
+        record {
+          is-taken = refl;
+          handed-are =
+              ap (cut (length d)) (take-append-seam (flatten d) (drop (length (flatten d)) out))
+              ∙ cut-whole d (sections-each byJudge plain accepted WholeSection (s .sections) whole)
+              ∙ ap acceptedAmong (t .sections-are);
+          leaves = left-of l kept;
+          holds = holds-after standing;
+        }
+
   pub went : (start : Bool) (body out : List ℕ) → length body ≡ 184 → (start ≡ true → getD body 0 0 ≤ 182)
       → 4280 ≤ length out → (sections : List (List ℕ)) (h′ : List ℕ)
-      → Tells (payload delivers plain start (holding h) body) sections h′ → Standing h′
+      → Tells (payload byJudge plain start (holding h) body) sections h′ → Standing h′
       → (o : Outcome) → o ≡ collected r hold out (headerOf pid counter start ++ body) → Went pid counter sections h′ r o
   went start body out long points enough sections h′ t standing o e =
       let a-pid : pid ≤ 8191 = subst (λ (n : ℕ). n ≤ 8191) (x .pid-is) (a-pid-of r hold (x .stands)) in
@@ -224,11 +254,12 @@ module _ {pid counter : ℕ} {h : List ℕ} {r : Record} {hold : List ℕ} (x : 
       ap (λ (n : ℕ). ruling (tooSmall (length hold) (length out)) (cannotStand r hold) n (beforeOf r) p) (x .pid-is)
       ∙ ruled-taken pid counter start body a-pid a-counter long points (tooSmall (length hold) (length out))
       (cannotStand r hold) (beforeOf r) (roomy (length hold) (length out) (x .room) enough) (x .stands) (x .next) in
-      let s : Story ℕ = storyAfter delivers plain (lastOf (r .last)) (holding (take (r .in_hand) hold)) q in
-      let is : s ≡ payload delivers plain start (holding h) body =
-      ap (λ (l : List ℕ). storyAfter delivers plain (lastOf (r .last)) (holding l) q) (x .hold-is)
-      ∙ ap (λ (z : Story ℕ). payload delivers plain start z body)
+      let s : Story ℕ = storyAfter byJudge plain (lastOf (r .last)) (holding (take (r .in_hand) hold)) q in
+      let is : s ≡ payload byJudge plain start (holding h) body =
+      ap (λ (l : List ℕ). storyAfter byJudge plain (lastOf (r .last)) (holding l) q) (x .hold-is)
+      ∙ ap (λ (z : Story ℕ). payload byJudge plain start z body)
       (hand-goes-on counter h (lastOf (r .last)) (r .mark) (x .next) (x .unmarked)) in
       subst (Went pid counter sections h′ r) (sym (e ∙ ap (outcomeOf r hold out) ruled))
-      (went-by s out sections h′ (subst (λ (z : Story ℕ). Tells z sections h′) (sym is) t) standing
-      (whole-taken delivers (lastOf (r .last)) (take (r .in_hand) hold) q) (all-delivered plain (s .sections)))
+      (went-by s sections h′ (subst (λ (z : Story ℕ). Tells z sections h′) (sym is) t) out standing
+      (whole-taken byJudge (lastOf (r .last)) (take (r .in_hand) hold) q) (h ++ body)
+      (subst (Kept byJudge plain (h ++ body)) (sym is) (kept-payload byJudge start h body)))

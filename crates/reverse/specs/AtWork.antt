@@ -1,18 +1,25 @@
--- The writer at work: sizes and the packets that they take, the bytes of packets, and calls. That each goes so is computed.
+-- The writer at work: sizes and the packets that they take, the bytes of packets, and calls; and what the judge makes of sections that are sent.
+-- That each goes so is computed.
 use mathlib.Core.Path.{_≡_}
 use mathlib.Core.Bool.{true, false}
 use mathlib.Core.List.{List, [], _∷_, _++_, map}
-use Prim.Native.Nat.{ℕ}
-use lib.ListN.{take, replicate}
+use Prim.Native.Nat.{ℕ, _≤_, _<_}
+use lib.ListN.{length, take, replicate}
+use Rattle.wire.specs.Each.{Each}
+use Rattle.verdict.specs.Verdict.{accepted, numberOf}
+use Rattle.section.specs.Reading.{judged}
+use Rattle.collector.specs.Judged.{acceptedAmong, rejectedAmong, lastNumber}
 use Rattle.collector.specs.Collected.{freshRecord, recordWith}
 use Rattle.collector.specs.declared.Record.{Record}
 use Rattle.collector.specs.declared.Last.the-variants.{Counter}
+use Rattle.history.specs.Run.{Promised, Call, Run, handed}
 use Rattle.history.specs.AtWork.{tdt}
 use Rattle.history.specs.WrongCollectors.{worked, hold₀}
 use Rattle.writer.specs.Layout.{Turn, turnsFrom, unbegun}
 use Rattle.writer.specs.Packets.{packetsOf}
 use Rattle.writer.specs.Answer.{Reply, wrote, refusedWith}
 use Rattle.writer.specs.Written.{packetCount, written}
+use Rattle.reverse.specs.Sent.{Sendable}
 use Rattle.reverse.specs.FedBack.{Ready}
 
 -- ---- sizes, and the packets that they take
@@ -86,15 +93,48 @@ pub record CallsAtWork : Type 0 where
   -- no section: no packet, and no room is needed
   pub nothing : answered 20 0 [] [] 0 ≡ wrote 0
 
--- ---- records from which the packets go on: a fresh one; one with the counter before; one with a mark
+-- ---- records from which the packets go on: a fresh one; one with the counter before; one with a mark; one with a rejection's number
 
 abbrev pub unmarked : Record
-unmarked = recordWith 20 (Counter 15) false 0 (λ k. 5)
+unmarked = recordWith 20 (Counter 15) false 0 0 (λ k. 5)
 
 abbrev pub marked : Record
-marked = recordWith 20 (Counter 15) true 0 (λ k. 4294967295)
+marked = recordWith 20 (Counter 15) true 0 0 (λ k. 4294967295)
+
+abbrev pub numbered : ℕ → Record
+numbered n = recordWith 20 (Counter 15) false n 0 (λ k. 5)
 
 pub record RecordsReady : Type 0 where
   pub fresh : (counter : ℕ) → Ready 20 counter (freshRecord 20) hold₀
   pub with-counter : Ready 20 0 unmarked hold₀
   pub with-mark : Ready 20 0 marked hold₀
+  -- "any number but 0 to 10" is not ready
+  pub with-number : (n : ℕ) → n ≤ 10 → Ready 20 0 (numbered n) hold₀
+  pub no-other-number : (n : ℕ) → 10 < n → Ready 20 0 (numbered n) hold₀ → ⊥
+
+-- ---- sections that are sent, of which the judge accepts some
+
+abbrev pub mixed : List (List ℕ)
+mixed =
+    (0x70 ∷ 0x70 ∷ 0x00 ∷ [])
+    ∷ tdt
+    ∷ (0x00 ∷ 0x00 ∷ 0x00 ∷ [])
+    ∷ (0x70 ∷ 0xF0 ∷ 0x00 ∷ [])
+    ∷ tdt
+    ∷ []
+
+pub record MixedJudged : Type 0 where
+  pub sendable : Each Sendable mixed
+  pub accepted-are : acceptedAmong mixed ≡ tdt ∷ tdt ∷ []
+  pub rejected-are : rejectedAmong mixed ≡ (0x70 ∷ 0x70 ∷ 0x00 ∷ []) ∷ (0x00 ∷ 0x00 ∷ 0x00 ∷ []) ∷ (0x70 ∷ 0xF0 ∷ 0x00 ∷ []) ∷ []
+  pub numbers-are : map (λ s. numberOf (judged s)) mixed ≡ 4 ∷ 0 ∷ 2 ∷ 3 ∷ 0 ∷ []
+  -- "the last one only"
+  pub last-is : lastNumber 0 (rejectedAmong mixed) ≡ 3
+  -- those that are accepted are each accepted
+  pub each-accepted : Each (λ s. judged s ≡ accepted) (tdt ∷ tdt ∷ [])
+
+-- what a fresh collector makes of their packets
+abbrev pub MixedBack : Type 0
+MixedBack = (calls : List Call) (r′ : Record) (hold′ : List ℕ) → Each (λ k. 4280 ≤ length (k .out)) calls
+    → Run Promised (freshRecord 20) hold₀ calls r′ hold′ → map (λ k. k .packet) calls ≡ packetsOf 20 0 mixed
+    → (handed calls ≡ tdt ∷ tdt ∷ []) × (r′ .accepted ≡ 16) × (r′ .rejected ≡ 9) × (r′ .rejection ≡ 3)

@@ -100,8 +100,8 @@ module _ (W : Writer) where
   abbrev pub OnlyAsPromised : Type 0
   OnlyAsPromised = OverCalls (λ pid counter bytes sizes room o. Promised pid counter bytes sizes room o)
 
-  -- "A fresh collector fed these packets delivers exactly these sections and breaks off nothing.", and one that goes on from the counter before:
-  -- every run over the packets of the room, with a hold and out rooms that are large enough
+  -- "A fresh collector fed these packets delivers exactly these sections and breaks off nothing.", as amended those "that the judge accepts", and
+  -- so does one that goes on from the counter before: every run over the packets of the room, with a hold and out rooms that are large enough
   abbrev pub GivenBack : Type 0
   GivenBack = OverCalls (λ pid counter bytes sizes room o. (n : ℕ) → o .said ≡ wrote n
       → (sections : List (List ℕ)) → Sent bytes sizes sections
