@@ -11,12 +11,13 @@ use borrow.Author.Tests.{le-ltb}
 use Rattle.wire.specs.Sections.{totalOf}
 use Rattle.copy.specs.Laid.{over}
 use Rattle.packet.specs.Ruling.{Before, Carried, ruledBy, Ruling, ruling}
-use Rattle.collector.specs.Rules.{holding, plain, storyAfter, delivers}
+use Rattle.collector.specs.Rules.{holding, plain, storyAfter}
+use Rattle.collector.specs.Judged.{byJudge, deliveredOf}
 use Rattle.packet.specs.Refusals.{_when_, refusals, firstOf, judgedBy, judged}
 use Rattle.collector.specs.Refusals.{cannotStand, beforeOf, tooSmall}
 use Rattle.packet.specs.Ruling as Ruled
 use Rattle.collector.specs.Answer.{Reply, refusedWith, repeated, taken, Outcome}
-use Rattle.collector.specs.Collected.{outcomeOf, collected, deliveredOf}
+use Rattle.collector.specs.Collected.{outcomeOf, collected}
 use Rattle.collector.specs.declared.Record.{Record}
 use Rattle.history.specs.Run.{Promised, Call, Run, no-call, one-call, Fare, fareOf, ruledFare, lentOf, beforeAfter, ruledIn, rulingOn, faresFrom, ruledTaken, cut, handedBy, handed}
 use Rattle.account.specs.Entered.{Kept, tallied, entered, enteredAll}
@@ -181,7 +182,8 @@ outcome-room r hold out (Ruled.refuses n) = omega arith
 outcome-room r hold out Ruled.repeated = omega arith
 outcome-room r hold out (Ruled.bare splice) = omega arith
 outcome-room r hold out (Ruled.takes q) =
-    over-room (flatten (deliveredOf (storyAfter delivers plain (beforeOf r .last) (holding (take (r .in_hand) hold)) q))) out
+    over-room (flatten (deliveredOf (storyAfter byJudge plain (beforeOf r .last) (holding (take (r .in_hand) hold)) q)))
+    out
   where
     over-room : (bs room : List ℕ) → length room ≤ length (over bs room)
     over-room bs room = omega (arith, length-append bs (drop (length bs) room), length-drop (length bs) room)

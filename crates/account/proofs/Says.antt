@@ -13,7 +13,8 @@ use borrow.Author.Tests.{ltb-true, ltb-false, eqb-true, eqb-false, ne-eqb}
 use Rattle.wire.specs.If.{if_then_else_}
 use Rattle.wire.proofs.IfLaws.{if-case}
 use Rattle.packet.specs.Ruling.{Before, noneBefore, Carried, ruledBy}
-use Rattle.collector.specs.Rules.{Story, delivers}
+use Rattle.collector.specs.Rules.{Story}
+use Rattle.collector.specs.Judged.{byJudge}
 use Rattle.packet.specs.Refusals.{_when_, refusals, firstOf, judgedBy, judged}
 use Rattle.collector.specs.Collected.{freshRecord}
 use Rattle.collector.proofs.MarkLaws.{flatten-append, flatten-one}
@@ -164,7 +165,7 @@ module _ (input hold₀ out₀ : List ℕ) (enough : 188 ≤ length input) (hold
 
   story : storyBy (pidIn input) hold₀ calls ≡ storyIn input
   story =
-      ap (λ (qs : List (Carried ℕ)). historyOf delivers qs .story)
+      ap (λ (qs : List (Carried ℕ)). historyOf byJudge qs .story)
       (ap (λ (n : ℕ). ruledTaken (pidIn input) n noneBefore (map lentOf calls)) hold-is
       ∙ taken-are (pidIn input) 4096 from (packetsOf input) (omega arith) noneBefore)
 

@@ -8,7 +8,8 @@ use lib.ListN.{length, take}
 use Rattle.wire.specs.If.{if_then_else_}
 use Rattle.packet.specs.Header.{pidOf}
 use Rattle.packet.specs.Ruling.{noneBefore}
-use Rattle.collector.specs.Rules.{Kind, in-hand, done, Story, countOf, delivers}
+use Rattle.collector.specs.Rules.{Kind, in-hand, done, Story, countOf}
+use Rattle.collector.specs.Judged.{byJudge}
 use Rattle.collector.specs.Collected.{bytesCounted, freshRecord}
 use Rattle.history.specs.History.{Byte, historyOf}
 use Rattle.history.specs.Demand3.{deliveredIn}
@@ -54,9 +55,9 @@ LastPieceRefused = (input : List ℕ) → (length input % 188 ≡ 0 → ⊥)
     → faresIn input
     ≡ faresFrom (pidIn input) 4096 noneBefore (map lent (pieces (length input / 188) input)) ++ (refusedBy 41 ∷ [])
 
--- the fate of every payload byte of the packets taken, and the sections delivered
+-- the fate of every payload byte of the packets taken, and the sections that came whole
 abbrev pub storyIn : List ℕ → Story Byte
-storyIn input = historyOf delivers (ruledTaken (pidIn input) 4096 noneBefore (lentIn input)) .story
+storyIn input = historyOf byJudge (ruledTaken (pidIn input) 4096 noneBefore (lentIn input)) .story
 
 -- ---- counting
 
@@ -81,8 +82,8 @@ total one (f ∷ fs) = one f + total one fs
 
 -- ---- the lines
 
--- the account of an input of at least a packet, line by line. The collector's counters run round past 2^32 - 1, the
--- program's own past 2^64 - 1.
+-- the account of an input of at least a packet, line by line; "`sections` counts accepted ones". The collector's counters
+-- run round past 2^32 - 1, the program's own past 2^64 - 1.
 pub record Lines (input : List ℕ) (a : Account) : Type 0 where
   pub pid-is : a .rec .pid ≡ pidIn input
   pub taken-is : a .taken ≡ total oneTaken (faresIn input) % 2 ^ 64

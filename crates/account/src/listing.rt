@@ -39,7 +39,8 @@ fn packet_lines(a: Account) {
 fn byte_lines(a: Account) {
     let rec = a.rec;
     line(b"pointer ", rec.pointer as u64);
-    line(b"delivered ", rec.delivered as u64);
+    line(b"accepted ", rec.accepted as u64);
+    line(b"rejected ", rec.rejected as u64);
     line(b"broken ", rec.broken as u64);
     line(b"filler ", rec.filler as u64);
     line(b"skipped ", rec.skipped as u64);

@@ -27,13 +27,29 @@ Inv-loop buf₀ hold₀ out₀ p₀ turns₀ buf hold out p turns = Stands buf�
 abbrev μ-loop : tie.MeasureT-loop
 μ-loop buf₀ hold₀ out₀ p₀ turns₀ buf hold out p turns = turns
 
+-- the start; the loop's head, where reading was asked for its end; and the read, where what it came to is heard
+abbrev begin : tie.After-start Inv-loop μ-loop → tie.Start Inv-loop μ-loop
+begin c =
+    let after-slice-known = c .before .before .before in
+    after-slice-known .before
+
+abbrev head : tie.After-is-over Inv-loop μ-loop → tie.At-loop Inv-loop μ-loop
+head c = c .before .before
+
+abbrev reading : tie.After-left-of Inv-loop μ-loop → tie.Else1 Inv-loop μ-loop
+reading c = c .before .before
+
+abbrev read : tie.After-heard-arg3 Inv-loop μ-loop → tie.After-read-behind Inv-loop μ-loop
+read c =
+    let after-slice-known4 = c .before .before .before in
+    after-slice-known4 .before .before
+
 start-requires : tie.Need-start-requires Inv-loop μ-loop
 start-requires c κs = search needs
 
 loop-holds : tie.Need-loop-holds Inv-loop μ-loop
 loop-holds c =
-    let after-slice-known = c .before .before .before in
-    let s = after-slice-known .before in
+    let s = begin c in
     record {
       input = [];
       reads = 0;
@@ -52,24 +68,25 @@ is-over-requires : tie.Need-is-over-requires Inv-loop μ-loop
 is-over-requires c κs = search needs
 
 same-length : tie.Need-same-length Inv-loop μ-loop
-same-length c = c .before .before .before .loop .inv .buf-long
+same-length c = head (c .before) .loop .inv .buf-long
 
 same-length-2 : tie.Need-same-length-2 Inv-loop μ-loop
-same-length-2 c = c .before .before .before .loop .inv .hold-long
+same-length-2 c = head (c .before) .loop .inv .hold-long
 
 same-length-3 : tie.Need-same-length-3 Inv-loop μ-loop
-same-length-3 c = c .before .before .before .loop .inv .out-long
+same-length-3 c = head (c .before) .loop .inv .out-long
 
 returns : tie.Need-returns Inv-loop μ-loop
 returns c =
-    let l = c .before .before .before .loop in
+    let over = c .before in
+    let l = head over .loop in
     record {
       input = l .inv .input;
       reads = l .inv .reads;
       state = stateAs (l .p) (l .buf) (l .hold) (l .out);
       heard = l .inv .heard;
       progress-is = refl;
-      all-reads = λ e. absurd (over-not-reading (l .p .stage) (sym (c .before .is-over .ensures) ∙ c .if1 .taken) e);
+      all-reads = λ e. absurd (over-not-reading (l .p .stage) (sym (over .is-over .ensures) ∙ c .if1 .taken) e);
     }
 
 left-of-requires : tie.Need-left-of-requires Inv-loop μ-loop
@@ -77,35 +94,30 @@ left-of-requires c κs = search needs
 
 read-behind-requires : tie.Need-read-behind-requires Inv-loop μ-loop
 read-behind-requires c κs =
-    let after-is-over = c .before .before .before in
-    let h = after-is-over .before .before in
-    let after-slice-known2 = h .before .before .before in
-    let s = after-slice-known2 .before .before in
+    let h = head (reading c .before) in
+    let s = begin (h .before) in
     omega (arith, c .left-of .ensures, left-few (h .loop .inv .heard), h .loop .inv .buf-long, s .pre .0)
 
--- the loop's head and the start, from where the read is done, and what the read says
-abbrev head : tie.After-read-behind Inv-loop μ-loop → tie.At-loop Inv-loop μ-loop
-head r =
-    let else1 = r .before .before .before in
-    else1 .before .before .before
+-- from where the read is done: where its place was asked for, the loop's head, and what the read says
+module _ (r : tie.After-read-behind Inv-loop μ-loop) where
+  abbrev asked : tie.After-left-of Inv-loop μ-loop
+  asked = r .before
 
-abbrev begin : tie.After-read-behind Inv-loop μ-loop → tie.Start Inv-loop μ-loop
-begin r =
-    let after-slice-known2 = head r .before .before .before in
-    after-slice-known2 .before .before
+  abbrev over : tie.After-is-over Inv-loop μ-loop
+  over = reading asked .before
 
-behind : (r : tie.After-read-behind Inv-loop μ-loop)
-    → Behind (head r .loop .p .left) (head r .loop .buf) (r .read-behind .last .0) (r .read-behind .result .got)
-behind r =
-    subst (λ (n : ℕ). Behind n (head r .loop .buf) (r .read-behind .last .0) (r .read-behind .result .got))
-    (r .before .left-of .ensures) (r .read-behind .ensures)
+  abbrev at : tie.At-loop Inv-loop μ-loop
+  at = head over
+
+  behind : Behind (at .loop .p .left) (at .loop .buf) (r .read-behind .last .0) (r .read-behind .result .got)
+  behind =
+      subst (λ (n : ℕ). Behind n (at .loop .buf) (r .read-behind .last .0) (r .read-behind .result .got))
+      (asked .left-of .ensures) (r .read-behind .ensures)
 
 heard-requires : tie.Need-heard-requires Inv-loop μ-loop
 heard-requires c κs =
-    let after-slice-known4 = c .before .before .before in
-    let r = after-slice-known4 .before .before in
-    let h = head r in
-    subst (Fits (h .loop .p .left) (r .read-behind .result .got)) (sym (r .read-behind .kept .0)) (behind r .fits)
+    let r = read c in
+    subst (Fits (at r .loop .p .left) (r .read-behind .result .got)) (sym (r .read-behind .kept .0)) (behind r .fits)
 
 sub-turns : tie.Need-sub-turns Inv-loop μ-loop
 sub-turns c = search needs
@@ -117,21 +129,20 @@ loop-again : tie.Need-loop-again Inv-loop μ-loop
 loop-again c =
     let after-hold = c .before .before .before in
     let x = after-hold .before .before .before in
-    let after-heard-arg = x .before .before .before in
-    let r = after-heard-arg .before .before .before in
-    let i = r .before .before .before in
-    let is-over = i .before .is-over in
-    let l = head r .loop in
+    let r = read (x .before) in
+    let s = begin (at r .before) in
+    let l = at r .loop in
     record {
       input = l .inv .input ++ brought (l .p .left) (r .read-behind .last .0) (r .read-behind .result .got);
       reads = suc (l .inv .reads);
       heard =
           subst
-          (Heard (begin r .args .hold .now) (begin r .args .out .now)
+          (Heard (s .args .hold .now) (s .args .out .now)
           (l .inv .input ++ brought (l .p .left) (r .read-behind .last .0) (r .read-behind .result .got))
           (suc (l .inv .reads)))
           (sym (x .heard .ensures))
-          (one-more (l .inv .heard) (still-reading (l .p .stage) (sym (is-over .ensures) ∙ i .if1 .left))
+          (one-more (l .inv .heard)
+          (still-reading (l .p .stage) (sym (over r .is-over .ensures) ∙ reading (asked r) .if1 .left))
           (r .read-behind .last .0) (r .read-behind .result .got) (r .read-behind .kept .0) (behind r));
       count = omega (arith, l .inv .count);
       buf-long = x .heard .kept .1 .1 .0 ∙ r .read-behind .kept .0 ∙ l .inv .buf-long;

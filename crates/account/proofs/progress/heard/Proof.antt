@@ -38,16 +38,24 @@ enum-known-got : tie.Need-enum-known-got
 enum-known-got c = search needs
 
 -- in the arm of some bytes: they fit behind what is left
-bytes-fit : (g : tie.After-got)
-    → Fits (start (g .before .before) .args .p .left) (Bytes (g .got .given .0 .0))
-    (length (start (g .before .before) .args .buf .now))
-bytes-fit g = fits (g .before .before) (Bytes (g .got .given .0 .0)) (g .got .given .1)
+module _ (g : tie.After-got) where
+  abbrev got : tie.After-got-of
+  got = g .before .before
 
--- the arm, from where they are absorbed
+  bytes-fit : Fits (start got .args .p .left) (Bytes (g .got .given .0 .0)) (length (start got .args .buf .now))
+  bytes-fit = fits got (Bytes (g .got .given .0 .0)) (g .got .given .1)
+
+-- the arm, from where they are absorbed, and that of the end, from where it is the finish
 abbrev arm : tie.After-absorb-arg3 → tie.After-got
 arm c =
     let after-known-told = c .before .before .before in
     after-known-told .before
+
+abbrev end-arm : tie.After-finish-arg3 → tie.After-enum-told2
+end-arm c = c .before .before .before
+
+abbrev met : tie.After-enum-told2 → tie.After-got-of
+met t = t .before .before
 
 add-absorb : tie.Need-add-absorb
 add-absorb c = omega (arith, bytes-fit (arm c))
@@ -63,9 +71,8 @@ enum-told-2 c = search needs
 
 finish-requires : tie.Need-finish-requires
 finish-requires c κs =
-    let t = c .before .before .before in
-    let after-got-of = t .before .before in
-    omega (arith, fits after-got-of End (t .enum-told2 .given .1))
+    let t = end-arm c in
+    omega (arith, fits (met t) End (t .enum-told2 .given .1))
 
 enum-told-3 : tie.Need-enum-told-3
 enum-told-3 c = search needs
@@ -84,8 +91,7 @@ returns c =
     let after-hold = c .before .before .before in
     let b = after-hold .before .before .before in
     let g = arm (b .before) in
-    let after-got-of = g .before .before in
-    b .absorb .ensures ∙ as-heard after-got-of (Bytes (g .got .given .0 .0)) (g .got .given .1)
+    b .absorb .ensures ∙ as-heard (got g) (Bytes (g .got .given .0 .0)) (g .got .given .1)
 
 returns-2 : tie.Need-returns-2
 returns-2 c = as-heard (c .before .before) Again (c .enum-told .given .1)
@@ -103,10 +109,8 @@ returns-3 : tie.Need-returns-3
 returns-3 c =
     let after-hold2 = c .before .before .before in
     let f = after-hold2 .before in
-    let after-finish-arg = f .before .before .before in
-    let t = after-finish-arg .before in
-    let after-got-of = t .before .before in
-    f .finish .ensures ∙ as-heard after-got-of End (t .enum-told2 .given .1)
+    let t = end-arm (f .before) in
+    f .finish .ensures ∙ as-heard (met t) End (t .enum-told2 .given .1)
 
 returns-4 : tie.Need-returns-4
 returns-4 c = as-heard (c .before .before .before) Failed (c .before .enum-told3 .given .1)

@@ -36,25 +36,32 @@ module _ (p : Progress) (buf hold out : List ℕ) where
       ap (λ (t : Bool). if t then same else piece) (sym (ne-eqb _ _ k))
       ∙ ap (λ (t : Bool). if t then (if eqb (p .left) 0 then same else piece) else same) (sym e)
 
+-- the start, from the tests, and what was tested, from where the piece is entered
+abbrev begin : tie.After-struct-known → tie.Start
+begin c =
+    let after-slice-known = c .before .before .before in
+    after-slice-known .before .before
+
+abbrev begun : tie.Else1 → tie.Start
+begun c = begin (c .before)
+
+abbrev tested : tie.After-enter-arg3 → tie.Else2
+tested c = c .before .before .before
+
 returns : tie.Need-returns
 returns c =
-    let after-slice-known2 = c .before .before .before in
-    let a = after-slice-known2 .before .before .before .args in
+    let a = begin (c .before) .args in
     not-begun (a .p) (a .buf .now) (a .hold .now) (a .out .now) (not-true _ (c .if1 .taken))
 
 returns-2 : tie.Need-returns-2
 returns-2 c =
-    let after-account = c .before .before .before in
-    let after-slice-known = after-account .before .before in
-    let a = after-slice-known .before .before .args in
-    none-left (a .p) (a .buf .now) (a .hold .now) (a .out .now) (not-false _ (c .before .if1 .left)) (c .if2 .taken)
+    let i = c .before in
+    let a = begun i .args in
+    none-left (a .p) (a .buf .now) (a .hold .now) (a .out .now) (not-false _ (i .if1 .left)) (c .if2 .taken)
 
 slice-aggregate-enter : tie.Need-slice-aggregate-enter
 slice-aggregate-enter c =
-    let else2 = c .before .before .before in
-    let after-account = else2 .before .before .before in
-    let after-slice-known = after-account .before .before in
-    let a = after-slice-known .before .before .args in
+    let a = begun (tested c .before) .args in
     sym (length-take-le (a .p .left) (a .buf .now) (omega arith))
 
 enter-requires : tie.Need-enter-requires
@@ -70,11 +77,9 @@ returns-3 : tie.Need-returns-3
 returns-3 c =
     let after-hold = c .before .before .before in
     let k = after-hold .before in
-    let after-enter-arg = k .before .before .before in
-    let t = after-enter-arg .before in
+    let t = tested (k .before) in
     let i = t .before in
-    let after-slice-known2 = i .before .before .before in
-    let a = after-slice-known2 .before .before .before .args in
+    let a = begun i .args in
     k .enter .ensures
     ∙ some-left (a .p) (a .buf .now) (a .hold .now) (a .out .now) (not-false _ (i .if1 .left)) (t .if2 .left)
 
