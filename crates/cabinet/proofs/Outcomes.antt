@@ -53,8 +53,8 @@ mark-kept n = kept (eqb n 0) refl
 -- unaltered is unaltered here
 pub record-kept : (r : Record) → recordAfter r (recordIn r) ≡ r
 record-kept r =
-    λ i. numbersWith (r .pid) (last-kept (r .last) i) (mark-kept (r .mark) i) (r .spare) (r .in_hand) (λ k. countedIn k r)
-    (r .«spare_counter»)
+    λ i. numbersWith (r .pid) (last-kept (r .last) i) (mark-kept (r .mark) i) (r .rejection) (r .in_hand)
+    (λ k. countedIn k r)
 
 -- ---- "the record and all lent room unaltered"
 

@@ -2,10 +2,10 @@
 use mathlib.Core.Path.{_≡_}
 use mathlib.Core.Bool.{Bool, true, false, not}
 use Prim.Native.Nat.{ℕ}
-use mathlib.Core.List.{List, [], _∷_}
+use mathlib.Core.List.{List}
 use lib.Dec.{eqb}
 use Rattle.wire.specs.If.{if_then_else_}
-use Rattle.collector.specs.Rules.{Kind, pointer, delivered, broken, filler, skipped, done}
+use Rattle.collector.specs.Rules.{Kind, pointer, accepted, rejected, broken, filler, skipped, done}
 use Rattle.collector.specs.Answer.{Reply, refusedWith, repeated, taken}
 use Rattle.collector.specs.Answer as collector
 use Rattle.collector.specs.Collected.{bytesCounted, recordWith, collected}
@@ -39,32 +39,34 @@ markSays before false = 0
 -- the bytes of a kind that the numbers count
 abbrev pub countedIn : Kind → Record → ℕ
 countedIn pointer r = r .pointer
-countedIn delivered r = r .delivered
+countedIn accepted r = r .accepted
+countedIn rejected r = r .rejected
 countedIn broken r = r .broken
 countedIn filler r = r .filler
 countedIn skipped r = r .skipped
 
--- the numbers by the PID, the last counter or none, the mark, what is spare, the bytes in hand, the counter of each kind, and the one that is spare
-abbrev pub numbersWith : ℕ → ℕ → ℕ → List ℕ → ℕ → (Kind → ℕ) → ℕ → Record
-numbersWith pid last mark spare held n spare-counter = record {
+-- the numbers by the PID, the last counter or none, the mark, the last rejected section's number, the bytes in hand, and the counter of each kind
+abbrev pub numbersWith : ℕ → ℕ → ℕ → ℕ → ℕ → (Kind → ℕ) → Record
+numbersWith pid last mark rejection held n = record {
   pid = pid;
   last = last;
   mark = mark;
-  spare = spare;
+  rejection = rejection;
   in_hand = held;
   pointer = n pointer;
-  delivered = n delivered;
+  accepted = n accepted;
   broken = n broken;
   filler = n filler;
   skipped = n skipped;
-  «spare_counter» = spare-counter;
+  rejected = n rejected;
 }
 
 -- a counter has the same name in the numbers and in the collector's record: told without the two definitions above, so that one that stands under
 -- the name of another is seen
 abbrev pub SameName : Record → of.Record → Kind → Type 0
 SameName r x pointer = x .pointer ≡ r .pointer
-SameName r x delivered = x .delivered ≡ r .delivered
+SameName r x accepted = x .accepted ≡ r .accepted
+SameName r x rejected = x .rejected ≡ r .rejected
 SameName r x broken = x .broken ≡ r .broken
 SameName r x filler = x .filler ≡ r .filler
 SameName r x skipped = x .skipped ≡ r .skipped
@@ -73,23 +75,23 @@ SameName r x skipped = x .skipped ≡ r .skipped
 
 -- the collector's record that the numbers stand for
 abbrev pub recordIn : Record → of.Record
-recordIn r = recordWith (r .pid) (lastIn (r .last)) (markIn (r .mark)) (r .in_hand) (λ k. countedIn k r)
+recordIn r = recordWith (r .pid) (lastIn (r .last)) (markIn (r .mark)) (r .rejection) (r .in_hand) (λ k. countedIn k r)
 
--- the numbers for a record of the collector, in the place of the numbers before: what is spare stays as it was
+-- the numbers for a record of the collector, in the place of the numbers before
 abbrev pub recordAfter : Record → of.Record → Record
 recordAfter before r =
-    numbersWith (r .pid) (lastSays (r .last)) (markSays (before .mark) (r .mark)) (before .spare) (r .in_hand) (λ k. bytesCounted (done k) r)
-    (before .«spare_counter»)
+    numbersWith (r .pid) (lastSays (r .last)) (markSays (before .mark) (r .mark)) (r .rejection) (r .in_hand)
+    (λ k. bytesCounted (done k) r)
 
 -- every byte 0
 abbrev pub zeros : Record
-zeros = numbersWith 0 0 0 (0 ∷ 0 ∷ 0 ∷ 0 ∷ []) 0 (λ k. 0) 0
+zeros = numbersWith 0 0 0 0 0 (λ k. 0)
 
--- the numbers for a record of the collector where there were none before: what is spare is 0
+-- the numbers for a record of the collector where there were none before
 abbrev pub recordSays : of.Record → Record
 recordSays r = recordAfter zeros r
 
--- a refusal's number; "repeated"; or taken, with the number of sections and of their bytes
+-- a refusal's number; "repeated"; or taken, with the number of accepted sections and of their bytes
 abbrev pub collectSays : Reply → CollectAnswer
 collectSays (refusedWith k) = record { number = k; repeated = 0; sections = 0; size = 0 }
 collectSays repeated = record { number = 0; repeated = 1; sections = 0; size = 0 }

@@ -11,6 +11,7 @@ use packet::Refusal;
 // The number that stands for no counter. It is above 15 as those are that no counter has, so that each value of a byte has a meaning.
 pub const NO_COUNTER: u8 = 255;
 
+// It has no padding, which no promise can cover: each of its 40 bytes is one of a number.
 #[repr(C)]
 pub struct Record {
     pub pid: u16,
@@ -18,15 +19,15 @@ pub struct Record {
     pub last: u8,
     // Any number but 0: set.
     pub mark: u8,
-    // No call reads or alters what is spare. It stands where a struct of C would have padding, which no promise can cover.
-    pub spare: [u8; 4],
+    // The number of the section rejected last, 0 where none was.
+    pub rejection: u32,
     pub in_hand: usize,
     pub pointer: u32,
-    pub delivered: u32,
+    pub accepted: u32,
     pub broken: u32,
     pub filler: u32,
     pub skipped: u32,
-    pub spare_counter: u32,
+    pub rejected: u32,
 }
 
 #[repr(C)]
@@ -34,7 +35,7 @@ pub struct CollectAnswer {
     pub number: u32,
     // 1 for a repeated packet.
     pub repeated: u32,
-    // The finished sections' number and bytes.
+    // The number of the sections that were accepted, and their bytes.
     pub sections: usize,
     pub size: usize,
 }
@@ -93,11 +94,13 @@ fn record_in(rec: Record) -> collector::Record
         last,
         in_hand: rec.in_hand,
         pointer: rec.pointer,
-        delivered: rec.delivered,
+        accepted: rec.accepted,
+        rejected: rec.rejected,
         broken: rec.broken,
         filler: rec.filler,
         skipped: rec.skipped,
         mark,
+        rejection: rec.rejection,
     }
 }
 
@@ -105,38 +108,36 @@ fn record_after(before: Record, rec: collector::Record) -> Record
     ensures { λ r. ⌜ r ≡ recordAfter before rec ⌝ }
 {
     let last = rec.last;
-    let spare = before.spare;
     Record {
         pid: rec.pid,
         last: last_says(last),
         mark: mark_says(before.mark, rec.mark),
-        spare,
+        rejection: rec.rejection,
         in_hand: rec.in_hand,
         pointer: rec.pointer,
-        delivered: rec.delivered,
+        accepted: rec.accepted,
         broken: rec.broken,
         filler: rec.filler,
         skipped: rec.skipped,
-        spare_counter: before.spare_counter,
+        rejected: rec.rejected,
     }
 }
 
 fn blank() -> Record
     ensures { λ r. ⌜ r ≡ zeros ⌝ }
 {
-    let spare = [0u8; 4];
     Record {
         pid: 0,
         last: 0,
         mark: 0,
-        spare,
+        rejection: 0,
         in_hand: 0,
         pointer: 0,
-        delivered: 0,
+        accepted: 0,
         broken: 0,
         filler: 0,
         skipped: 0,
-        spare_counter: 0,
+        rejected: 0,
     }
 }
 

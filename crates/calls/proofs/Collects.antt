@@ -2,12 +2,12 @@
 -- numbers cannot tell from none.
 use mathlib.Core.Path.{_≡_, refl, sym, ap, _∙_, subst}
 use mathlib.Core.Bool.{Bool, true, false, not}
-use mathlib.Core.List.{List, [], _∷_, map}
+use mathlib.Core.List.{List, [], _∷_, _++_, map}
 use mathlib.Core.Logic.{_↔_}
 use mathlib.Core.Option.{Option, none, some}
 use Prim.Native.Nat.{ℕ, _<_}
 use native.Mathlib.Omega.{arith}
-use lib.ListN.{length}
+use lib.ListN.{length, take}
 use lib.Dec.{eqb}
 use borrow.Author.Tests.{ne-eqb, eqb-true, eqb-false, not-true}
 use Rattle.wire.proofs.IfLaws.{if-case}
@@ -21,11 +21,13 @@ use Rattle.collector.specs.Rules.{byKind, done}
 use Rattle.collector.specs.Answer as collector
 use Rattle.collector.specs.Collected.{bytesCounted, recordWith, freshRecord, outcomeOf, collected}
 use Rattle.history.specs.Run as beneath
+use Rattle.history.specs.Run.{cut, handedBy, handed}
+use Rattle.history.proofs.Judging.{none-rejected-leaves}
 use Rattle.collector.specs.declared.Last.the-variants.{None, Counter}
 use Rattle.collector.specs.declared.Record as of
-use Rattle.cabinet.specs.Collect.{lastIn, lastSays, markIn, markSays, numbersWith, zeros, SameName, recordIn, recordAfter, recordSays, collectSays, Outcome, leaves, outcomeSays, collecting}
+use Rattle.cabinet.specs.Collect.{lastIn, lastSays, markIn, markSays, numbersWith, SameName, recordIn, recordAfter, recordSays, collectSays, Outcome, leaves, outcomeSays, collecting}
 use Rattle.cabinet.proofs.Outcomes.{last-kept, mark-kept, record-kept}
-use Rattle.calls.specs.Collects.{LastIs, Stands, Tells, tells-refused, tells-repeated, tells-taken, Promised, Kept, KeepsNumbers, Call, Run, no-call, one-call, callSays, Beneath, RunsBeneath}
+use Rattle.calls.specs.Collects.{LastIs, Stands, Tells, tells-refused, tells-repeated, tells-taken, Promised, Kept, KeepsNumbers, Call, Run, no-call, one-call, handedOut, callSays, Beneath, RunsBeneath}
 use Rattle.cabinet.specs.declared.collect.Record.{Record}
 
 -- ---- a taken packet's counter has four bits
@@ -85,7 +87,7 @@ told-on x hold out packet t =
 
 told-back : (x : of.Record) → NumbersTell x → recordIn (recordSays x) ≡ x
 told-back x t =
-    λ i. recordWith (x .pid) (t i) (mark-told 0 (x .mark) i) (x .in_hand) (λ k. bytesCounted (done k) x)
+    λ i. recordWith (x .pid) (t i) (mark-told 0 (x .mark) i) (x .rejection) (x .in_hand) (λ k. bytesCounted (done k) x)
 
 -- ---- field by field
 
@@ -105,8 +107,9 @@ stands r = record {
   pid = refl;
   last = last-is (r .last);
   mark = mark-is (r .mark);
+  rejection = refl;
   in-hand = refl;
-  counters = byKind (SameName r (recordIn r)) refl refl refl refl refl;
+  counters = byKind (SameName r (recordIn r)) refl refl refl refl refl refl;
 }
 
 pub collect-tells : (t : collector.Reply) → Tells t (collectSays t)
@@ -120,8 +123,7 @@ collect-tells (collector.taken n b) = tells-taken refl refl refl refl
 written-again : (r : Record) (x : of.Record) → recordAfter r (recordIn (recordAfter r x)) ≡ recordAfter r x
 written-again r x =
     λ i. numbersWith (x .pid) (last-kept (lastSays (x .last)) i) (markSays (r .mark) (mark-told (r .mark) (x .mark) i))
-    (r .spare)
-    (x .in_hand) (λ k. bytesCounted (done k) x) (r .«spare_counter»)
+    (x .rejection) (x .in_hand) (λ k. bytesCounted (done k) x)
 
 -- so numbers that come to mean the same are the same
 same-meaning : (r : Record) (x : of.Record) → recordIn (recordAfter r x) ≡ recordIn r → recordAfter r x ≡ r
@@ -140,13 +142,13 @@ last-alike : (n m : ℕ) → lastIn n ≡ lastIn m → n ≡ m
 last-alike n m e = sym (last-kept n) ∙ ap lastSays e ∙ last-kept m
 
 -- what a call leaves, whatever the collector makes of the record
-kept-by : (r : Record) (x : of.Record) → x .pid ≡ r .pid → Kept r (recordAfter r x)
-kept-by r x e = record {
+kept-by : (r : Record) (x : of.Record) → x .pid ≡ r .pid → (x .rejected ≡ r .rejected → x .rejection ≡ r .rejection)
+    → Kept r (recordAfter r x)
+kept-by r x e stays = record {
   pid = e;
   last = last-alike (lastSays (x .last)) (r .last);
   mark = mark-alike (r .mark) (x .mark);
-  spare = refl;
-  spare-counter = refl;
+  rejection = stays;
   whole = same-meaning r x;
 }
 
@@ -156,7 +158,8 @@ keeps-numbers r hold out packet o is =
     let x = recordIn r in
     let ruled = ruling (tooSmall (length hold) (length out)) (cannotStand x hold) (x .pid) (beforeOf x) packet in
     subst (λ (z : Outcome). Kept r (z .rec)) (sym is)
-    (kept-by r (collected x hold out packet .rec) (pid-kept x hold out ruled))
+    (kept-by r (collected x hold out packet .rec) (pid-kept x hold out ruled)
+    (none-rejected-leaves x hold out packet (collected x hold out packet) refl))
 
 -- ---- a run, call by call
 
@@ -168,8 +171,8 @@ mark-after false true = refl
 
 says-after : (x y : of.Record) → recordAfter (recordSays x) y ≡ recordSays y
 says-after x y =
-    λ i. numbersWith (y .pid) (lastSays (y .last)) (mark-after (x .mark) (y .mark) i) (zeros .spare) (y .in_hand)
-    (λ k. bytesCounted (done k) y) 0
+    λ i. numbersWith (y .pid) (lastSays (y .last)) (mark-after (x .mark) (y .mark) i) (y .rejection)
+    (y .in_hand) (λ k. bytesCounted (done k) y)
 
 -- one call, in numbers, is that of the collector
 says-on : (x : of.Record) (hold out packet : List ℕ) → NumbersTell x
@@ -224,3 +227,20 @@ runs x hold (k ∷ ks) r r′ hold′ t is (one-call {r₁ = r₁} {hold₁ = ho
 
 pub runs-beneath : RunsBeneath Promised
 runs-beneath pid fresh hold calls r hold′ is x = runs (freshRecord pid) hold calls fresh r hold′ refl is x
+
+-- ---- the sections that the calls hand out
+
+handed-says : (said : collector.Reply) (out : List ℕ)
+    → cut (collectSays said .sections) (take (collectSays said .size) out) ≡ handedBy said out
+handed-says (collector.refusedWith n) out = refl
+handed-says collector.repeated out = refl
+handed-says (collector.taken n b) out = refl
+
+-- are those of the calls beneath
+handed-beneath : (under : List beneath.Call) → handedOut (map callSays under) ≡ handed under
+handed-beneath [] = refl
+handed-beneath (k ∷ ks) = λ i. handed-says (k .said) (k .out′) i ++ handed-beneath ks i
+
+pub handed-out : {from : of.Record} {hold : List ℕ} {calls : List Call} {r : Record} {hold′ : List ℕ}
+    → (b : Beneath from hold calls r hold′) → handedOut calls ≡ handed (b .under)
+handed-out b = ap handedOut (b .calls-say) ∙ handed-beneath (b .under)

@@ -1,5 +1,6 @@
 -- That the promises of the calls give each statement.
 pub mod Collects
+pub mod Judging
 pub mod Refusals
 pub mod Judges
 pub mod Rolls

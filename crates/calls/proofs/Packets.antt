@@ -1,17 +1,17 @@
 -- What `lohitunga_packets` answers and writes; and that its packets, fed to `lohitunga_collect`, give the sections back.
 use mathlib.Core.Path.{_≡_, refl, sym, ap, _∙_, subst}
-use mathlib.Core.List.{List, [], _∷_, _++_, map}
+use mathlib.Core.List.{List, [], _∷_, map}
 use mathlib.Core.Option.{Option, none, some}
 use Prim.Native.Nat.{ℕ, _*_, _≤_}
 use native.Mathlib.Omega.{arith}
-use lib.ListN.{length, take, drop}
+use lib.ListN.{length, drop}
 use Rattle.wire.specs.Each.{Each}
 use Rattle.packet.specs.Refusals.{firstOf}
-use Rattle.collector.specs.Rules.{broken, skipped}
+use Rattle.collector.specs.Rules.{accepted, rejected, broken, skipped}
 use Rattle.collector.specs.Answer as collector
 use Rattle.collector.specs.Collected.{freshRecord}
 use Rattle.history.specs.Run as beneath
-use Rattle.history.specs.Run.{Fare, fareOf, cut, handedBy, handed}
+use Rattle.history.specs.Run.{Fare, fareOf}
 use Rattle.writer.specs.Answer as writer
 use Rattle.writer.specs.Written.{refusals, outcomeBy, written}
 use Rattle.reverse.specs.Rule.{Obeys}
@@ -25,8 +25,8 @@ use Rattle.cabinet.specs.Packets.{packetsSays}
 use Rattle.cabinet.specs.declared.packets.PacketsAnswer.{PacketsAnswer}
 use Rattle.cabinet.specs.declared.collect.Record.{Record}
 use Rattle.calls.specs.Collects.{Promised, Call, no-call, one-call, callSays, Beneath}
-use Rattle.calls.specs.Packets.{NumberedExactlyIf, WritesByRule, RefusalLeaves, handedOut, ComeBack, PacketsComeBack, RunsOver}
-use Rattle.calls.proofs.Collects.{runs-beneath}
+use Rattle.calls.specs.Packets.{NumberedExactlyIf, WritesByRule, RefusalLeaves, ComeBack, PacketsComeBack, RunsOver}
+use Rattle.calls.proofs.Collects.{runs-beneath, handed-out}
 use Rattle.calls.proofs.PacketLaws.{said-wrote, told-wrote, refused-as}
 
 -- ---- one call
@@ -85,20 +85,10 @@ taken-says (collector.refusedWith n) x = absurd x
 taken-says collector.repeated x = absurd x
 taken-says (collector.taken n b) x = (refl, refl)
 
-handed-says : (said : collector.Reply) (out : List ℕ)
-    → cut (collectSays said .sections) (take (collectSays said .size) out) ≡ handedBy said out
-handed-says (collector.refusedWith n) out = refl
-handed-says collector.repeated out = refl
-handed-says (collector.taken n b) out = refl
-
 each-says : (under : List beneath.Call) → Each (λ k. fareOf (k .said) ≡ beneath.taken) under
     → Each TakenCall (map callSays under)
 each-says [] x = tt
 each-says (k ∷ ks) x = (taken-says (k .said) (subst IsTaken (sym (x .0)) tt), each-says ks (x .1))
-
-handed-beneath : (under : List beneath.Call) → handedOut (map callSays under) ≡ handed under
-handed-beneath [] = refl
-handed-beneath (k ∷ ks) = λ i. handed-says (k .said) (k .out′) i ++ handed-beneath ks i
 
 rooms-beneath : (under : List beneath.Call) → Each (λ k. 4280 ≤ length (k .out)) (map callSays under)
     → Each (λ k. 4280 ≤ length (k .out)) under
@@ -113,13 +103,23 @@ packets-beneath (k ∷ ks) = ap (λ (l : List (List ℕ)). k .packet ∷ l) (pac
 come-back : (pid : ℕ) (sections : List (List ℕ)) (hold : List ℕ) (calls : List Call) (r : Record) (hold′ : List ℕ)
     → (b : Beneath (freshRecord pid) hold calls r hold′) → AllDelivered sections (b .under) (b .rec)
     → ComeBack sections calls r
-come-back pid sections hold calls r hold′ b d = record {
-  each-taken = subst (Each TakenCall) (sym (b .calls-say)) (each-says (b .under) (d .each-taken));
-  handed-are = ap handedOut (b .calls-say) ∙ handed-beneath (b .under) ∙ d .handed-are;
-  none-broken = sym (b .record-stands .counters broken) ∙ d .none-broken;
-  none-skipped = sym (b .record-stands .counters skipped) ∙ d .none-skipped;
-  none-in-hand = sym (b .record-stands .in-hand) ∙ d .none-in-hand;
-}
+come-back pid sections hold calls r hold′ b d =
+    let stands = b .record-stands in
+    record {
+      each-taken = subst (Each TakenCall) (sym (b .calls-say)) (each-says (b .under) (d .each-taken));
+      handed-are = handed-out b ∙ d .handed-are;
+      accepted-are = sym (stands .counters accepted) ∙ d .accepted-are;
+      rejected-are = sym (stands .counters rejected) ∙ d .rejected-are;
+      number-is = sym (stands .rejection) ∙ d .number-is;
+      all-accepted = λ each. let all = d .all-accepted each in record {
+        handed-are = handed-out b ∙ all .handed-are;
+        none-rejected = sym (stands .counters rejected) ∙ all .rejected-are;
+        no-number = sym (stands .rejection) ∙ all .number-is;
+      };
+      none-broken = sym (stands .counters broken) ∙ d .none-broken;
+      none-skipped = sym (stands .counters skipped) ∙ d .none-skipped;
+      none-in-hand = sym (stands .in-hand) ∙ d .none-in-hand;
+    }
 
 pub packets-come-back : PacketsComeBack Promised
 packets-come-back pid counter bytes sizes room room′ a fresh hold calls r hold′ p z is enough rooms run e sections x =

@@ -1,4 +1,4 @@
--- The walk over the out room hands out the sections that the collector finished.
+-- The walk over the out room hands out the sections that the collector accepted.
 use Prim.Native.Nat.{ℕ}
 use mathlib.Core.Path.{_≡_, refl, sym, ap, _∙_, subst}
 use mathlib.Core.List.{List, [], _∷_, flatten}
@@ -9,9 +9,10 @@ use Rattle.wire.specs.Sections.{WholeSection}
 use Rattle.copy.specs.Laid.{over}
 use Rattle.packet.specs.Ruling.{Carried, Ruling, refuses, repeated, takes, ruling}
 use Rattle.packet.specs.Ruling as Ruled
-use Rattle.collector.specs.Rules.{Story, plain, holding, storyAfter, delivered, delivers}
+use Rattle.collector.specs.Rules.{Story, accepted, plain, holding, storyAfter}
+use Rattle.collector.specs.Judged.{byJudge, deliveredOf}
 use Rattle.collector.specs.Refusals.{beforeOf, cannotStand, tooSmall}
-use Rattle.collector.specs.Collected.{outcomeOf, deliveredOf}
+use Rattle.collector.specs.Collected.{outcomeOf}
 use Rattle.collector.specs.declared.Record as of
 use Rattle.collector.proofs.StoryLaws.{sections-each}
 use Rattle.history.specs.Run.{cut}
@@ -34,7 +35,7 @@ abbrev Hands : Outcome → Type 0
 Hands o =
     HandsSections (o .out) (part 0 (o .answer .size)) (cut (o .answer .sections) (take (o .answer .size) (o .out)))
 
--- nothing was finished
+-- nothing is handed out
 none-out : (out : List ℕ) → HandsSections out (part 0 0) []
 unfolding flatten
 none-out out =
@@ -59,7 +60,7 @@ front-out secs out whole =
 
 -- the story of a packet that is taken
 abbrev storyOf : of.Record → List ℕ → Carried ℕ → Story ℕ
-storyOf r hold q = storyAfter delivers plain (beforeOf r .last) (holding (take (r .in_hand) hold)) q
+storyOf r hold q = storyAfter byJudge plain (beforeOf r .last) (holding (take (r .in_hand) hold)) q
 
 by-ruling : (before : Record) (r : of.Record) (hold out : List ℕ) (z : Ruling)
     → Hands (outcomeSays before (outcomeOf r hold out z))
@@ -68,8 +69,8 @@ by-ruling before r hold out repeated = none-out out
 by-ruling before r hold out (Ruled.bare splice) = none-out out
 by-ruling before r hold out (takes q) =
     front-out (deliveredOf (storyOf r hold q)) out
-    (sections-each delivers plain delivered WholeSection (storyOf r hold q .sections)
-    (whole-taken delivers (beforeOf r .last) (take (r .in_hand) hold) q))
+    (sections-each byJudge plain accepted WholeSection (storyOf r hold q .sections)
+    (whole-taken byJudge (beforeOf r .last) (take (r .in_hand) hold) q))
 
 pub hands-out-all : HandsOutAll Promised
 unfolding collecting

@@ -2,11 +2,13 @@
 -- collector is called with them.
 use mathlib.Core.Path.{_≡_}
 use mathlib.Core.Logic.{_⊎_, _↔_}
-use mathlib.Core.List.{List, [], _∷_, _++_, map}
-use Prim.Native.Nat.{ℕ, _*_, _≤_, _<_}
-use lib.ListN.{length, take, drop}
+use mathlib.Core.List.{List, map, flatten}
+use Prim.Native.Nat.{ℕ, _*_, _%_, _^_, _≤_, _<_}
+use lib.ListN.{length, drop}
 use Rattle.wire.specs.Each.{Each}
-use Rattle.history.specs.Run.{cut}
+use Rattle.verdict.specs.Verdict as Verdict
+use Rattle.section.specs.Reading.{judged}
+use Rattle.collector.specs.Judged.{acceptedAmong, rejectedAmong, lastNumber}
 use Rattle.writer.specs.Written.{written}
 use Rattle.reverse.specs.Sent.{Sent}
 use Rattle.reverse.specs.Rule.{Obeys}
@@ -14,7 +16,7 @@ use Rattle.reverse.specs.Writer.{RightStart, Carries, packetsIn}
 use Rattle.cabinet.specs.Packets.{packetsSays}
 use Rattle.cabinet.specs.declared.packets.PacketsAnswer.{PacketsAnswer}
 use Rattle.cabinet.specs.declared.collect.Record.{Record}
-use Rattle.calls.specs.Collects.{Collector, PromisedFresh, Call, Run}
+use Rattle.calls.specs.Collects.{Collector, PromisedFresh, Call, Run, handedOut}
 
 -- what `lohitunga_packets` promises of a PID, a first counter, sections end to end, their sizes and a room: the answer,
 -- and the room after it
@@ -48,22 +50,28 @@ RefusalLeaves = (pid counter : ℕ) (bytes sizes room room′ : List ℕ) (a : P
 
 -- ---- the packets, and the calls of the collector with them
 
--- the sections that the calls hand out: as many as each tells, cut by their own headers off the bytes that it tells
-abbrev pub handedOut : List Call → List (List ℕ)
-handedOut [] = []
-handedOut (k ∷ ks) = cut (k .answer .sections) (take (k .answer .size) (k .out′)) ++ handedOut ks
+-- exactly these sections are handed out, no byte is rejected, and the number is 0
+pub record AllComeBack (sections : List (List ℕ)) (calls : List Call) (r : Record) : Type 0 where
+  pub handed-are : handedOut calls ≡ sections
+  pub none-rejected : r .rejected ≡ 0
+  pub no-number : r .rejection ≡ 0
 
--- every packet is taken, exactly these sections are handed out, no byte is broken off or skipped, and none is left in
--- hand
+-- every packet is taken, those of the sections are handed out that the judge accepts, the bytes of the others are
+-- rejected, no byte is broken off or skipped, and none is left in hand; if the judge accepts each section, all come back
 pub record ComeBack (sections : List (List ℕ)) (calls : List Call) (r : Record) : Type 0 where
   pub each-taken : Each (λ k. (k .answer .number ≡ 0) × (k .answer .repeated ≡ 0)) calls
-  pub handed-are : handedOut calls ≡ sections
+  pub handed-are : handedOut calls ≡ acceptedAmong sections
+  pub accepted-are : r .accepted ≡ length (flatten (acceptedAmong sections)) % 2 ^ 32
+  pub rejected-are : r .rejected ≡ length (flatten (rejectedAmong sections)) % 2 ^ 32
+  pub number-is : r .rejection ≡ lastNumber 0 (rejectedAmong sections)
+  pub all-accepted : Each (λ s. judged s ≡ Verdict.accepted) sections → AllComeBack sections calls r
   pub none-broken : r .broken ≡ 0
   pub none-skipped : r .skipped ≡ 0
   pub none-in-hand : r .in_hand ≡ 0
 
--- "A fresh collector fed these packets delivers exactly these sections and breaks off nothing": of every run over the
--- packets that a call wrote, with a hold and out rooms that are large enough, whatever they hold
+-- "A fresh collector fed these packets delivers exactly these sections and breaks off nothing", which "now speaks of
+-- sections that the judge accepts": of every run over the packets that a call wrote, with a hold and out rooms that are
+-- large enough, whatever they hold
 abbrev pub PacketsComeBack : Collector → Type 0
 PacketsComeBack C = (pid counter : ℕ) (bytes sizes room room′ : List ℕ) (a : PacketsAnswer)
     (fresh : Record) (hold : List ℕ) (calls : List Call) (r : Record) (hold′ : List ℕ)

@@ -1,4 +1,4 @@
--- The sections of the out room. A call of the collector tells how many sections it finished, and of how many bytes; the walk over the part of the
+-- The sections of the out room. A call of the collector tells how many sections it accepted, and of how many bytes; the walk over the part of the
 -- out room that has so many bytes hands out those sections, all of them and in order.
 use mathlib.Core.Path.{_≡_}
 use mathlib.Core.List.{List}

@@ -13,7 +13,7 @@ record-after-requires : tie.Need-record-after-requires
 record-after-requires c κs = search needs
 
 returns : tie.Need-returns
-returns c = rw (c .record-after .ensures, c .before .fresh .ensures, c .before .before .blank .ensures)
+returns c = rw (c .record-after .ensures, c .before .fresh .ensures)
 
 pub lohitunga-fresh-spec : {M : Type 1} → statement M
 lohitunga-fresh-spec = tie.close (tie.spec blank-requires fresh-requires record-after-requires returns)
