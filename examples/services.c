@@ -2,7 +2,8 @@
  *
  *     services FILE [PID]         PID in hexadecimal; without one it is 0011, on which SDTs are broadcast
  *
- * It ends when all sections of the table have come, or with the stream.
+ * The collector hands out sections that are accepted, and no other; of those that it rejects their bytes are told. It ends when all sections of the table
+ * have come, or with the stream.
  */
 #include <stdio.h>
 #include <stdlib.h>
@@ -54,13 +55,9 @@ static void print_services(const uint8_t *section, size_t size, const lohitunga_
     }
 }
 
-/* Prints a section that has not been printed. Is the table complete? */
+/* Prints a section that was handed out and has not been printed. Is the table complete? */
 static int print_section(lohitunga_roll *roll, const uint8_t *section, size_t size) {
     lohitunga_open_answer opened = lohitunga_open(section, size);
-    if (opened.number) {
-        printf("a section is refused: %u, place %zu\n", opened.number, opened.place);
-        return 0;
-    }
     if (opened.head.table_id != LOHITUNGA_TABLE_SDT_ACTUAL)
         return 0;
     lohitunga_roll before = *roll;
@@ -91,7 +88,10 @@ int main(int argc, char **argv) {
     lohitunga_roll roll = lohitunga_roll_empty();
     size_t read;
     while ((read = fread(packet, 1, sizeof packet, stream)) > 0) {
+        uint32_t rejected = record.rejected;
         lohitunga_collect_answer answer = lohitunga_collect(&record, hold, sizeof hold, out, sizeof out, packet, read);
+        if (record.rejected != rejected)
+            printf("%u bytes are rejected, the last section with %u\n", record.rejected - rejected, record.rejection);
         /* what is not taken hands out nothing: `size` is then 0 */
         lohitunga_part all = {0, answer.size};
         lohitunga_section_step step = lohitunga_next_section(out, sizeof out, all);

@@ -1,12 +1,13 @@
 /* Lohitunga from C: the service information of digital television, EN 300 468 (V1.16.1).
  *
- * It collects sections from transport packets and puts sections into packets, judges them to the last byte, finds descriptors in them and reads those,
+ * It collects sections from transport packets and judges each to the last byte, puts sections into packets, finds descriptors in them and reads those,
  * turns sections into content sheets and back, and tells which sections of a table have come. No call trusts a length on the wire. Each call ends, traps
  * never, and reads and writes nothing but what was lent: this is proved for every input, and so is what each call answers. The functions are for x86-64
- * Linux; they use no heap, no global data and no system call, and any number of threads may call them at once, each with what it lends. Of the C library
- * they call memcpy and memset.
+ * Linux; they use no heap, no global data and no system call, and any number of threads may call them at once, each with what it lends. Of the C library they
+ * call memcpy and memset.
  *
- * How to begin: how many sections a PID of a stream on standard input has. The compiler's words are those of `pkg-config --cflags --libs lohitunga`.
+ * How to begin: how many good sections a PID of a stream on standard input has. The compiler's words are those of
+ * `pkg-config --cflags --libs lohitunga`.
  *
  *     #include <stdio.h>
  *     #include <lohitunga.h>
@@ -16,7 +17,7 @@
  *         size_t sections = 0;
  *         while (fread(packet, sizeof packet, 1, stdin) == 1)
  *             sections += lohitunga_collect(&record, hold, sizeof hold, out, sizeof out, packet, sizeof packet).sections;
- *         printf("%zu sections of %u bytes\n", sections, record.delivered);
+ *         printf("%zu sections of %u bytes, %u bytes rejected\n", sections, record.accepted, record.rejected);
  *     }
  *
  * What holds for every call
@@ -43,7 +44,7 @@ extern "C" {
 /* The version of the library, and the number of this interface: it goes up when the layout of a struct or the meaning of a call changes. A program that
  * was compiled with this header may use an archive or a shared library for which lohitunga_interface() tells the same number. */
 #define LOHITUNGA_VERSION "0.1"
-#define LOHITUNGA_INTERFACE 4
+#define LOHITUNGA_INTERFACE 5
 
 uint32_t lohitunga_interface(void);
 
@@ -130,13 +131,13 @@ typedef struct lohitunga_part {
  */
 uint32_t lohitunga_crc32(const uint8_t *bytes, size_t size);
 
-/* The collector: from packets of one PID to sections.
+/* The collector: from packets of one PID to sections that the judge accepts.
  *
  * number   given when
  *   41     the packet is not 188 bytes
  *   42     the hold is under 4,096 bytes or the out room under 4,280
- *   43     the record can't stand: pid above 8,191; last above 15 and not LOHITUNGA_NO_COUNTER; in_hand above 4,095; bytes in hand but no counter; the
- *          first held byte 0xFF; 3 or more held whose header declares no more than are held, or over 4,096 in all
+ *   43     the record can't stand: pid above 8,191; last above 15 and not LOHITUNGA_NO_COUNTER; rejection above 10; in_hand above 4,095; bytes in hand
+ *          but no counter; the first held byte 0xFF; 3 or more held whose header declares no more than are held, or over 4,096 in all
  *   44     the first byte is not 0x47
  *   45     transport_error_indicator is 1
  *   46     the packet has another PID
@@ -149,44 +150,48 @@ uint32_t lohitunga_crc32(const uint8_t *bytes, size_t size);
 #define LOHITUNGA_OUT 4280
 #define LOHITUNGA_NO_COUNTER 255
 
-/* A collector's record. What is in hand stands at the start of the hold; record and hold go together from packet to packet. The five counters count the
- * payload bytes of each fate and run round past 4,294,967,295 to 0.
- * The struct has no padding. What is spare is read and altered by no call; a number is rewritten only where its meaning changes. So a record can be kept
- * and compared byte for byte: one that means the same after a packet is the same bytes. */
+/* A collector's record. What is in hand stands at the start of the hold; record and hold go together from packet to packet. The six counters count the
+ * payload bytes of each fate and run round past 4,294,967,295 to 0. The bytes of each section that came whole count as accepted or as rejected, as
+ * lohitunga_judge judges it; of one that is rejected its number is kept, that of the last one only. It is never 1 or 5 of a section that came whole, and
+ * one that is accepted leaves it.
+ * The struct has no padding, and a number is rewritten only where its meaning changes. So a record can be kept and compared byte for byte: one that means
+ * the same after a packet is the same bytes. */
 typedef struct lohitunga_record {
     uint16_t pid;
-    uint8_t last; /* the last continuity_counter, 0 to 15; LOHITUNGA_NO_COUNTER for none */
-    uint8_t mark; /* not 0: a splice was marked, and no packet with payload was taken since; where a call sets it, it writes 1 */
-    uint8_t spare[4];
+    uint8_t last;       /* the last continuity_counter, 0 to 15; LOHITUNGA_NO_COUNTER for none */
+    uint8_t mark;       /* not 0: a splice was marked, and no packet with payload was taken since; where a call sets it, it writes 1 */
+    uint32_t rejection; /* the number of the section rejected last, 1 to 10; 0 for none yet; any other gets 43 */
     size_t in_hand;
     uint32_t pointer;
-    uint32_t delivered;
+    uint32_t accepted;
     uint32_t broken;
     uint32_t filler;
     uint32_t skipped;
-    uint32_t spare_counter;
+    uint32_t rejected;
 } lohitunga_record;
 
 typedef struct lohitunga_collect_answer {
     uint32_t number;   /* 0, or 41 to 49 */
     uint32_t repeated; /* 1 for a repeated packet, which alters nothing; else 0 */
-    size_t sections;   /* how many sections were finished */
+    size_t sections;   /* how many sections came whole and were accepted */
     size_t size;       /* how many bytes they are: the first of the out room, end to end */
 } lohitunga_collect_answer;
 
-/* A record without counter and mark, with nothing in hand and zeros, also in what is spare. Any number is taken; a pid above 8,191 gets 43 at each
- * packet. */
+/* A record without counter and mark, with nothing in hand, no section rejected and zeros. Any number is taken; a pid above 8,191
+ * gets 43 at each packet. */
 lohitunga_record lohitunga_fresh(uint16_t pid);
 
-/* One packet. Alters the record; of the hold the first bytes, as many as are then in hand; of the out room the first `size` bytes. All other bytes of
- * either stay.
+/* One packet. Each section that it ends is judged, also where its beginning came with packets before, and those that are accepted are handed out; a
+ * section_length above 4,093 breaks its section off, and that one is not judged. Alters the record; of the hold the first bytes, as many as are then in
+ * hand; of the out room the first `size` bytes. All other bytes of either stay, also where a section is rejected. A packet that is refused or repeated
+ * alters no byte of the three.
  * A packet that is not refused sets the mark by an adaptation field of at least one byte with discontinuity_indicator set. The next packet with
  * payload, the marked one itself if it has any, is never repeated, breaks off what is in hand and clears the mark. */
 lohitunga_collect_answer lohitunga_collect(lohitunga_record *record, uint8_t *hold, size_t hold_size, uint8_t *out, size_t out_size,
                                            const uint8_t *packet, size_t packet_size);
 
 /* The sections of the out room, in turn, so that no caller cuts them by a length. `rest` is at first the part that lohitunga_collect filled, of which
- * the start is 0 and the size its answer's; then what the step before left. All sections that were collected come out, in order. */
+ * the start is 0 and the size its answer's; then what the step before left. All sections that were accepted come out, in order. */
 typedef struct lohitunga_section_step {
     uint8_t found; /* 1 for a section; 0 where there is none, and then `section` is no part */
     lohitunga_part section;
@@ -212,7 +217,8 @@ typedef struct lohitunga_packets_answer {
  * packets * LOHITUNGA_PACKET bytes of the room; later bytes stay. No section makes no packet, and needs no room.
  * The packets have no adaptation field, and counters from `counter` on; a next call goes on with (counter + packets) % 16. The start flag stands only
  * where a section begins, a filler byte only where no section waits, or where the pointer would need the one byte left. lohitunga_collect, from a fresh
- * record on, takes them all, delivers exactly these sections and breaks off nothing.
+ * record on, takes them all and hands out those of the sections that lohitunga_judge accepts, all of them if it accepts each; it counts the others' bytes
+ * as rejected, and breaks off nothing.
  * Each packet but the last has 183 bytes of sections or 184: a room for (sections_size + 182) / 183 packets is always large enough. */
 lohitunga_packets_answer lohitunga_packets(uint16_t pid, uint8_t counter, const uint8_t *sections, size_t sections_size, const size_t *sizes, size_t count,
                                            uint8_t *room, size_t room_size);
@@ -236,6 +242,7 @@ typedef struct lohitunga_judge_answer {
     size_t place;
 } lohitunga_judge_answer;
 
+/* What lohitunga_collect hands out was judged so: this is for sections that come from elsewhere. */
 lohitunga_judge_answer lohitunga_judge(const uint8_t *section, size_t size);
 
 typedef struct lohitunga_search_answer {
@@ -688,11 +695,11 @@ lohitunga_roll_answer lohitunga_roll_take(lohitunga_roll *roll, const uint8_t *s
  *   lohitunga_to_sheet             1,384
  *   lohitunga_open                 1,368
  *   lohitunga_search               1,272
+ *   lohitunga_collect              1,192
  *   lohitunga_to_section             904
  *   lohitunga_judge                  712
  *   lohitunga_next_entry             632
  *   lohitunga_roll_ask               304
- *   lohitunga_collect                256
  *   lohitunga_packets                184
  *   lohitunga_read_local_time_offset 184
  *   lohitunga_read_satellite         184

@@ -40,9 +40,9 @@ static inline const char *lohitunga_text(uint32_t number) {
     case 41: return "The packet is not 188 bytes.";
     case 42: return "The hold is under 4,096 bytes or the out room under 4,280.";
     case 43:
-        return "The record can't stand: PID above 8,191; counter above 15; more than 4,095 bytes in hand; bytes in "
-               "hand without a counter; first held byte 0xFF; or a held header that declares no more than is held, "
-               "or over 4,096 in all.";
+        return "The record can't stand: PID above 8,191; counter above 15; number of the section rejected last above "
+               "10; more than 4,095 bytes in hand; bytes in hand without a counter; first held byte 0xFF; or a held "
+               "header that declares no more than is held, or over 4,096 in all.";
     case 44: return "The first byte is not 0x47.";
     case 45: return "transport_error_indicator is 1: the receiver before us could not correct the packet.";
     case 46: return "The packet has another PID.";

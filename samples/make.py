@@ -5,8 +5,9 @@
     samples/make.py --check    says whether the two are what this file says, and changes nothing
 
 NIT, BAT, SDT, EIT, TDT and TOT sections, packed end to end; and what happens to streams: a gap, repeated packets, a splice, splices that the
-sender marks, packets that document 01 refuses, adaptation fields, a section whose length no section can have, a last piece that is cut. The
-account is kept here by rules of its own, byte by byte from document 01 and request (ix) of document 02, and not by the library.
+sender marks, packets that document 01 refuses, adaptation fields, sections that the judge rejects, a section whose length no section can have, a
+last piece that is cut. The account is kept here by rules of its own, byte by byte from document 01 and requests (viii) and (ix) of document 02,
+with the judge of tests/sections.py, and not by the library.
 """
 import random
 import sys
@@ -88,7 +89,17 @@ def stream(count=60):
         made.TDT,
         made.tot(made.loop(bytes.fromhex("580D4742520200 00C0791245000100"))),
     ]
-    chosen = [rng.choice(tables) for _ in range(count)]
+    rejected = [
+        b"\x72\x70\x02\x00\x00",  # a stuffing table
+        made.section(0x73, made.TIME + made.loop(b""), syntax=1),
+        made.nit(top=made.loop(made.filled(1022 - 13))),
+        tables[1][:-1] + bytes([tables[1][-1] ^ 1]),  # a wrong CRC_32
+        made.nit(head=made.ABOVE),
+        made.eit(made.event(made.filled(60), 40)),  # a loop that claims forty bytes more than its section has, under a right CRC_32
+        made.sdt(made.service(made.NAME + b"\x48")),
+        made.sdt(made.service(made.NAME) + b"\x00"),
+    ]
+    chosen = [rejected[i // 7 % len(rejected)] if i % 7 == 3 else rng.choice(tables) for i in range(count)]
     packets, _ = packed(tables + chosen, 0)
     out = []
     for i, p in enumerate(packets):
@@ -114,12 +125,12 @@ def stream(count=60):
 
 
 def account(data, pid=None):
-    """Document 01's rules and request (ix), a byte at a time; the PID is that of the first packet, or another."""
+    """Document 01's rules and requests (viii) and (ix), a byte at a time; the PID is that of the first packet, or another."""
     if len(data) < 188:
         return "no packets\n"
     if pid is None:
         pid = (data[1] & 31) << 8 | data[2]
-    n = dict.fromkeys(["taken", "repeated", "refused", "pointer", "delivered", "broken", "filler", "skipped"], 0)
+    n = dict.fromkeys(["taken", "repeated", "refused", "pointer", "accepted", "rejected", "broken", "filler", "skipped"], 0)
     hand, last, sections, mark = b"", None, 0, False
 
     def stretch(payload, begin):
@@ -139,8 +150,9 @@ def account(data, pid=None):
                 hand = b""
                 return
             if len(hand) == size:
-                n["delivered"] += size
-                sections += 1
+                accepted = made.judge(hand) == made.ACCEPTED
+                n["accepted" if accepted else "rejected"] += size
+                sections += accepted
                 hand = b""
 
     for at in range(0, len(data), 188):

@@ -78,7 +78,7 @@ def stream():
     packets = other[:1] + first + other[1:2] + [first[-1]] + again + other[2:3] + lost + last + other[3:]
     lines = listed(0, lines_of(NEWS))
     lines += listed(1, lines_of(HOTEL) + ["service 4103 without a service descriptor", "service 4104 with a service descriptor that is refused: 62"])
-    lines += ["a section is refused: 6, place 0", "a section is refused: 8, place 14"]
+    lines += [f"{len(bad)} bytes are rejected, the last section with {number}" for bad, number in ((damaged, 6), (long, 8))]
     lines += listed(2, lines_of(MANY)) + ["complete"]
     return b"".join(packets), "\n".join(lines) + "\n"
 

@@ -81,8 +81,9 @@ static void print(const account *all) {
     const lohitunga_record *r = &all->record;
     printf("PID %04X\n", r->pid);
     printf("taken %" PRIu64 "\nrepeated %" PRIu64 "\nrefused %" PRIu64 "\n", all->taken, all->repeated, all->refused);
-    printf("pointer %" PRIu32 "\ndelivered %" PRIu32 "\nbroken %" PRIu32 "\n", r->pointer, r->delivered, r->broken);
-    printf("filler %" PRIu32 "\nskipped %" PRIu32 "\nin hand %zu\n", r->filler, r->skipped, r->in_hand);
+    printf("pointer %" PRIu32 "\naccepted %" PRIu32 "\nrejected %" PRIu32 "\n", r->pointer, r->accepted, r->rejected);
+    printf("broken %" PRIu32 "\nfiller %" PRIu32 "\nskipped %" PRIu32 "\n", r->broken, r->filler, r->skipped);
+    printf("in hand %zu\n", r->in_hand);
     printf("sections %" PRIu64 "\n", all->sections);
 }
 
