@@ -7,7 +7,7 @@
 /* A number for each field of collector::Record, in that order: the PID, the last counter or 16 for none, and so on;
  * it has fewer than 16. */
 typedef uint32_t record[16];
-/* sections * 65536 + bytes of a packet taken; REPEATED and up for the rest */
+/* sections * 65536 + bytes of those accepted in a packet taken; REPEATED and up for the rest */
 enum { REPEATED = 0xFFFFFFFE };
 extern uint64_t timed_collect(record *, uint8_t *hold, size_t, uint8_t *out, size_t, const uint8_t *packet, size_t);
 /* how many packets were written; all ones where none were */

@@ -5,8 +5,10 @@
     tests/sections.py --check    says whether the two are what this file says, and changes nothing
 
 The answers are written by hand, from document 01 and its worked values; the CRC_32 here is a bit at a time. A loop is
-put together from descriptors and what stands behind them, and the listing of its walk from the same pieces: no loop is read here.
+put together from descriptors and what stands behind them, and the listing of its walk from the same pieces: no loop is read for it.
+The judge here, by which samples/make.py accepts sections, is held to the answers: both ways they are checked.
 """
+import functools
 import sys
 from pathlib import Path
 
@@ -85,6 +87,84 @@ def filled(size):
         out += bytes([0x42, n - 2]) + bytes(n - 2)
         size -= n
     return out
+
+
+# document 01, "Tables that are known": the ids, the syntax bit, the least and the most section_length, an entry's fixed bytes
+ROWS = [
+    ([0x40, 0x41, 0x4A], 1, 13, 1021, 6),
+    ([0x42, 0x46], 1, 12, 1021, 5),
+    (range(0x4E, 0x70), 1, 15, 4093, 12),
+    ([0x70], 0, 5, 5, 0),
+    ([0x73], 0, 11, 1021, 0),
+]
+ACCEPTED = (0, 0)
+
+
+def twelve(data, at):
+    return (data[at] & 15) << 8 | data[at + 1]
+
+
+def judge_descriptors(data, at, end):
+    while at < end:
+        if end - at < 2 or at + 2 + data[at + 1] > end:
+            return 9, at
+        at += 2 + data[at + 1]
+    return ACCEPTED
+
+
+def judge_entries(data, at, end, fixed):
+    while at < end:
+        if end - at < fixed:
+            return 10, at
+        inside = at + fixed
+        at = inside + twelve(data, inside - 2)
+        if at > end:
+            return 8, inside - 2
+        verdict = judge_descriptors(data, inside, at)
+        if verdict != ACCEPTED:
+            return verdict
+    return ACCEPTED
+
+
+def judge_last_loop(data, at, end):
+    """A loop that must end just there: 8 if beyond, 10 if short."""
+    behind = at + 2 + twelve(data, at)
+    return (8, at) if behind > end else (10, behind) if behind < end else ACCEPTED
+
+
+def judge_loops(data, fixed):
+    end, top = len(data) - 4, 10 + twelve(data, 8)
+    if fixed in (5, 12):
+        return judge_entries(data, {5: 11, 12: 14}[fixed], end, fixed)
+    if fixed == 0:
+        verdict = judge_last_loop(data, 8, end)
+        return verdict if verdict != ACCEPTED else judge_descriptors(data, 10, end)
+    if top > end - 2:
+        return 8, 8
+    for verdict in (judge_descriptors(data, 10, top), judge_last_loop(data, top, end)):
+        if verdict != ACCEPTED:
+            return verdict
+    return judge_entries(data, top + 2, end, fixed)
+
+
+@functools.lru_cache(None)
+def judge(data):
+    """The number of the refusal, 0 for a section that is accepted, and the place."""
+    if len(data) < 3:
+        return 1, 0
+    row = next((row for row in ROWS if data[0] in row[0]), None)
+    if row is None:
+        return 2, 0
+    _, syntax, least, most, fixed = row
+    faults = [(3, data[1] >> 7 != syntax), (4, not least <= twelve(data, 1) <= most), (5, len(data) != 3 + twelve(data, 1))]
+    number = next((number for number, holds in faults if holds), 0)
+    if number or data[0] == 0x70:
+        return number, 0
+    if crc(data):
+        return 6, 0
+    if fixed and data[6] > data[7]:
+        return 7, 0
+    return judge_loops(data, fixed)
 
 
 ABOVE = bytes.fromhex("0001 C1 01 00")
@@ -220,7 +300,17 @@ def record(kind, byte, data):
     return bytes([kind, byte]) + len(data).to_bytes(2, "big") + data
 
 
+def wrongly_judged():
+    """The first case whose answer is not that of the judge here."""
+    for line, _, data in CASES:
+        number, place = judge(data)
+        if line.split(",")[0] != (f"refused {number} {place}" if number else "accepted"):
+            return f"{data.hex()}: {line}, but the judge here says {number} at {place}"
+
+
 def main():
+    if wrongly_judged():
+        sys.exit("sections: " + wrongly_judged())
     stdin = b"".join(record(0, tag, data) for _, tag, data in CASES) + b"".join(record(1, at, data) for at, data, _ in WALKS)
     said = [line for line, _, _ in CASES] + [line for _, _, lines in WALKS for line in lines]
     stdout = "".join(line + "\n" for line in said).encode()

@@ -8,7 +8,7 @@ static struct found none(const struct stream *t) { return (struct found){.sectio
 
 #define WAY(name) {#name, name}
 static const struct way ways[] = {
-    WAY(none), WAY(ours_collect), WAY(ours_judge),
+    WAY(none), WAY(ours_judge),
     WAY(bitstream_called_collect), WAY(bitstream_called_crc), WAY(bitstream_called_validate),
 #ifndef HEADERS
     WAY(ucsi_collect), WAY(ucsi_crc), WAY(ucsi_codec), WAY(dvbpsi_crc), WAY(avformat_crc),

@@ -3,7 +3,6 @@
 #define WAYS_H
 #include "../rounds.h"
 
-struct found ours_collect(const struct stream *);
 struct found ours_judge(const struct stream *);
 struct found bitstream_collect(const struct stream *);
 struct found bitstream_crc(const struct stream *);

@@ -5,7 +5,8 @@ cd "$(dirname "$0")/../.."
 tests/outside/second/build stand_in
 tried=target/second/stand_in.log
 target/second/stand_in 1 20000 >"$tried" || { cat "$tried"; exit 1; }
-# Kind and fault. What 63 to 65 tell is tried twice: by the second implementation, and by the caller's bytes, the kind digits.
+# Kind and fault. What 63 to 65 tell is tried twice: by the second implementation, and by the caller's bytes, the kind digits. So are faults of judging
+# what is collected: in histories of packets, and in the packets that were written.
 all="bytes:1 bytes:6 sections:2 sections:3 sections:4 sections:5 sections:23 sections:24 sections:25 sections:26
     packets:7 packets:8 packets:9 packets:10 packets:27 descriptors:11 descriptors:12 descriptors:13 times:14 times:15
     rolls:16 rolls:17 rolls:18 sheets:19 sheets:20 sheets:21 sheets:22
@@ -13,7 +14,10 @@ all="bytes:1 bytes:6 sections:2 sections:3 sections:4 sections:5 sections:23 sec
     digits:14 digits:28 digits:29 digits:30 digits:31 digits:32 digits:33
     packets:34 packets:35 packets:36 packets:37 packets:38 packets:39 packets:40 packets:41
     writer:42 writer:43 writer:44 writer:45 writer:46 writer:47 writer:48 writer:49 writer:50 writer:51 writer:52 writer:53
-    writer:54 writer:55"
+    writer:54 writer:55
+    packets:56 packets:57 packets:58 packets:59 packets:60 packets:61 packets:62 packets:63 packets:64 packets:65 packets:66
+    packets:67 packets:68 packets:69 packets:70 packets:71 packets:72 packets:73 packets:74
+    writer:57 writer:63 writer:64 writer:65 writer:66 writer:67 writer:69"
 for kind in $all; do
     status=0
     FAULT=${kind#*:} target/second/stand_in 1 20000 "${kind%:*}" >"$tried" || status=$?

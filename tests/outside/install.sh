@@ -23,14 +23,14 @@ tar xzf "target/lohitunga-$version-x86_64-linux.tar.gz" -C "$room"
 sed -n '/^ \*     #include/,/^ \*     }$/s/^ \*     //p' include/lohitunga.h >"$room/first.c"
 lines=$(wc -l <"$room/first.c")
 [ "$lines" -ge 8 ] || bad "the header's first program has $lines lines"
-# samples/services.py packs four, three and two whole sections, and one that loses a packet
-sections=9
+# samples/services.py packs four, three and two whole sections, two of which are rejected, and one that loses a packet
+sections=7 rejected=676
 
-says() { # WHAT WORDS: the program says how many sections the shipped stream has
+says() { # WHAT WORDS: the program says how many good sections the shipped stream has, and how many bytes of others
     what=$1
     shift
     "$@" <samples/services.ts >"$room/said" || bad "$what: the program fails"
-    grep -q "^$sections sections of " "$room/said" || bad "$what: the program says $(cat "$room/said")"
+    grep -q "^$sections sections of .*, $rejected bytes rejected\$" "$room/said" || bad "$what: the program says $(cat "$room/said")"
 }
 for place in "$room/usr" "$room/lohitunga-$version-x86_64-linux"; do
     # nothing of this folder and no kit: the user has the installed files alone

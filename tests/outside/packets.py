@@ -2,7 +2,8 @@
 """The C example examples/packets.c on the sections of the samples: packets.py PROGRAM..
 
 Its stream is the one that samples/make.py packs, which has its own way of it; and ./account, whose listing is the one that
-samples/make.py keeps by its own rules, delivers each section and says broken 0, skipped 0, in hand 0.
+samples/make.py keeps by its own rules, accepts each section that the judge of tests/sections.py accepts, rejects the others, and says
+broken 0, skipped 0, in hand 0.
 """
 import random
 import subprocess
@@ -37,7 +38,7 @@ def tables():
 
 
 def stuffing(size):
-    """A section of a stuffing table, which may have any length."""
+    """A section of a stuffing table, which may have any length, and which the judge rejects."""
     return bytes([0x72, 0x70 | size - 3 >> 8, size - 3 & 255]) + bytes(size - 3)
 
 
@@ -51,6 +52,7 @@ def lists():
     yield "183 bytes left, and a section waits", [stuffing(366), stuffing(20)]
     yield "two sections that begin with a last byte", [stuffing(182), stuffing(367), stuffing(3)]
     yield "a section of 4,096 bytes", [stuffing(4096), make.made.TDT]
+    yield "one of 4,096 bytes that is accepted", [make.made.eit(make.made.event(make.made.filled(4093 - 15 - 12))), make.made.TDT]
 
 
 def run(*words):
@@ -82,9 +84,11 @@ def accounted(name, out, sections):
         bad(name, f"account: status {status}, it wrote {account!r} and said {said!r}")
     told = dict(line.rsplit(" ", 1) for line in account.splitlines())
     if sections:
-        wanted = dict.fromkeys(["repeated", "refused", "broken", "skipped", "in hand"], "0")
-        wanted.update({"PID": "0011", "delivered": str(sum(map(len, sections))), "sections": str(len(sections))})
-        wrong = {key: told.get(key) for key, value in wanted.items() if told.get(key) != value}
+        wanted = dict.fromkeys(["repeated", "refused", "broken", "skipped", "in hand"], 0)
+        accepted = [s for s in sections if make.made.judge(s) == make.made.ACCEPTED]
+        of = sum(map(len, accepted))
+        wanted.update({"PID": "0011", "accepted": of, "rejected": sum(map(len, sections)) - of, "sections": len(accepted)})
+        wrong = {key: told.get(key) for key, value in wanted.items() if told.get(key) != str(value)}
         if wrong:
             bad(name, f"account says {wrong}")
     print(f"packets: {name}: as expected")

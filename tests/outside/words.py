@@ -60,8 +60,10 @@ def sources(room):
     """A copy of what the program rests on, with all that was proved of it."""
     copy = room / "a copy"
     lines = (TOP / "crates.txt").read_text().split("\n")
-    rests = [line for line in lines if line.startswith("account:")][0].split(":")[1].split()
-    rests = [crate for crate in rests if (TOP / "crates" / crate).is_dir()] + ["account"]
+    rests = ["account"]
+    for line in reversed(lines):  # each names crates above it
+        if line.split(":")[0] in rests:
+            rests += [crate for crate in line.split(":")[1].split() if (TOP / "crates" / crate).is_dir() and crate not in rests]
     for crate in rests:
         shutil.copytree(TOP / "crates" / crate, copy / "crates" / crate)
     for name in ("account", "tools/x86-64", "target/bin/account"):

@@ -11,7 +11,7 @@
 #define FIELD(type, field, place, size) \
     HOLDS(offsetof(type, field) == (place) && SIZE(type, field) == (size), #type "." #field)
 
-IS(LOHITUNGA_INTERFACE, 4);
+IS(LOHITUNGA_INTERFACE, 5);
 IS(sizeof(lohitunga_cable), 12);
 FIELD(lohitunga_cable, frequency, 0, 4);
 FIELD(lohitunga_cable, symbol_rate, 4, 4);
@@ -134,14 +134,14 @@ IS(sizeof(lohitunga_record), 40);
 FIELD(lohitunga_record, pid, 0, 2);
 FIELD(lohitunga_record, last, 2, 1);
 FIELD(lohitunga_record, mark, 3, 1);
-FIELD(lohitunga_record, spare, 4, 4);
+FIELD(lohitunga_record, rejection, 4, 4);
 FIELD(lohitunga_record, in_hand, 8, 8);
 FIELD(lohitunga_record, pointer, 16, 4);
-FIELD(lohitunga_record, delivered, 20, 4);
+FIELD(lohitunga_record, accepted, 20, 4);
 FIELD(lohitunga_record, broken, 24, 4);
 FIELD(lohitunga_record, filler, 28, 4);
 FIELD(lohitunga_record, skipped, 32, 4);
-FIELD(lohitunga_record, spare_counter, 36, 4);
+FIELD(lohitunga_record, rejected, 36, 4);
 IS(sizeof(lohitunga_roll), 266);
 FIELD(lohitunga_roll, begun, 0, 1);
 FIELD(lohitunga_roll, table_id, 1, 1);

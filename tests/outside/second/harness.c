@@ -4,6 +4,7 @@
  *     harness --kinds                        the kinds, by name
  *     harness SEED COUNT --sections FILE     COUNT sections with the library's answers, for other parsers to judge
  *     harness SEED COUNT --packets FILE      COUNT packets, and what the library hears of discontinuity_indicator
+ *     harness SEED COUNT --chains FILE       COUNT damaged streams, and the sections that the library accepts and rejects in them
  *     harness SEED COUNT --lists FILE        COUNT lists of sections, and the library's packets of each
  *     harness SEED COUNT --fields FILE       COUNT sections with the library's readings of them
  *     harness SEED COUNT --streams FOLDER    COUNT streams of packets, each with its account by the second implementation
@@ -37,6 +38,7 @@ static const struct kind *const kinds[] = {KINDS(LISTED)};
 
 int write_sections(uint64_t seed, uint64_t count, const char *name);
 int write_packets(uint64_t seed, uint64_t count, const char *name);
+int write_chains(uint64_t seed, uint64_t count, const char *name);
 int write_lists(uint64_t seed, uint64_t count, const char *name);
 int write_fields(uint64_t seed, uint64_t count, const char *name);
 int read_muxed(const char *name);
@@ -82,7 +84,7 @@ int main(int argc, char **argv)
     if (argc == 3 && strcmp(argv[1], "--muxed") == 0)
         return read_muxed(argv[2]);
     if (argc < 3) {
-        fprintf(stderr, "usage: %s SEED COUNT [KIND [FIRST] | --sections FILE | --packets FILE | --lists FILE |"
+        fprintf(stderr, "usage: %s SEED COUNT [KIND [FIRST] | --sections FILE | --packets FILE | --chains FILE | --lists FILE |"
                         " --fields FILE | --streams FOLDER]\n", argv[0]);
         return 2;
     }
@@ -93,6 +95,8 @@ int main(int argc, char **argv)
         return write_sections(seed, count, argv[4]);
     if (argc == 5 && strcmp(only, "--packets") == 0)
         return write_packets(seed, count, argv[4]);
+    if (argc == 5 && strcmp(only, "--chains") == 0)
+        return write_chains(seed, count, argv[4]);
     if (argc == 5 && strcmp(only, "--lists") == 0)
         return write_lists(seed, count, argv[4]);
     if (argc == 5 && strcmp(only, "--fields") == 0)

@@ -1,4 +1,4 @@
-/* Histories of packets: each call compared, and demand 3 over the whole history. */
+/* Histories of packets: each call compared, and demand 3 over the whole history, with the judge's verdict of each whole section. */
 #include "kinds.h"
 #include "record.h"
 #include "tally.h"
@@ -11,6 +11,9 @@ enum { HISTORY_MOST = 80, LEDGER_MOST = HISTORY_MOST * 184 };
 
 #define IN_WORDS(NAME, counter, words) words " "
 
+/* The numbers by which a whole section is refused: of 1 and 5 it is none. */
+#define REJECTIONS "2 3 4 6 7 8 9 10"
+
 /* A packet's counter is the record's last one, the next or another, and the record is marked or not. */
 #define BESIDE_RECORD(WORD) \
     WORD "equal " WORD "equal-marked " WORD "next " WORD "next-marked " WORD "other " WORD "other-marked "
@@ -19,11 +22,21 @@ static void prepare_packets(void)
 {
     must_meet("collect", "taken repeated 41 42 43 44 45 46 47 48 49");
     must_meet("42 for", "hold out");
-    must_meet("43 for no more than", "pid counter in-hand no-counter first-0xFF declares over-4,096");
+    must_meet("43 for no more than", "pid counter rejection in-hand no-counter first-0xFF declares over-4,096");
     must_meet("48 for control", "00 10 11");
     must_meet("49 for", "pointer payload-of-1");
     must_meet("packets taken", "without-payload with-sections over-4,200-out");
     must_meet("fates", SECOND_COUNTED(IN_WORDS) "in-hand");
+    must_meet("rejected before a target", REJECTIONS);
+    must_meet("rejected beyond a target", REJECTIONS);
+    must_meet("rejected without a flag", REJECTIONS);
+    must_meet("accepted", "before-a-target beyond-a-target without-a-flag");
+    must_meet("in one packet", "two-numbers one-number-twice rejected-then-accepted accepted-then-rejected");
+    must_meet("straddling", "accepted rejected");
+    /* The hold ends with the section, at a guard page; or it has 904 bytes behind it. */
+    must_meet("4,095 of 4,096 held", "accepted-hold-4,096 rejected-hold-4,096 accepted-hold-5,000 rejected-hold-5,000");
+    must_meet("a number is kept", "refused repeated accepted rejected without-payload");
+    must_meet("a record's rejection", "0-to-10 11-to-255 above");
     /* Byte 5 of the packet is above 127 or not: it is discontinuity_indicator, or payload. */
     must_meet("control 01", BESIDE_RECORD("") BESIDE_RECORD("above-127-"));
     must_meet("control 10", BESIDE_RECORD("") BESIDE_RECORD("bit-"));
@@ -47,9 +60,11 @@ static struct {
     uint8_t counters[HISTORY_MOST];     /* the continuity counter of each such packet */
     uint8_t marks[HISTORY_MOST + 1];    /* whether the bit was set in it, or in a packet since the one before it */
     size_t size, taken;
-    uint8_t out[LEDGER_MOST];           /* what the library delivered, call after call */
+    uint8_t out[LEDGER_MOST];           /* what the library handed out, call after call */
     size_t out_size;
 } ledger;
+
+static uint8_t rejected[LEDGER_MOST];   /* the bytes of rejected sections in the ledger, end to end */
 
 static void ledger_begins(void)
 {
@@ -99,32 +114,61 @@ static void same_counts(const lohitunga_record *r)
     same(RECORD_COUNTERS "in_hand", library, counts, SECOND_FATES);
 }
 
+static size_t declared_by(const uint8_t *head) { return 3 + (head[1] % 16u * 256u + head[2]); }
+
 /*
  * "Delivered bytes come out once, in order; no delivered section spans a break in the continuity counter from one taken
- * packet with payload to the next." Document 02: "and no delivered section spans a mark."
+ * packet with payload to the next." Document 02: "and no delivered section spans a mark.", "and delivered bytes are the accepted
+ * ones". These bytes are those of that fate; no rejected section spans a break or a mark either.
  */
-static void delivered_in_order(void)
+static void in_order(uint8_t fate, const uint8_t *bytes, size_t size)
 {
     size_t at = 0, left = 0, before = 0;
     for (size_t i = 0; i < ledger.size; i++) {
-        if (ledger.fates[i] != SECOND_DELIVERED)
+        if (ledger.fates[i] != fate)
             continue;
-        must(at < ledger.out_size && ledger.out[at] == ledger.bytes[i], "the delivered bytes come out, in order");
+        must(at < size && bytes[at] == ledger.bytes[i], "the accepted bytes come out, in order");
         if (left == 0) {
-            must(at + 3 <= ledger.out_size, "a delivered section has its head");
-            left = 3 + (ledger.out[at + 1] % 16u * 256u + ledger.out[at + 2]);
+            must(at + 3 <= size, "a whole section has its head");
+            left = declared_by(bytes + at);
         } else {
             size_t from = ledger.packets[before], to = ledger.packets[i];
             must(from == to || (to == from + 1 && ledger.counters[to] == (ledger.counters[from] + 1) % 16),
-                 "no delivered section spans a break in the counter");
-            must(from == to || !ledger.marks[to], "no delivered section spans a mark");
+                 "no whole section spans a break in the counter");
+            must(from == to || !ledger.marks[to], "no whole section spans a mark");
         }
         before = i;
         left--;
         at++;
     }
-    must(at == ledger.out_size, "no byte comes out twice");
-    must(left == 0, "the delivered bytes are whole sections");
+    must(at == size, "no byte comes out twice");
+    must(left == 0, "accepted and rejected bytes are whole sections");
+}
+
+/* Document 02: "a taken packet gives out only accepted sections"; and each of the others is refused. The last one's number. */
+static unsigned judged(const uint8_t *sections, size_t size, int accepted)
+{
+    unsigned number = 0;
+    for (size_t at = 0, n; at < size; at += n) {
+        n = declared_by(sections + at);
+        number = lohitunga_judge(sections + at, n).number;
+        must((number == 0) == accepted, accepted ? "the judge accepts what comes out" : "the judge refuses what is rejected");
+        must(number != 1 && number != 5, "no whole section is refused with 1 or 5");
+    }
+    return number;
+}
+
+/* "A rejected section's number is kept in the record, the last one only, 0 at first" */
+static void parted_by_the_judge(const lohitunga_record *r)
+{
+    size_t size = 0;
+    for (size_t i = 0; i < ledger.size; i++)
+        if (ledger.fates[i] == SECOND_REJECTED)
+            rejected[size++] = ledger.bytes[i];
+    in_order(SECOND_ACCEPTED, ledger.out, ledger.out_size);
+    in_order(SECOND_REJECTED, rejected, size);
+    judged(ledger.out, ledger.out_size, 1);
+    must(judged(rejected, size, 0) == r->rejection, "the number that is kept is that of the section rejected last");
 }
 
 static void fates_met(void)
@@ -148,7 +192,7 @@ static void same_record(const lohitunga_record *before, const lohitunga_record *
     record_out(&wanted, s);
     record_values(r, library);
     same(RECORD_NAMES, library, second, record_values(&wanted, second));
-    same_bytes("the record, with what is spare", (const uint8_t *)r, (const uint8_t *)&wanted, sizeof wanted);
+    same_bytes("the record", (const uint8_t *)r, (const uint8_t *)&wanted, sizeof wanted);
 }
 
 static void record_told(const lohitunga_record *r)
@@ -186,6 +230,8 @@ static void part_met(const struct collector *c, const uint8_t *packet, unsigned 
             why = "pid", whys++;
         if (r->last > 15 && r->last != LOHITUNGA_NO_COUNTER)
             why = "counter", whys++;
+        if (r->rejection > 10)
+            why = "rejection", whys++;
         if (r->in_hand > 4095)
             why = "in-hand", whys++;
         if (r->in_hand > 0 && r->last == LOHITUNGA_NO_COUNTER)
@@ -234,7 +280,42 @@ static void splice_met(const lohitunga_record *r, const uint8_t *packet, unsigne
     met_word(control == 1 ? "control 01" : control == 2 ? "control 10" : lengths[length], word, 1);
 }
 
-/* The out room by its parts: the sections that were finished, end to end, and no other. */
+/* Which sections came whole and where, so that none is left untried. */
+static void sections_met(const struct collector *c, const uint8_t *packet, const struct second_collected *a)
+{
+    int start = a->payload > 0 && packet[1] & 0x40;
+    size_t target = start ? a->before + 1 + packet[188 - a->payload] : 0;
+    unsigned last = 0, accepted = 0;
+    for (size_t i = 0; i < a->wholes; i++) {
+        struct second_whole w = a->whole[i];
+        int before = w.at + w.size <= target, straddles = w.at < a->before;
+        char word[32];
+        if (w.number)
+            met_number(!start ? "rejected without a flag" : before ? "rejected before a target" : "rejected beyond a target", w.number);
+        else
+            met_word("accepted", !start ? "without-a-flag" : before ? "before-a-target" : "beyond-a-target", 1);
+        met_word("straddling", w.number ? "rejected" : "accepted", straddles);
+        if (straddles && w.size == 4096 && a->before == 4095 && (c->hold_size == 4096 || c->hold_size == 5000)) {
+            snprintf(word, sizeof word, "%s-hold-%s", w.number ? "rejected" : "accepted", c->hold_size == 4096 ? "4,096" : "5,000");
+            met_word("4,095 of 4,096 held", word, 1);
+        }
+        if (w.number && last)
+            met_word("in one packet", w.number == last ? "one-number-twice" : "two-numbers", 1);
+        if (i > 0 && !w.number && a->whole[i - 1].number)
+            met_word("in one packet", "rejected-then-accepted", 1);
+        if (w.number && accepted)
+            met_word("in one packet", "accepted-then-rejected", 1);
+        if (w.number)
+            last = w.number;
+        else
+            accepted = 1;
+    }
+    if (c->record.rejection)
+        met_word("a number is kept", a->number ? "refused" : a->kind == SECOND_REPEATED ? "repeated" : a->payload == 0 ? "without-payload" :
+                 last ? "rejected" : accepted ? "accepted" : "without-a-section", 1);
+}
+
+/* The out room by its parts: the sections that were accepted, end to end, and no other. */
 static void cut_out(const uint8_t *out, size_t size, lohitunga_collect_answer m)
 {
     lohitunga_section_step step = lohitunga_next_section(out, size, (lohitunga_part){0, m.size});
@@ -244,7 +325,7 @@ static void cut_out(const uint8_t *out, size_t size, lohitunga_collect_answer m)
         at += step.section.size;
         sections++;
     }
-    must(sections == m.sections && at == m.size, "the out room is cut into the sections that were finished");
+    must(sections == m.sections && at == m.size, "the out room is cut into the sections that were accepted");
 }
 
 /* One packet; record, hold and out are then as the library left them. */
@@ -273,6 +354,8 @@ static void compare_collect(struct collector *c, const uint8_t *packet, size_t s
         cut_out(out, c->out_size, m);
         memcpy(&now, room_now(&rooms.state), sizeof now);
         same_record(&c->record, &now, &after);
+        if (a->number || repeated)
+            same_bytes("the record, of which none alters", (const uint8_t *)&now, (const uint8_t *)&c->record, sizeof now);
         same_bytes("the hold", room_now(&rooms.hold), hold_second, c->hold_size);
         same_bytes("the out room", room_now(&rooms.out), out_second, c->out_size);
         must(room_back(&rooms.state), "the canaries beside the record stand");
@@ -282,6 +365,7 @@ static void compare_collect(struct collector *c, const uint8_t *packet, size_t s
     }
     part_met(c, packet, a->number);
     splice_met(&c->record, packet, a->number);
+    sections_met(c, packet, a);
     c->record = now;
     memcpy(c->hold, hold_second, c->hold_size);
     memcpy(c->out, out_second, c->out_size);
@@ -305,6 +389,12 @@ static uint32_t any_count(struct dice *d)
     return one_in(d, 2) ? (uint32_t)dice_any(d) : UINT32_MAX - below(d, 400);
 }
 
+/* A number that is kept, mostly one that can stand. */
+static uint32_t any_rejection(struct dice *d)
+{
+    return one_in(d, 8) ? (one_in(d, 3) ? 11 : any_count(d)) : below(d, 11);
+}
+
 /* Clear, or set by any number. */
 static uint8_t any_mark(struct dice *d)
 {
@@ -324,6 +414,7 @@ static void any_record(struct dice *d, struct collector *c, const struct sender 
     if (one_in(d, 2))
         r->last = (uint8_t)((s->counter + 15) % 16); /* so that the sender's next packet goes on with what is in hand */
     r->mark = any_mark(d);
+    r->rejection = any_rejection(d);
 #define ANY(NAME, field, words) r->field = any_count(d);
     SECOND_COUNTED(ANY)
     fill(d, c->hold, c->hold_size);
@@ -357,27 +448,87 @@ static size_t any_room(struct dice *d, size_t least)
     return one_in(d, 2) ? least : least + below(d, (unsigned)(ROOM_MOST - least));
 }
 
-/*
- * A record with the hold as good as full, and a packet that ends what it holds and is full of sections: the most that
- * can come out. Where the record is marked, what it holds is broken off.
- */
-static void brim(struct dice *d, struct collector *c)
+/* A section with which the hold can be filled, or any other; of 4 bytes or more. */
+static void any_whole(struct dice *d, struct section *s)
 {
+    if (one_in(d, 2)) {
+        do
+            make_whole(d, s, one_in(d, 4));
+        while (s->size < 4);
+        return;
+    }
+    make_section_of_size(d, s, 4096);
+    if (one_in(d, 2))
+        spoil(d, s);
+}
+
+/*
+ * A record by hand that holds all of a section but its end, and a packet that has it, mostly before its target, behind which it
+ * is full of sections: with a hold that is full to the last byte but one this is the most that can come out. Where the record is
+ * marked, what it holds is broken off.
+ */
+static void straddle(struct dice *d, struct collector *c)
+{
+    static struct section s;
     static uint8_t packet[188];
     static struct second_collected a;
-    unsigned held = one_in(d, 3) ? 4095 : between(d, 4080, 4095);
-    c->hold_size = LOHITUNGA_HOLD;
-    c->out_size = LOHITUNGA_OUT;
+    any_whole(d, &s);
+    size_t most = s.size - 1 < 181 ? s.size - 1 : 181, end = one_in(d, 2) ? 1 : between(d, 1, (unsigned)most);
+    size_t pointer = end + below(d, 2);
+    c->hold_size = one_in(d, 2) ? LOHITUNGA_HOLD : 5000;
+    c->out_size = one_in(d, 4) ? LOHITUNGA_OUT + below(d, 900) : LOHITUNGA_OUT;
     c->record = lohitunga_fresh((uint16_t)below(d, 8192));
     c->record.last = (uint8_t)below(d, 16);
-    c->record.mark = any_mark(d);
-    c->record.in_hand = held;
+    c->record.mark = one_in(d, 4) ? any_mark(d) : 0;
+    c->record.rejection = any_rejection(d);
+    c->record.in_hand = s.size - end;
     fill(d, c->hold, c->hold_size);
-    c->hold[0] = 0x4E;
-    c->hold[1] |= 0x0F;
-    c->hold[2] = 0xFD; /* section_length 4,093 */
-    make_full_packet(d, c->record.pid, c->record.last + 1u, 4096 - held + below(d, 2), packet);
+    memcpy(c->hold, s.bytes, c->record.in_hand);
+    make_full_packet(d, c->record.pid, c->record.last + 1u, (unsigned)pointer, packet);
+    if (one_in(d, 3)) {
+        packet[1] ^= 0x40;
+        memcpy(packet + 4, s.bytes + c->record.in_hand, end);
+    } else {
+        memcpy(packet + 5, s.bytes + c->record.in_hand, end);
+    }
     compare_collect(c, packet, 188, &a);
+}
+
+/* Each number that a record can have for the section rejected last, and packets that are refused, repeated, accepted, rejected. */
+static void every_rejection(void)
+{
+    static const struct { size_t size; uint8_t bytes[9]; } payloads[] = {
+        {9, {0, 0x70, 0x70, 0x05, 0xC0, 0x79, 0x12, 0x45, 0x00}}, /* document 01's TDT */
+        {7, {0, 0x00, 0x00, 0x00, 0x70, 0x70, 0x00}},             /* 2, then 4 */
+        {4, {0, 0x70, 0xF0, 0x00}},                               /* 3 */
+        {1, {0}},
+    };
+    static struct collector c;
+    static struct second_collected a;
+    static uint8_t packet[188];
+    struct dice d = dice_of(0, 0, 0);
+    c.hold_size = LOHITUNGA_HOLD;
+    c.out_size = LOHITUNGA_OUT;
+    for (unsigned n = 0; n < 256 + 24; n++)
+        for (unsigned i = 0; i < 3 * COUNT(payloads); i++) {
+            fill(&d, (uint8_t *)&c.record, sizeof c.record);
+            fill(&d, c.hold, sizeof c.hold);
+            fill(&d, c.out, sizeof c.out);
+            c.record.pid = 0x14;
+            c.record.last = (uint8_t)(i % 3 == 0 ? 5 : 4);
+            c.record.mark = 0;
+            uint32_t number = n < 256 ? n : UINT32_C(1) << (n - 248); /* above 255 a number whose low byte alone could stand */
+            c.record.rejection = number;
+            c.record.in_hand = 0;
+            memset(packet, 0xFF, sizeof packet);
+            memcpy(packet, i % 3 == 1 ? "\x46\x40\x14\x15" : "\x47\x40\x14\x15", 4);
+            memcpy(packet + 4, payloads[i / 3].bytes, payloads[i / 3].size);
+            compare_collect(&c, packet, 188, &a);
+            must((a.number == 43) == (number > 10), "any number but 0 to 10 is refused with 43");
+        }
+    met_word("a record's rejection", "0-to-10", 11);
+    met_word("a record's rejection", "11-to-255", 245);
+    met_word("a record's rejection", "above", 24);
 }
 
 /* A history */
@@ -388,8 +539,8 @@ static void one_history(struct dice *d)
     static struct sender s;
     static uint8_t packet[PACKET_MOST];
     static struct second_collected a;
-    if (one_in(d, 64)) {
-        brim(d, &c);
+    if (one_in(d, 6)) {
+        straddle(d, &c);
         return;
     }
     make_sender(d, &s);
@@ -433,9 +584,9 @@ static void one_history(struct dice *d)
     if (!kept)
         return;
     same_counts(&c.record);
-    delivered_in_order();
+    parted_by_the_judge(&c.record);
     fates_met();
 }
 
 /* A history has about eleven packets. */
-const struct kind kind_packets = {"packets", 8, prepare_packets, NULL, one_history};
+const struct kind kind_packets = {"packets", 8, prepare_packets, every_rejection, one_history};

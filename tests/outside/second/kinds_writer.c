@@ -21,6 +21,8 @@ static void prepare_writer(void)
     must_meet("packets written", "counter-turns without-flag full-to-the-end second-batch");
     must_meet("sections of", "3 183 184 365 366 367 4,096");
     must_meet("bytes", "pointer sections filler");
+    must_meet("lists fed back", "all-accepted some-accepted none-accepted");
+    must_meet("bytes fed back", "accepted rejected");
 }
 
 enum { ROOM_MOST = LIST_PACKETS * 188 + 512 };
@@ -68,20 +70,51 @@ struct collector {
     uint8_t hold[LOHITUNGA_HOLD], out[LOHITUNGA_OUT];
 };
 
+/* Those sections of a list that the judge accepts, end to end; how many bytes the others are, and the last one's number. */
+static struct parted {
+    uint8_t bytes[LIST_BYTES];
+    size_t size, count, rejected;
+    unsigned number;
+} parted;
+
+static void part(const struct list *l)
+{
+    const uint8_t *section = l->bytes;
+    parted.size = parted.count = parted.rejected = parted.number = 0;
+    for (size_t i = 0; i < l->count; section += l->sizes[i++]) {
+        unsigned number = second_judge(section, l->sizes[i]).number;
+        if (number) {
+            parted.rejected += l->sizes[i];
+            parted.number = number;
+            continue;
+        }
+        memcpy(parted.bytes + parted.size, section, l->sizes[i]);
+        parted.size += l->sizes[i];
+        parted.count++;
+    }
+    if (l->count > 0)
+        met_word("lists fed back", parted.count == l->count ? "all-accepted" : parted.count > 0 ? "some-accepted" : "none-accepted", 1);
+    met_word("bytes fed back", "accepted", parted.size);
+    met_word("bytes fed back", "rejected", parted.rejected);
+}
+
 /*
- * "A fresh collector fed these packets delivers exactly these sections and breaks off nothing." And of each packet: "The
- * start flag stands only where a section begins, a filler byte only where no section waits, or where the one byte left would be
- * needed by the pointer."
+ * "A fresh collector fed these packets delivers exactly these sections and breaks off nothing." By request (viii) "The packet
+ * writer's promise now speaks of sections that the judge accepts": these come out, and the others' bytes are rejected. And of
+ * each packet: "The start flag stands only where a section begins, a filler byte only where no section waits, or where the one
+ * byte left would be needed by the pointer."
  */
 static void feed(struct collector *c, const struct list *l, const uint8_t *packets, size_t count)
 {
     size_t sections = 0, bytes = 0;
+    lohitunga_record first = c->record;
+    part(l);
     for (size_t i = 0; i < count; i++, packets += 188) {
         lohitunga_record before = c->record;
         lohitunga_collect_answer a = lohitunga_collect(&c->record, c->hold, sizeof c->hold, c->out, sizeof c->out, packets, 188);
         must(a.number == 0 && !a.repeated, "the collector takes each packet");
-        must(bytes + a.size <= l->size, "no more is delivered than was written");
-        same_bytes("the sections that were written", c->out, l->bytes + bytes, a.size);
+        must(bytes + a.size <= parted.size, "no more comes out than was written and accepted");
+        same_bytes("the sections that were written", c->out, parted.bytes + bytes, a.size);
         bytes += a.size;
         sections += a.sections;
         unsigned start = packets[1] / 64 % 2, filler = c->record.filler - before.filler;
@@ -92,7 +125,10 @@ static void feed(struct collector *c, const struct list *l, const uint8_t *packe
         met_word("packets written", "without-flag", !start);
         met_word("packets written", "full-to-the-end", i + 1 == count && filler == 0);
     }
-    must(sections == l->count && bytes == l->size, "all sections are delivered");
+    must(sections == parted.count && bytes == parted.size, "all sections that the judge accepts come out");
+    must(c->record.accepted - first.accepted == parted.size, "their bytes are counted as accepted");
+    must(c->record.rejected - first.rejected == parted.rejected, "the others' bytes are counted as rejected");
+    must(c->record.rejection == (parted.number ? parted.number : first.rejection), "the number kept is that of the last of those");
     must(c->record.broken == 0 && c->record.skipped == 0 && c->record.in_hand == 0, "nothing is broken off, skipped or in hand");
     must((l->size + 182) / 183 >= count, "183 bytes of sections, or more, are in each packet but the last");
 }

@@ -405,6 +405,31 @@ void make_section(struct dice *d, struct section *s)
     make_section_of(d, s, table_id, most);
 }
 
+void make_section_of_size(struct dice *d, struct section *s, size_t size)
+{
+    size_t end = size - 4, left, n;
+    s->length_count = s->tag_count = 0;
+    fill(d, s->bytes, 26);
+    s->bytes[0] = (uint8_t)between(d, 0x4E, 0x6F);
+    s->bytes[1] |= 0x80;
+    s->bytes[6] = (uint8_t)below(d, s->bytes[7] + 1u);
+    s->lengths[s->length_count++] = 24;
+    put_twelve(s->bytes + 24, end - 26);
+    /* One event, and descriptors up to the CRC: no gap of one byte is left. */
+    for (s->size = 26; (left = end - s->size) > 0; s->size += n) {
+        s->tags[s->tag_count++] = (unsigned)s->size;
+        if (left > 300) {
+            n = make_descriptor(d, s->bytes + s->size, 257);
+            continue;
+        }
+        n = left > 257 ? 200 : left;
+        fill(d, s->bytes + s->size, n);
+        s->bytes[s->size + 1] = (uint8_t)(n - 2);
+    }
+    s->size = size;
+    put_length_and_crc_right(s);
+}
+
 /* A few bytes more or fewer somewhere behind the head. */
 static void insert_or_delete(struct dice *d, struct section *s)
 {
@@ -518,6 +543,48 @@ static void damage(struct dice *d, struct section *s)
     }
 }
 
+void spoil(struct dice *d, struct section *s)
+{
+    uint8_t *length = s->length_count > 0 ? s->bytes + s->lengths[s->length_count - 1] : NULL;
+    uint8_t *tag = s->tag_count > 0 ? s->bytes + s->tags[s->tag_count - 1] : NULL;
+    size_t n;
+    switch (below(d, 9)) {
+    case 0: /* no table */
+        s->bytes[0] = (uint8_t)(one_in(d, 2) ? below(d, 0x40) : between(d, 0x74, 0xFE));
+        break;
+    case 1:
+        s->bytes[1] ^= 0x80;
+        break;
+    case 2: /* a TDT of another length, or one of a row that ends before */
+        s->bytes[0] = s->size > 1024 && one_in(d, 2) ? 0x46 : 0x70;
+        s->bytes[1] = (uint8_t)(s->bytes[1] % 128 + (s->bytes[0] == 0x46 ? 128 : 0));
+        break;
+    case 3:
+        s->bytes[between(d, 3, (unsigned)s->size - 1)] ^= (uint8_t)(1u << below(d, 8));
+        return;
+    case 4:
+        s->bytes[6] = (uint8_t)between(d, 1, 255);
+        s->bytes[7] = (uint8_t)below(d, s->bytes[6]);
+        break;
+    case 5: /* the last loop's length */
+    case 6:
+        if (length)
+            put_twelve(length, other_length(d, get_twelve(length)));
+        break;
+    case 7: /* the last descriptor's */
+        if (tag)
+            tag[1] = (uint8_t)other_length(d, tag[1]);
+        break;
+    default: /* the last descriptor is shorter, and so is its loop: a few bytes stand behind it */
+        n = tag && tag[1] > 0 ? between(d, 1, tag[1] < 11 ? tag[1] : 11) : 0;
+        if (length && tag > length && get_twelve(length) >= n) {
+            tag[1] = (uint8_t)(tag[1] - n);
+            put_twelve(length, get_twelve(length) - n);
+        }
+    }
+    put_crc_right(s);
+}
+
 void make_section_case(struct dice *d, struct section *s)
 {
     if (one_in(d, 40)) {
@@ -545,6 +612,52 @@ void make_section_case(struct dice *d, struct section *s)
     damage(d, s);
     if (s->size > 8 && one_in(d, 10))
         damage(d, s);
+}
+
+/* How long a section is: often at an edge of what one packet or two hold. */
+static size_t any_size(struct dice *d, int large)
+{
+    static const unsigned sizes[] = {3, 4, 5, 8, 180, 181, 182, 183, 184, 185, 186, 364, 365, 366, 367, 368, 4094, 4095, 4096};
+    return one_in(d, 3) ? sizes[below(d, large ? 19 : 16)] : large ? between(d, 3, 4096) : between(d, 3, 300);
+}
+
+/* Bytes of any kind behind a head that declares them. */
+static void put_section(struct dice *d, uint8_t *at, size_t n)
+{
+    fill(d, at, n);
+    if (at[0] == 0xFF)
+        at[0] = 0x42;
+    put_twelve(at + 1, n - 3);
+}
+
+void make_whole(struct dice *d, struct section *s, int large)
+{
+    size_t size = any_size(d, large);
+    switch (below(d, 8)) {
+    case 0:
+    case 1:
+        s->length_count = s->tag_count = 0;
+        s->size = size;
+        put_section(d, s->bytes, size);
+        return;
+    case 2:
+        make_section_of_size(d, s, size < 32 ? size + 32 : size);
+        return;
+    case 3:
+        make_section_of_size(d, s, size < 32 ? size + 32 : size);
+        spoil(d, s);
+        break;
+    case 4: /* none is shorter */
+        make_section_of(d, s, one_in(d, 2) ? 0x70 : 0x73, 11);
+        break;
+    default:
+        do
+            make_section_case(d, s);
+        while (s->size < 3 || s->size > 4096);
+        put_twelve(s->bytes + 1, s->size - 3);
+    }
+    if (s->bytes[0] == 0xFF)
+        s->bytes[0] = 0;
 }
 
 /* Sheets */
@@ -667,30 +780,16 @@ void make_sender(struct dice *d, struct sender *s)
     s->marks = s->splices ? 2 : one_in(d, 2) ? 12 : 0;
 }
 
-/* How long a section is: often at an edge of what one packet or two hold. Collector and writer know no rows, so any length will do. */
-static size_t any_size(struct dice *d, int large)
-{
-    static const unsigned sizes[] = {3, 4, 5, 8, 180, 181, 182, 183, 184, 185, 186, 364, 365, 366, 367, 368, 4094, 4095, 4096};
-    return one_in(d, 3) ? sizes[below(d, large ? 19 : 16)] : large ? between(d, 3, 4096) : between(d, 3, 300);
-}
-
-/* Bytes of any kind behind a head that declares them. */
-static void put_section(struct dice *d, uint8_t *at, size_t n)
-{
-    fill(d, at, n);
-    if (at[0] == 0xFF)
-        at[0] = 0x42;
-    put_twelve(at + 1, n - 3);
-}
-
 /* One section more into the queue, or filler up to nowhere. */
 static void wait(struct dice *d, struct sender *s)
 {
-    size_t n = any_size(d, s->large);
+    static struct section section;
+    make_whole(d, &section, s->large);
+    size_t n = section.size;
     uint8_t *at = s->queue + s->size;
     memset(s->begins + s->size, 0, n);
     s->begins[s->size] = 1;
-    put_section(d, at, n);
+    memcpy(at, section.bytes, n);
     if (s->trouble && one_in(d, s->trouble)) {
         if (one_in(d, 2))
             put_twelve(at + 1, between(d, 4092, 4095)); /* too long, or just not */
@@ -731,8 +830,38 @@ static void put_payload(struct dice *d, struct sender *s, uint8_t *k, size_t fir
     s->sent += n;
 }
 
+/* The shortest section of each table. */
+static const struct { uint8_t table_id; unsigned size; } shortest[] = {{0x70, 8}, {0x73, 14}, {0x42, 15}, {0x40, 16}, {0x4A, 16}, {0x4E, 18}};
+enum { SHORTEST = sizeof shortest / sizeof *shortest };
+
+/* Whether so many bytes can be filled with them. */
+static int can_be_filled(size_t n)
+{
+    if (n == 0 || n > 35)
+        return 1;
+    for (int i = 0; i < SHORTEST; i++)
+        if (n >= shortest[i].size && can_be_filled(n - shortest[i].size))
+            return 1;
+    return 0;
+}
+
+/* One of them, such that what is left of the packet can be filled too; 0 where none can be. */
+static size_t put_shortest(struct dice *d, uint8_t *to, size_t left)
+{
+    static struct section s;
+    if (!can_be_filled(left))
+        return 0;
+    unsigned i = below(d, SHORTEST);
+    while (left < shortest[i].size || !can_be_filled(left - shortest[i].size))
+        i = (i + 1) % SHORTEST;
+    make_section_of(d, &s, shortest[i].table_id, shortest[i].size - 3);
+    memcpy(to, s.bytes, s.size);
+    return s.size;
+}
+
 void make_full_packet(struct dice *d, unsigned pid, unsigned counter, unsigned pointer, uint8_t *to)
 {
+    int good = one_in(d, 2);
     fill(d, to, 188);
     to[0] = 0x47;
     to[1] = (uint8_t)(0x40 | pid / 256 % 32);
@@ -740,6 +869,9 @@ void make_full_packet(struct dice *d, unsigned pid, unsigned counter, unsigned p
     to[3] = (uint8_t)(0x10 | counter % 16);
     to[4] = (uint8_t)pointer;
     for (size_t at = 5 + pointer, n; at < 188; at += n) {
+        n = good || one_in(d, 2) ? put_shortest(d, to + at, 188 - at) : 0;
+        if (n > 0)
+            continue;
         n = between(d, 3, 20);
         if (188 - at < 23)
             n = 188 - at; /* the last one ends with the payload, unless too few bytes are left */
@@ -888,12 +1020,15 @@ static void add_edge(struct dice *d, struct list *l)
 void make_list(struct dice *d, struct list *l, int real)
 {
     static struct section s;
-    int large = one_in(d, 64);
+    int large = one_in(d, 64), some = !real && one_in(d, 3);
     unsigned sections = one_in(d, 16) ? 0 : one_in(d, 20) ? between(d, 1, 300) : between(d, 1, 4);
     l->size = l->count = 0;
-    if (real) {
+    if (real || some) {
         for (; sections > 0; sections--) {
-            make_section(d, &s);
+            if (some)
+                make_whole(d, &s, large);
+            else
+                make_section(d, &s);
             if (l->count == LIST_MOST || LIST_BYTES - l->size < s.size)
                 return;
             memcpy(l->bytes + l->size, s.bytes, s.size);
@@ -997,7 +1132,7 @@ static void damage_list(struct dice *d, struct list *l)
 
 void make_list_case(struct dice *d, struct list *l)
 {
-    make_list(d, l, one_in(d, 16));
+    make_list(d, l, one_in(d, 6));
     if (!one_in(d, 3))
         return;
     damage_list(d, l);

@@ -51,8 +51,17 @@ void put_length_and_crc_right(struct section *s);
 void make_section(struct dice *d, struct section *s);
 void make_section_of(struct dice *d, struct section *s, uint8_t table_id, unsigned most_length);
 
+/* An EIT section that stands, of just so many bytes, 32 or more. */
+void make_section_of_size(struct dice *d, struct section *s, size_t size);
+
+/* Damages a section that stands, and its size stays: by each number that a whole one can be refused with. */
+void spoil(struct dice *d, struct section *s);
+
 /* A section that stands, or damaged, or bytes of any kind. */
 void make_section_case(struct dice *d, struct section *s);
+
+/* The same, of 3 to 4,096 bytes, as many as its head declares; few of more than 400 unless `large`. It does not begin with 0xFF. */
+void make_whole(struct dice *d, struct section *s, int large);
 
 /* Sheets */
 
@@ -78,7 +87,7 @@ struct sender {
 
 void make_sender(struct dice *d, struct sender *s);
 
-/* A packet with the start flag and this pointer, full of short sections to its last byte. */
+/* A packet with the start flag and this pointer, full of short sections to its last byte; all stand, or only some. */
 void make_full_packet(struct dice *d, unsigned pid, unsigned counter, unsigned pointer, uint8_t *to);
 
 /* The next packet, perhaps disturbed, lost, repeated or of another size; its size. */
@@ -97,7 +106,7 @@ struct list {
     size_t count;
 };
 
-/* A list that can be sent: sections of any bytes behind their heads. With `real` they are sections that stand. */
+/* A list that can be sent: sections of any bytes behind their heads, or such that some of them stand. With `real` all do. */
 void make_list(struct dice *d, struct list *l, int real);
 
 /* Such a list, or a damaged one. */

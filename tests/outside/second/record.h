@@ -6,25 +6,25 @@
 #include "second.h"
 
 /*
- * Each field that is no counter and not spare, and what it becomes where the second implementation has the record `s`
+ * Each field that is no counter, and what it becomes where the second implementation has the record `s`
  * and C's was `r`. Any number but 0 is a mark; it is rewritten only where its meaning changes.
  */
 #define RECORD_PLAIN(FIELD) \
     FIELD(pid, s->pid) \
     FIELD(last, s->has_counter ? s->counter : LOHITUNGA_NO_COUNTER) \
     FIELD(mark, (r->mark != 0) == s->mark ? r->mark : s->mark) \
+    FIELD(rejection, s->rejection) \
     FIELD(in_hand, s->in_hand)
 
 static inline struct second_record record_in(const lohitunga_record *r)
 {
-    struct second_record s = {r->pid, r->last != LOHITUNGA_NO_COUNTER, r->last, r->mark != 0, r->in_hand, {0}};
+    struct second_record s = {r->pid, r->last != LOHITUNGA_NO_COUNTER, r->last, r->mark != 0, r->rejection, r->in_hand, {0}};
 #define COUNTER_IN(NAME, field, words) s.counters[SECOND_##NAME] = r->field;
     SECOND_COUNTED(COUNTER_IN)
 #undef COUNTER_IN
     return s;
 }
 
-/* What is spare stays as it was. */
 static inline void record_out(lohitunga_record *r, const struct second_record *s)
 {
 #define PLAIN_OUT(field, value) r->field = value;

@@ -1,5 +1,5 @@
 /*
- * A second implementation of document 01, written from document 01, requests (ii), (v) and (ix) of document 02,
+ * A second implementation of document 01, written from document 01, requests (ii), (v), (viii) and (ix) of document 02,
  * docs/DECISIONS.md and EN 300 468 alone, a byte at a time. It is the judge in the comparison with the library, so it is
  * plain before it is fast. It stands in the files second_*.c. Sentences in quotation marks are document 01's there, or
  * document 02's where it is named; where they leave a choice, docs/DECISIONS.md has what was chosen. Field layouts are
@@ -71,7 +71,8 @@ struct second_written second_to_section(const uint8_t *sheet, size_t size, uint8
 /* The fates that are counted, in the order of the account: name, the counter's name, the fate in words. */
 #define SECOND_COUNTED(FATE) \
     FATE(POINTER, pointer, "pointer") \
-    FATE(DELIVERED, delivered, "delivered") \
+    FATE(ACCEPTED, accepted, "accepted") \
+    FATE(REJECTED, rejected, "rejected") \
     FATE(BROKEN, broken, "broken-off") \
     FATE(FILLER, filler, "filler") \
     FATE(SKIPPED, skipped, "skipped")
@@ -86,22 +87,28 @@ struct second_record {
     int has_counter;
     uint32_t counter;
     int mark; /* 0 or 1 */
+    uint32_t rejection;
     uint64_t in_hand;
     uint32_t counters[SECOND_COUNTERS];
 };
 
 enum { SECOND_TAKEN, SECOND_REPEATED };
 
+/* A section that came whole: where the fate of its first byte stands, its bytes in `came`, and the judge's number. */
+struct second_whole { size_t at, from, size; unsigned number; };
+
 /*
  * `fate` is that of each byte which was in hand before the packet (`before` of them), then of each payload byte of the
- * packet (`payload` of them), as they stand after it.
+ * packet (`payload` of them), as they stand after it. `sections` and `bytes` are of the sections accepted; `whole` are all that
+ * came whole with the packet, in reading order, and `came` has their bytes end to end.
  */
 struct second_collected {
     unsigned number;
     int kind;
     unsigned sections, bytes;
-    size_t before, payload;
-    uint8_t fate[4095 + 184];
+    size_t before, payload, wholes, whole_bytes;
+    struct second_whole whole[1 + 184 / 3];
+    uint8_t came[4095 + 184], fate[4095 + 184];
 };
 
 struct second_record second_fresh(uint32_t pid);

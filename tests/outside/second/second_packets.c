@@ -5,7 +5,10 @@
 
 /* "The collector" */
 
-/* "A fresh one: no counter, nothing in hand, zeros." Document 02: "The record gains a mark." It is clear. */
+/*
+ * "A fresh one: no counter, nothing in hand, zeros." Document 02: "The record gains a mark." It is clear. "A rejected section's
+ * number is kept in the record, the last one only, 0 at first"
+ */
 struct second_record second_fresh(uint32_t pid)
 {
     struct second_record r;
@@ -23,6 +26,9 @@ static int cannot_stand(const struct second_record *r, const uint8_t *hold)
     if (r->has_counter && r->counter > 15)
         return 1;
     if (r->in_hand > 4095)
+        return 1;
+    /* Document 02: "any number but 0 to 10 there is refused with 43" */
+    if (r->rejection > 10)
         return 1;
     /* "bytes in hand but no counter; first held byte 0xFF" */
     if (r->in_hand > 0 && !r->has_counter)
@@ -119,12 +125,21 @@ static enum after add(struct second_collected *a, struct hand *h, uint8_t byte, 
     }
     if (h->size < 3 + length)
         return GOES_ON;
+    unsigned number = second_judge(h->bytes, h->size).number;
+    a->whole[a->wholes++] = (struct second_whole){h->at[0], a->whole_bytes, h->size, number};
+    memcpy(a->came + a->whole_bytes, h->bytes, h->size);
+    a->whole_bytes += h->size;
+    /* Document 02: "a taken packet gives out only accepted sections. The delivered counter splits into accepted and rejected" */
+    if (number) {
+        settle(a, h, SECOND_REJECTED);
+        return HAS_ENDED;
+    }
     /* "Out gets the finished sections end to end, the answer their number and bytes." */
     for (size_t i = 0; i < h->size; i++)
         out[a->bytes + i] = h->bytes[i];
     a->bytes += (unsigned)h->size;
     a->sections++;
-    settle(a, h, SECOND_DELIVERED);
+    settle(a, h, SECOND_ACCEPTED);
     return HAS_ENDED;
 }
 
@@ -171,7 +186,7 @@ void second_collect(struct second_collected *a, struct second_record *r, uint8_t
 {
     size_t first = 0;
     struct hand h;
-    memset(a, 0, offsetof(struct second_collected, fate));
+    memset(a, 0, offsetof(struct second_collected, whole));
     a->kind = SECOND_TAKEN;
     /* "41: packet not 188 bytes"; "42: hold under 4,096 or out under 4,280" */
     if (packet_size != 188)
@@ -233,7 +248,11 @@ void second_collect(struct second_collected *a, struct second_record *r, uint8_t
         begin(a, &h, payload + 1 + p, a->payload - 1 - p, a->before + 1 + p, out);
     }
 
-    /* "five 32-bit counters that run round past 4,294,967,295 to 0" */
+    /* Document 02: "A rejected section's number is kept in the record, the last one only" */
+    for (size_t i = 0; i < a->wholes; i++)
+        if (a->whole[i].number)
+            r->rejection = a->whole[i].number;
+    /* "five 32-bit counters that run round past 4,294,967,295 to 0", by document 02 six */
     for (size_t i = 0; i < a->before + a->payload; i++)
         if (a->fate[i] != SECOND_IN_HAND)
             r->counters[a->fate[i]]++;

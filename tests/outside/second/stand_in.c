@@ -141,6 +141,9 @@ lohitunga_record lohitunga_fresh(uint16_t pid)
     memset(&r, 0, sizeof r);
     r.pid = pid;
     r.last = LOHITUNGA_NO_COUNTER;
+    /* 56: a number is kept before any section was rejected */
+    if (fault(56))
+        r.rejection = 6;
     return r;
 }
 
@@ -171,11 +174,79 @@ static int mishear(struct second_record *s, uint8_t *k)
     return spliced;
 }
 
+/* The answer, the record and what is lent as the faults of judging have them, behind a packet that is taken. */
+static void misjudge(const struct second_collected *c, const lohitunga_record *before, lohitunga_collect_answer *a, lohitunga_record *r,
+                     uint8_t *hold, uint8_t *out)
+{
+    unsigned first = 0, last = 0, rejections = 0, straddled = c->wholes > 0 && c->whole[0].at < c->before;
+    size_t at = 0, rejected = r->rejected - before->rejected;
+    for (size_t i = 0; i < c->wholes; i++) {
+        const struct second_whole *w = &c->whole[i];
+        const uint8_t *section = c->came + w->from;
+        first = first ? first : w->number;
+        rejections += w->number != 0;
+        /* 57: rejected ones are handed out; 58: what is rejected stands in the out room, behind what is said of it */
+        if (fault(57) && w->number) {
+            memmove(out + at + w->size, out + at, a->size - at);
+            memcpy(out + at, section, w->size);
+            a->size += w->size;
+            a->sections++;
+        }
+        if (fault(58) && w->number)
+            memcpy(out + a->size, section, w->size);
+        at += fault(57) || !w->number ? w->size : 0;
+        last = w->number == 6 && section[0] != 0x73 && section[6] > section[7] ? 7 : w->number ? w->number : last;
+    }
+    /* 59: 7 comes before 6 */
+    if (fault(59) && last)
+        r->rejection = last;
+    /* 60: the end of a rejected section stays in the hold, behind what was in hand; 61: that of an accepted one */
+    if (straddled && (c->whole[0].number ? fault(60) : fault(61)))
+        for (size_t i = c->before > r->in_hand ? c->before : r->in_hand; i < c->whole[0].size; i++)
+            hold[i] = c->came[i];
+    /* 62: of two in a packet the first number is kept; 63: a number that is kept stays; 64: so it does where a packet has one
+     * rejected section alone; 65: an acceptance clears it */
+    if (fault(62) && first)
+        r->rejection = first;
+    if (fault(63) && before->rejection)
+        r->rejection = before->rejection;
+    if (fault(64) && rejections == 1)
+        r->rejection = before->rejection;
+    if (fault(65) && c->sections > 0)
+        r->rejection = 0;
+    /* 66: rejected bytes are counted as accepted, 67: as broken off; 68: sections are counted and not their bytes */
+    if (fault(66))
+        r->accepted += (uint32_t)rejected, r->rejected = before->rejected;
+    if (fault(67))
+        r->broken += (uint32_t)rejected, r->rejected = before->rejected;
+    if (fault(68))
+        r->rejected = before->rejected + rejections;
+    /* 69: all that came whole is in the answer; 70: a section that straddles is judged without its end */
+    if (fault(69))
+        a->sections = c->wholes;
+    if (fault(70) && straddled && rejections == 1 && c->whole[0].number)
+        r->rejection = 5;
+}
+
+/* 71: a section that begins in the packet with a section_length above 4,093 is rejected with 4 */
+static void reject_long(const struct second_collected *c, const uint8_t *packet, lohitunga_record *r)
+{
+    const uint8_t *payload = packet + 188 - c->payload, *fate = c->fate + c->before;
+    for (size_t i = 1; i + 2 < c->payload; i++) {
+        if (fate[i] != SECOND_BROKEN || fate[i - 1] == SECOND_BROKEN || payload[i + 1] % 16 < 15 || payload[i + 2] <= 0xFD)
+            continue;
+        r->broken -= (uint32_t)(c->payload - i);
+        r->rejected += (uint32_t)(c->payload - i);
+        r->rejection = 4;
+    }
+}
+
 lohitunga_collect_answer lohitunga_collect(lohitunga_record *r, uint8_t *hold, size_t hold_size, uint8_t *out, size_t out_size,
                                            const uint8_t *packet, size_t packet_size)
 {
     static __thread struct second_collected c;
     struct second_record s = record_in(r);
+    lohitunga_record before = *r;
     int spliced = 0;
     uint8_t heard[188];
     if (packet_size == sizeof heard) {
@@ -183,19 +254,33 @@ lohitunga_collect_answer lohitunga_collect(lohitunga_record *r, uint8_t *hold, s
         spliced = mishear(&s, heard);
         packet = heard;
     }
+    /* 72: 11 stands; 27: of the number that is kept the low byte is looked at */
+    if (fault(72) && s.rejection == 11)
+        s.rejection = 10;
+    if (fault(27))
+        s.rejection &= 255;
     second_collect(&c, &s, hold, hold_size, out, out_size, packet, packet_size);
     lohitunga_collect_answer a = {c.number, c.number == 0 && c.kind == SECOND_REPEATED, c.sections, c.bytes};
+    if (fault(72) && before.rejection == 11 && s.rejection == 10)
+        s.rejection = 11;
+    if (fault(27) && s.rejection == (before.rejection & 255))
+        s.rejection = before.rejection;
     /* 35: the mark is kept after its use; 40: that of 2 or more is written anew by a refusal */
     if (fault(35) && c.payload > 0 && spliced)
         s.mark = 1;
     if (fault(40) && c.number && r->mark > 1)
         r->mark = 1;
+    /* 73: a packet that is refused clears the number that is kept; 74: one that is repeated */
+    if ((fault(73) && c.number) || (fault(74) && a.repeated))
+        r->rejection = s.rejection = 0;
     if (c.number)
         return a;
     uint32_t filler = r->filler;
     record_out(r, &s);
-    /* 7: one byte beyond the delivered ones; 8: the hold as scratch room; 9: a counter that stops at its end; 10: control 10 keeps the counter;
-     * 27: what is spare is cleared */
+    misjudge(&c, &before, &a, r, hold, out);
+    if (fault(71))
+        reject_long(&c, packet, r);
+    /* 7: one byte beyond the accepted ones; 8: the hold as scratch room; 9: a counter that stops at its end; 10: control 10 keeps the counter */
     if (fault(7) && c.bytes > 0 && c.bytes < out_size)
         out[c.bytes] ^= 1;
     if (fault(8) && c.sections > 0 && s.in_hand < hold_size)
@@ -204,8 +289,6 @@ lohitunga_collect_answer lohitunga_collect(lohitunga_record *r, uint8_t *hold, s
         r->filler = UINT32_MAX;
     if (fault(10) && c.payload == 0 && !a.repeated)
         r->last = packet[3] % 16;
-    if (fault(27))
-        memset(r->spare, 0, sizeof r->spare);
     return a;
 }
 

@@ -439,12 +439,51 @@ static void worked_packet(void)
     is(what, (long long)a.sections, 1);
     is(what, (long long)a.size, 8);
     is(what, r.pointer, 1);
-    is(what, r.delivered, 8);
+    is(what, r.accepted, 8);
+    is(what, r.rejected, 0);
+    is(what, r.rejection, 0);
     is(what, r.broken, 0);
     is(what, r.filler, 175);
     is(what, r.skipped, 0);
     is(what, (long long)r.in_hand, 0);
     is(what, lohitunga_judge(out, a.size).number, 0);
+}
+
+/* The worked sections that are refused, a packet each, and then the one that is accepted: document 02, request (viii). */
+static void worked_rejections(void)
+{
+    static const struct { uint8_t size, bytes[8]; unsigned number; const char *what; } worked[] = {
+        {8, {0x71, 0x70, 0x05, 0xC0, 0x79, 0x12, 0x45, 0x00}, 2, "document 01: first byte 71: 2, in a packet"},
+        {8, {0x70, 0xF0, 0x05, 0xC0, 0x79, 0x12, 0x45, 0x00}, 3, "document 01: second F0: 3, in a packet"},
+        {7, {0x70, 0x70, 0x04, 0xC0, 0x79, 0x12, 0x45}, 4, "document 01: third 04: 4, in a packet"},
+        {8, {0x70, 0x70, 0x05, 0xC0, 0x79, 0x12, 0x45, 0x00}, 0, "document 01: 70 70 05 C0 79 12 45 00: accepted, in a packet"}};
+    static uint8_t packet[188], hold[LOHITUNGA_HOLD], out[LOHITUNGA_OUT];
+    lohitunga_record r = lohitunga_fresh(0x14);
+    unsigned rejected = 0, kept = 0;
+    for (uint8_t i = 0; i < 4; i++) {
+        memset(packet, 0xFF, sizeof packet);
+        memcpy(packet, "\x47\x40\x14\x10", 5);
+        packet[3] = (uint8_t)(packet[3] + i);
+        memcpy(packet + 5, worked[i].bytes, worked[i].size);
+        lohitunga_collect_answer a = lohitunga_collect(&r, hold, sizeof hold, out, sizeof out, packet, sizeof packet);
+        int accepted = worked[i].number == 0;
+        rejected += accepted ? 0 : worked[i].size;
+        kept = accepted ? kept : worked[i].number;
+        is(worked[i].what, a.number + a.repeated, 0);
+        is(worked[i].what, (long long)a.sections, accepted);
+        is(worked[i].what, (long long)a.size, accepted ? 8 : 0);
+        is(worked[i].what, r.accepted, accepted ? 8 : 0);
+        is(worked[i].what, r.rejected, rejected);
+        is("document 02: a rejected section's number is kept, the last one only", r.rejection, kept);
+    }
+    lohitunga_record by_hand = r;
+    by_hand.rejection = r.rejection = 11;
+    packet[3]++;
+    is("document 02: any number but 0 to 10 is refused with 43",
+       lohitunga_collect(&r, hold, sizeof hold, out, sizeof out, packet, sizeof packet).number, 43);
+    is("a record that is refused stays", memcmp(&r, &by_hand, sizeof r), 0);
+    r.rejection = 10;
+    is("10 is none of them", lohitunga_collect(&r, hold, sizeof hold, out, sizeof out, packet, sizeof packet).number, 0);
 }
 
 int main(void)
@@ -459,6 +498,7 @@ int main(void)
     crc();
     ids();
     worked_packet();
+    worked_rejections();
     printf("values: %u comparisons with what the documents print: all as printed\n", compared);
     return 0;
 }
