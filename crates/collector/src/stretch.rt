@@ -115,7 +115,7 @@ fn sized(total: usize, size: usize) -> Look
 }
 
 // The section that the n bytes in hand with m bytes of the packet begin with. No length is trusted before three bytes are
-// in. Mostly these are in hand: then they are read where 43 was asked, and the compiler reads them once.
+// in. Mostly these are in hand, and then no byte is looked for in two places.
 fn looked(hold: &[u8], n: usize, packet: &[u8], from: usize, m: usize) -> Look
     requires { ⌜ (n ≤ length (now hold)) × (from + m ≤ length (now packet)) × (n < 4096) × (m < 4096) ⌝ }
     ensures { λ r. ⌜ LookSays (take n (now (hold .entry)) ++ take m (drop from (now (packet .entry)))) r ⌝ }
