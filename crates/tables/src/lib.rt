@@ -12,8 +12,8 @@ pub const TOT: usize = 5;
 pub const UNKNOWN: usize = 6;
 
 // table_id from and to, a second table_id from and to; syntax bit; least and greatest section_length; bytes before the first loop or entry;
-// entry's fixed bytes, 0 for none; 1 for a top loop; 1 for a CRC_32.
-const ROWS: [[usize; 11]; 6] = [
+// entry's fixed bytes, 0 for none; 1 for a top loop; 1 for a CRC_32. In 16 bits each: the table is built anew on the stack at each call.
+const ROWS: [[u16; 11]; 6] = [
     [0x40, 0x40, 0x41, 0x41, 1, 13, 1021, 8, 6, 1, 1],
     [0x42, 0x42, 0x46, 0x46, 1, 12, 1021, 11, 5, 0, 1],
     [0x4A, 0x4A, 0x4A, 0x4A, 1, 13, 1021, 8, 6, 1, 1],
@@ -33,14 +33,14 @@ pub struct Row {
     pub crc: usize,
 }
 
-fn within(low: usize, id: usize, high: usize) -> bool
+fn within(low: u16, id: u16, high: u16) -> bool
     ensures { λ r. ⌜ r ≡ between low id high ⌝ }
 {
     if low <= id { id <= high } else { false }
 }
 
 // The id lies in one of the row's two ranges.
-fn held_by(row: [usize; 11], id: usize) -> bool
+fn held_by(row: [u16; 11], id: u16) -> bool
     ensures { λ r. ⌜ r ≡ holds row id ⌝ }
 {
     if within(row[0], id, row[1]) {
@@ -54,7 +54,7 @@ pub fn row_of(table_id: u8) -> usize
     ensures { λ r. ⌜ r ≡ rowOf «table_id» ⌝ }
 {
     let rows = ROWS;
-    let id = table_id as usize;
+    let id = table_id as u16;
     let mut i: usize = 0;
     while i < UNKNOWN {
         if held_by(rows[i], id) {
@@ -70,6 +70,13 @@ pub fn is_numbered(row: usize) -> bool
     ensures { λ r. ⌜ r ≡ isNumbered row ⌝ }
 {
     row < TDT
+}
+
+// A number of a row, at its full width.
+fn wide(n: u16) -> usize
+    ensures { λ r. ⌜ r ≡ n ⌝ }
+{
+    n as usize
 }
 
 // The row of a number; one of zeros past the last.
@@ -89,12 +96,12 @@ pub fn row_at(i: usize) -> Row
     }
     let row = ROWS[i];
     Row {
-        syntax: row[4],
-        least: row[5],
-        most: row[6],
-        before: row[7],
-        fixed: row[8],
-        top: row[9],
-        crc: row[10],
+        syntax: wide(row[4]),
+        least: wide(row[5]),
+        most: wide(row[6]),
+        before: wide(row[7]),
+        fixed: wide(row[8]),
+        top: wide(row[9]),
+        crc: wide(row[10]),
     }
 }
