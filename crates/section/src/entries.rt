@@ -21,7 +21,7 @@ pub fn judge_entries(bytes: &[u8], fixed: usize, at: usize) -> Verdict
         }
         let start = p + fixed;
         let length_place = p + (fixed - 2);
-        let size = wire::length12_at(bytes, length_place);
+        let size = wire::length12(bytes[length_place], bytes[length_place + 1]);
         if end - start < size {
             return Verdict::LoopPast(length_place);
         }

@@ -31,22 +31,29 @@ module _ (c : tie.In-loop Inv-loop μ-loop) where
       → At (start .args .bytes .now) (start .args .fixed) p n
   begins n e = record { two = start .pre; here = c .loop-test .taken; same = e }
 
+-- The length of its loop has been read.
+module _ (c : tie.After-length12 Inv-loop μ-loop) where
+  abbrev here : tie.In-loop Inv-loop μ-loop
+  here =
+      let low-byte = c .before in
+      low-byte .before .before .before
+
+  entry : At (start here .args .bytes .now) (start here .args .fixed) (p here) (c .length12 .result)
+  entry = begins here _ (c .length12 .ensures .same)
+
 -- Its fixed part and its loop fit.
 module _ (c : tie.Else2 Inv-loop μ-loop) where
-  abbrev here : tie.In-loop Inv-loop μ-loop
-  here = c .before .before .before
+  abbrev head : tie.In-loop Inv-loop μ-loop
+  head = here (c .before)
 
   abbrev end : ℕ
-  end = p here + start here .args .fixed + c .before .length12-at .result
+  end = p head + start head .args .fixed + c .before .length12 .result
 
-  head-fits : p here + start here .args .fixed ≤ length (start here .args .bytes .now)
+  head-fits : p head + start head .args .fixed ≤ length (start head .args .bytes .now)
   head-fits = omega arith
 
-  loop-fits : end ≤ length (start here .args .bytes .now)
+  loop-fits : end ≤ length (start head .args .bytes .now)
   loop-fits = omega arith
-
-  entry : At (start here .args .bytes .now) (start here .args .fixed) (p here) (c .before .length12-at .result)
-  entry = begins here _ (c .before .length12-at .ensures .same)
 
 loop-holds : tie.Need-loop-holds Inv-loop μ-loop
 loop-holds c = refl
@@ -66,18 +73,25 @@ sub-length-place c = omega arith
 add-length-place : tie.Need-add-length-place Inv-loop μ-loop
 add-length-place c = omega arith
 
-length12-at-requires : tie.Need-length12-at-requires Inv-loop μ-loop
-length12-at-requires c κs = search needs
+shared-slice-read-length12 : tie.Need-shared-slice-read-length12 Inv-loop μ-loop
+shared-slice-read-length12 c = omega arith
+
+add-length12 : tie.Need-add-length12 Inv-loop μ-loop
+add-length12 c = omega arith
+
+shared-slice-read-length12-2 : tie.Need-shared-slice-read-length12-2 Inv-loop μ-loop
+shared-slice-read-length12-2 c = omega arith
+
+length12-requires : tie.Need-length12-requires Inv-loop μ-loop
+length12-requires c κs = search needs
 
 sub-if2 : tie.Need-sub-if2 Inv-loop μ-loop
 sub-if2 c = omega arith
 
 returns-2 : tie.Need-returns-2 Inv-loop μ-loop
 returns-2 c =
-    let turn = c .before .before .before in
-    sym
-    (turn .before .loop .inv
-    ∙ ap answer (at-past (begins turn _ (c .before .length12-at .ensures .same)) (omega arith) (omega arith)))
+    let turn = here (c .before) in
+    sym (turn .before .loop .inv ∙ ap answer (at-past (entry (c .before)) (omega arith) (omega arith)))
 
 add-next : tie.Need-add-next Inv-loop μ-loop
 add-next c = omega arith
@@ -98,9 +112,9 @@ loop-again : tie.Need-loop-again Inv-loop μ-loop
 loop-again c =
     let judged = c .before .before in
     let fits = judged .before .before in
-    here fits .before .loop .inv
+    head fits .before .loop .inv
     ∙ ap answer
-    (at-on (entry fits) (head-fits fits) (loop-fits fits)
+    (at-on (entry (fits .before)) (head-fits fits) (loop-fits fits)
     (ap isAccepted (sym (judged .judge-descriptors .ensures)) ∙ sym (c .before .is-accepted .ensures) ∙ c .if3 .taken))
 
 returns-3 : tie.Need-returns-3 Inv-loop μ-loop
@@ -109,9 +123,9 @@ returns-3 c =
     let fits = judged .before .before in
     judged .judge-descriptors .ensures
     ∙ sym
-    (here fits .before .loop .inv
+    (head fits .before .loop .inv
     ∙ ap answer
-    (at-fault (entry fits) (head-fits fits) (loop-fits fits)
+    (at-fault (entry (fits .before)) (head-fits fits) (loop-fits fits)
     (ap isAccepted (sym (judged .judge-descriptors .ensures)) ∙ sym (c .before .is-accepted .ensures) ∙ c .if3 .left)))
 
 returns-4 : tie.Need-returns-4 Inv-loop μ-loop
@@ -124,5 +138,5 @@ pub judge-entries-spec : {M : Type 1} → statement M
 judge-entries-spec =
     tie.close
     (tie.spec Inv-loop μ-loop loop-holds sub-if1 returns add-start sub-length-place add-length-place
-    length12-at-requires sub-if2 returns-2 add-next slice-aggregate-judge-descriptors judge-descriptors-requires
-    is-accepted-requires loop-less loop-again returns-3 returns-4)
+    shared-slice-read-length12 add-length12 shared-slice-read-length12-2 length12-requires sub-if2 returns-2 add-next
+    slice-aggregate-judge-descriptors judge-descriptors-requires is-accepted-requires loop-less loop-again returns-3 returns-4)
