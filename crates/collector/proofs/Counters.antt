@@ -26,7 +26,7 @@ once = byKind (λ g. times g kinds ≡ 1) refl refl refl refl refl refl
 
 -- a kind's number is no more than all of them together
 pub one-of : (n : Fate → ℕ) (k : Kind) → n (done k) ≤ sumOf n
-one-of n = 
+one-of n =
     byKind (λ k. n (done k) ≤ sumOf n) (omega arith) (omega arith) (omega arith) (omega arith) (omega arith) (omega arith)
 
 -- ---- a record

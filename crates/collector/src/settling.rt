@@ -26,9 +26,11 @@ pub fn settle(bytes: &[u8], from: usize, t: usize, out: &mut [u8], at: usize) ->
     number(verdict)
 }
 
-// Where to begin, so that WINDOW bytes of a room of this size have all from n on that a packet can reach.
+// So many bytes of the hold are put back behind each section that is judged in it, more than a packet has: a copy of a size
+// that the compiler knows takes no loop.
 const WINDOW: usize = 192;
 
+// Where the window begins in a room of this size, so that it has all from n on that a packet can reach.
 fn window_at(n: usize, size: usize) -> usize
     requires { ⌜ 192 ≤ size ⌝ }
     ensures { λ r. ⌜ r ≡ min n (size - 192) ⌝ }
@@ -36,10 +38,25 @@ fn window_at(n: usize, size: usize) -> usize
     if n < size - WINDOW { n } else { size - WINDOW }
 }
 
+// How many bytes are laid behind the n in hand, where the packet has left of them and the first k end the section: these at
+// least, and none past the window. Where it begins at n all are laid, for they are mostly as many.
+fn laid_of(k: usize, left: usize, n: usize, at: usize) -> usize
+    requires { ⌜ (k ≤ left) × (left ≤ 192) × (n + k ≤ at + 192) ⌝ }
+    ensures { λ r. ⌜ (k ≤ r) × (r ≤ left) × (n + r ≤ at + 192) ⌝ }
+{
+    if at == n { left } else { k }
+}
+
 // The section whose first n bytes are in hand and whose last k are packet[from..from+k]. For the judge its end is laid
-// behind what is in hand, and the bytes that the hold had there are put back: always as many, for a copy of a size that
-// the compiler knows takes no loop.
-pub fn settle_held(hold: &mut [u8], n: usize, packet: &[u8], from: usize, k: usize, out: &mut [u8]) -> u8
+// behind what is in hand, and the bytes that the hold had there are put back.
+pub fn settle_held(
+    hold: &mut [u8],
+    n: usize,
+    packet: &[u8],
+    from: usize,
+    k: usize,
+    out: &mut [u8],
+) -> u8
     requires { ⌜ (4096 ≤ length (now hold)) × (n + k ≤ length (now hold)) × (from + k ≤ length (now packet))
         × (length (now packet) ≤ 188) × (n + k ≤ length (now out)) ⌝ }
     ensures { λ r. ⌜ r ≡ numberOf (judged (take n (now (hold .entry)) ++ take k (drop from (now (packet .entry))))) ⌝ }
@@ -50,7 +67,8 @@ pub fn settle_held(hold: &mut [u8], n: usize, packet: &[u8], from: usize, k: usi
     let at = window_at(n, hold.len());
     let mut window = [0u8; WINDOW];
     bytes::copy_at(hold, at, WINDOW, &mut window, 0);
-    bytes::copy_at(packet, from, k, hold, n);
+    let laid = laid_of(k, packet.len() - from, n, at);
+    bytes::copy_behind(packet, from, laid, hold, n);
     let number = settle(hold, 0, n + k, out, 0);
     bytes::copy_at(&window, 0, WINDOW, hold, at);
     number

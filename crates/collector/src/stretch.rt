@@ -133,7 +133,14 @@ fn looked(hold: &[u8], n: usize, packet: &[u8], from: usize, m: usize) -> Look
 }
 
 // "Then sections follow end to end", in packet[from..]; those that are accepted go to out[at..].
-pub fn sections(packet: &[u8], from: usize, hold: &mut [u8], out: &mut [u8], at: usize, was: u32) -> Gain
+pub fn sections(
+    packet: &[u8],
+    from: usize,
+    hold: &mut [u8],
+    out: &mut [u8],
+    at: usize,
+    was: u32,
+) -> Gain
     requires { ⌜ (from ≤ length (now packet)) × (length (now packet) ≤ 188)
         × (188 ≤ length (now hold)) × (at + (length (now packet) - from) ≤ length (now out)) ⌝ }
     ensures { λ r. ⌜ Ends (sectionsIn byJudge plain (holding []) (drop from (now (packet .entry)))) was

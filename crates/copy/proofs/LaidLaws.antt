@@ -5,7 +5,7 @@ use Prim.Native.Nat.{ℕ, _+_, _-_, _≤_}
 use native.Mathlib.Nat.{add-zero}
 use native.Mathlib.Omega.{arith}
 use lib.ListN.{length, take, drop, length-append, length-drop, take-append-drop}
-use lib.Seq.{paste, take-all, take-at, drop-at, drop-append-add, drop-drop, length-take-le}
+use lib.Seq.{paste, take-all, take-at, take-take, take-append-add, take-paste, drop-at, drop-append-add, drop-drop, length-take-le}
 use Rattle.copy.specs.Laid.{laid}
 use Rattle.copy.proofs.Moves.{before}
 
@@ -40,6 +40,16 @@ pub pasted : (room : List ℕ) (at : ℕ) (s : List ℕ) (n : ℕ) → n ≤ len
 pasted room at s n k =
     append-assoc (take at room) (take n s) (drop (at + n) room)
     ∙ ap (λ (m : ℕ). take at room ++ (take n s ++ drop (at + m) room)) (sym (length-take-le n s k))
+
+-- the first k of the l bytes that a copy brings, with those before them
+pub pasted-front : (room s : List ℕ) (n k l : ℕ) → n ≤ length room → k ≤ l → l ≤ length s
+    → take (n + k) (paste room n s l) ≡ take n room ++ take k s
+pasted-front room s n k l there some long =
+    sym (take-take (n + k) (n + l) (paste room n s l) (omega arith))
+    ∙ ap (take (n + k)) (take-paste room n s l there long)
+    ∙ ap (λ (m : ℕ). take (m + k) (take n room ++ take l s)) (sym (length-take-le n room there))
+    ∙ take-append-add (take n room) (take l s) k
+    ∙ ap (λ (t : List ℕ). take n room ++ t) (take-take k l s some)
 
 -- one part more, whole
 pub laid-behind : (room : List ℕ) (at : ℕ) (bytes s : List ℕ) → at ≤ length room

@@ -64,8 +64,7 @@ add-sections c = omega (arith, inside (known (gone (c .before))))
 sections-requires : tie.Need-sections-requires
 sections-requires c κs =
     let g = gone (c .before .before .before) in
-    let k = known g in
-    (
+    let k = known g in (
       omega (arith, inside k),
       omega arith,
       omega arith,
@@ -85,8 +84,7 @@ both-requires c κs =
     let t = after-hold2 .before in
     let after-struct-known = t .before .before .before in
     let g = gone (after-struct-known .before) in
-    let k = known g in
-    (
+    let k = known g in (
       small-of _ _ (kept-gone byJudge (not (s k .args .start)) (h k) (l k))
           (omega (arith, inside k, length-append (h k) (l k), h-long k, l-long k)) (g .go-on .ensures),
       small-of _ _ (kept-back byJudge (l₂ k))

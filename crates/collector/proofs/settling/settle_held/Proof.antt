@@ -5,19 +5,22 @@ use mathlib.Core.List.{List, _++_}
 use Prim.Native.Nat.{ℕ, _+_, _≤_}
 use native.Mathlib.Omega.{arith}
 use borrow.Author.Needs.{needs}
-use lib.ListN.{length, take, drop, replicate, length-append, length-take, length-drop}
+use lib.ListN.{length, take, drop, replicate, length-take, length-drop}
 use lib.Seq.{paste, take-at, take-all, length-take-le}
 use Rattle.verdict.specs.Verdict.{numberOf}
 use Rattle.section.specs.Reading.{judged}
-use Rattle.copy.proofs.LaidLaws.{window-back}
+use Rattle.copy.proofs.LaidLaws.{pasted-front, window-back}
 use Rattle.collector.specs.Inner.Settling.{handedOut}
 use Rattle.collector.proofs.settling.settle_held.Statement.{statement}
 use Rattle.collector.proofs.settling.settle_held.Tie as tie
 
 -- from where the section stands in the hold
-module _ (b : tie.After-copy-at2) where
+module _ (b : tie.After-copy-behind) where
+  abbrev counted : tie.After-laid-of
+  counted = b .before .before
+
   abbrev saved : tie.After-copy-at
-  saved = b .before .before .before
+  saved = counted .before .before
 
   abbrev found : tie.After-window-at
   found = saved .before .before .before
@@ -30,36 +33,36 @@ module _ (b : tie.After-copy-at2) where
   abbrev hold : List ℕ
   hold = start .args .hold .now
 
-  abbrev packet : List ℕ
-  packet = start .args .packet .now
-
   abbrev n : ℕ
   n = start .args .n
 
   abbrev k : ℕ
   k = start .args .k
 
-  abbrev s : List ℕ
-  s = take n hold ++ take k (drop (start .args .from) packet)
+  -- the packet from the section's end on, and how much of it is laid
+  abbrev ahead : List ℕ
+  ahead = drop (start .args .from) (start .args .packet .now)
 
-  s-long : length s ≡ n + k
-  s-long =
-      length-append (take n hold) _
-      ∙ (λ i. length-take-le n hold (omega arith) i
-      + length-take-le k (drop (start .args .from) packet) (omega (arith, length-drop (start .args .from) packet)) i)
+  abbrev laid : ℕ
+  laid = counted .laid-of .result
+
+  there : laid ≤ length ahead
+  there = omega (arith, counted .laid-of .ensures, length-drop (start .args .from) (start .args .packet .now))
 
   -- what stands in the hold then
-  now-held : take (n + k) (drop 0 (b .copy-at2 .last .1 .1 .1 .0)) ≡ s
-  now-held = ap (take (n + k)) (b .copy-at2 .ensures) ∙ take-at s (drop (n + k) hold) (n + k) s-long
+  now-held : take (n + k) (drop 0 (b .copy-behind .last .1 .1 .1 .0)) ≡ take n hold ++ take k ahead
+  now-held =
+      ap (take (n + k)) (b .copy-behind .ensures)
+      ∙ pasted-front hold ahead n k laid (omega arith) (counted .laid-of .ensures .0) there
 
   -- where the window begins, and that it has all that is laid
   abbrev at : ℕ
   at = found .window-at .result
 
-  has-all : (at ≤ n) × (n + k ≤ at + 192) × (at + 192 ≤ length hold)
+  has-all : (at ≤ n) × (n + laid ≤ at + 192) × (at + 192 ≤ length hold)
   has-all = (
     omega (arith, found .window-at .ensures),
-    omega (arith, found .window-at .ensures, start .pre),
+    counted .laid-of .ensures .2,
     omega (arith, found .window-at .ensures, start .pre),
   )
 
@@ -74,13 +77,12 @@ module _ (b : tie.After-copy-at2) where
       ∙ sym (take-all 192 (take 192 (drop at hold)) (omega (arith, length-take 192 (drop at hold))))
 
   -- put back, the hold is as it was
-  as-it-was : paste (b .copy-at2 .last .1 .1 .1 .0) at window 192 ≡ hold
+  as-it-was : paste (b .copy-behind .last .1 .1 .1 .0) at window 192 ≡ hold
   as-it-was =
-      let laid : List ℕ = paste hold n (drop (start .args .from) packet) k in
-      ap (λ (l : List ℕ). paste l at window 192) (b .copy-at2 .ensures)
-      ∙ ap (λ (l : List ℕ). (take at laid ++ l) ++ drop (at + 192) laid) window-are
-      ∙ window-back hold at 192 n k (drop (start .args .from) packet) (has-all .0) (has-all .1) (has-all .2)
-      (omega (arith, length-drop (start .args .from) packet))
+      let laid-over : List ℕ = paste hold n ahead laid in
+      ap (λ (l : List ℕ). paste l at window 192) (b .copy-behind .ensures)
+      ∙ ap (λ (l : List ℕ). (take at laid-over ++ l) ++ drop (at + 192) laid-over) window-are
+      ∙ window-back hold at 192 n laid ahead (has-all .0) (has-all .1) (has-all .2) there
 
 window-at-requires : tie.Need-window-at-requires
 window-at-requires c κs = search needs
@@ -91,8 +93,14 @@ slice-aggregate-copy-at c = search needs
 copy-at-requires : tie.Need-copy-at-requires
 copy-at-requires c κs = search needs
 
-copy-at-requires-2 : tie.Need-copy-at-requires-2
-copy-at-requires-2 c κs = search needs
+sub-laid-of : tie.Need-sub-laid-of
+sub-laid-of c = search needs
+
+laid-of-requires : tie.Need-laid-of-requires
+laid-of-requires c κs = search needs
+
+copy-behind-requires : tie.Need-copy-behind-requires
+copy-behind-requires c κs = search needs
 
 add-settle : tie.Need-add-settle
 add-settle c = search needs
@@ -103,8 +111,8 @@ settle-requires c κs = search needs
 slice-aggregate-copy-at-2 : tie.Need-slice-aggregate-copy-at-2
 slice-aggregate-copy-at-2 c = search needs
 
-copy-at-requires-3 : tie.Need-copy-at-requires-3
-copy-at-requires-3 c κs = search needs
+copy-at-requires-2 : tie.Need-copy-at-requires-2
+copy-at-requires-2 c κs = search needs
 
 same-length : tie.Need-same-length
 same-length c = search needs
@@ -121,7 +129,7 @@ returns c =
     let b = after-slice-known3 .before .before in (
       judged-there .settle .ensures .0 ∙ ap (λ (l : List ℕ). numberOf (judged l)) (now-held b),
       (
-        put-back .copy-at3 .ensures ∙ as-it-was b,
+        put-back .copy-at2 .ensures ∙ as-it-was b,
         judged-there .settle .ensures .1 ∙ ap (handedOut (start b .args .out .now) 0) (now-held b),
       ),
     )
@@ -129,5 +137,6 @@ returns c =
 pub settle-held-spec : {M : Type 1} → statement M
 settle-held-spec =
     tie.close
-    (tie.spec window-at-requires slice-aggregate-copy-at copy-at-requires copy-at-requires-2 add-settle settle-requires
-    slice-aggregate-copy-at-2 copy-at-requires-3 same-length same-length-2 returns)
+    (tie.spec window-at-requires slice-aggregate-copy-at copy-at-requires sub-laid-of laid-of-requires
+    copy-behind-requires add-settle settle-requires slice-aggregate-copy-at-2 copy-at-requires-2 same-length same-length-2
+    returns)
