@@ -5,7 +5,7 @@ use verdict::is_accepted;
 use verdict::number;
 ghost use mathlib.Core.Path.{_≡_};
 ghost use mathlib.Core.List.{_++_};
-ghost use Prim.Native.Nat.{_+_, _-_, _≤_, min};
+ghost use Prim.Native.Nat.{_+_, _≤_};
 ghost use lib.ListN.{length, take, drop};
 ghost use Rattle.verdict.specs.Verdict.{numberOf};
 ghost use Rattle.section.specs.Reading.{judged};
@@ -28,23 +28,25 @@ pub fn settle(bytes: &[u8], from: usize, t: usize, out: &mut [u8], at: usize) ->
 
 // So many bytes of the hold are put back behind each section that is judged in it, more than a packet has: a copy of a size
 // that the compiler knows takes no loop.
-const WINDOW: usize = 192;
+const WINDOW: usize = 224;
 
-// Where the window begins in a room of this size, so that it has all from n on that a packet can reach.
-fn window_at(n: usize, size: usize) -> usize
-    requires { ⌜ 192 ≤ size ⌝ }
-    ensures { λ r. ⌜ r ≡ min n (size - 192) ⌝ }
+// Where the window begins in a room of this size, so that it has the k bytes from n on: at a multiple of 32, so that no block
+// of the copy lies across two lines of the processor's cache, or where it ends with the room.
+fn window_at(n: usize, k: usize, size: usize) -> usize
+    requires { ⌜ (k ≤ 192) × (n + k ≤ size) × (224 ≤ size) ⌝ }
+    ensures { λ r. ⌜ (r ≤ n) × (n + k ≤ r + 224) × (r + 224 ≤ size) ⌝ }
 {
-    if n < size - WINDOW { n } else { size - WINDOW }
+    let at = n - n % 32;
+    if at < size - WINDOW { at } else { size - WINDOW }
 }
 
-// How many bytes are laid behind the n in hand, where the packet has left of them and the first k end the section: these at
-// least, and none past the window. Where it begins at n all are laid, for they are mostly as many.
-fn laid_of(k: usize, left: usize, n: usize, at: usize) -> usize
-    requires { ⌜ (k ≤ left) × (left ≤ 192) × (n + k ≤ at + 192) ⌝ }
-    ensures { λ r. ⌜ (k ≤ r) × (r ≤ left) × (n + r ≤ at + 192) ⌝ }
+// How many bytes of the packet are laid behind what is in hand: it has left, of which the first k end the section, and the
+// window has this room. All of them where it can, for these are mostly as many, and not just those k.
+fn laid_of(k: usize, left: usize, room: usize) -> usize
+    requires { ⌜ (k ≤ left) × (k ≤ room) ⌝ }
+    ensures { λ r. ⌜ (k ≤ r) × (r ≤ left) × (r ≤ room) ⌝ }
 {
-    if at == n { left } else { k }
+    if left <= room { left } else { k }
 }
 
 // The section whose first n bytes are in hand and whose last k are packet[from..from+k]. For the judge its end is laid
@@ -64,10 +66,10 @@ pub fn settle_held(
     ensures { λ _. ⌜ now (out .exit)
         ≡ handedOut (now (out .entry)) 0 (take n (now (hold .entry)) ++ take k (drop from (now (packet .entry)))) ⌝ }
 {
-    let at = window_at(n, hold.len());
+    let at = window_at(n, k, hold.len());
     let mut window = [0u8; WINDOW];
     bytes::copy_at(hold, at, WINDOW, &mut window, 0);
-    let laid = laid_of(k, packet.len() - from, n, at);
+    let laid = laid_of(k, packet.len() - from, at + WINDOW - n);
     bytes::copy_behind(packet, from, laid, hold, n);
     let number = settle(hold, 0, n + k, out, 0);
     bytes::copy_at(&window, 0, WINDOW, hold, at);

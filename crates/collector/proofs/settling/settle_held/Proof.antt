@@ -59,30 +59,30 @@ module _ (b : tie.After-copy-behind) where
   abbrev at : ℕ
   at = found .window-at .result
 
-  has-all : (at ≤ n) × (n + laid ≤ at + 192) × (at + 192 ≤ length hold)
+  has-all : (at ≤ n) × (n + laid ≤ at + 224) × (at + 224 ≤ length hold)
   has-all = (
-    omega (arith, found .window-at .ensures),
-    counted .laid-of .ensures .2,
-    omega (arith, found .window-at .ensures, start .pre),
+    found .window-at .ensures .0,
+    omega (arith, found .window-at .ensures, counted .laid-of .ensures),
+    found .window-at .ensures .2,
   )
 
   abbrev window : List ℕ
   window = saved .copy-at .last .1 .1 .1 .0
 
-  window-are : take 192 window ≡ take 192 (take 192 (drop at hold))
+  window-are : take 224 window ≡ take 224 (take 224 (drop at hold))
   window-are =
-      ap (take 192) (saved .copy-at .ensures)
-      ∙ take-at (take 192 (drop at hold)) (drop (0 + 192) (replicate 192 0)) 192
-      (length-take-le 192 (drop at hold) (omega (arith, length-drop at hold, has-all)))
-      ∙ sym (take-all 192 (take 192 (drop at hold)) (omega (arith, length-take 192 (drop at hold))))
+      ap (take 224) (saved .copy-at .ensures)
+      ∙ take-at (take 224 (drop at hold)) (drop (0 + 224) (replicate 224 0)) 224
+      (length-take-le 224 (drop at hold) (omega (arith, length-drop at hold, has-all)))
+      ∙ sym (take-all 224 (take 224 (drop at hold)) (omega (arith, length-take 224 (drop at hold))))
 
   -- put back, the hold is as it was
-  as-it-was : paste (b .copy-behind .last .1 .1 .1 .0) at window 192 ≡ hold
+  as-it-was : paste (b .copy-behind .last .1 .1 .1 .0) at window 224 ≡ hold
   as-it-was =
       let laid-over : List ℕ = paste hold n ahead laid in
-      ap (λ (l : List ℕ). paste l at window 192) (b .copy-behind .ensures)
-      ∙ ap (λ (l : List ℕ). (take at laid-over ++ l) ++ drop (at + 192) laid-over) window-are
-      ∙ window-back hold at 192 n laid ahead (has-all .0) (has-all .1) (has-all .2) there
+      ap (λ (l : List ℕ). paste l at window 224) (b .copy-behind .ensures)
+      ∙ ap (λ (l : List ℕ). (take at laid-over ++ l) ++ drop (at + 224) laid-over) window-are
+      ∙ window-back hold at 224 n laid ahead (has-all .0) (has-all .1) (has-all .2) there
 
 window-at-requires : tie.Need-window-at-requires
 window-at-requires c κs = search needs
@@ -95,6 +95,12 @@ copy-at-requires c κs = search needs
 
 sub-laid-of : tie.Need-sub-laid-of
 sub-laid-of c = search needs
+
+add-laid-of : tie.Need-add-laid-of
+add-laid-of c = search needs
+
+sub-laid-of-2 : tie.Need-sub-laid-of-2
+sub-laid-of-2 c = search needs
 
 laid-of-requires : tie.Need-laid-of-requires
 laid-of-requires c κs = search needs
@@ -137,6 +143,6 @@ returns c =
 pub settle-held-spec : {M : Type 1} → statement M
 settle-held-spec =
     tie.close
-    (tie.spec window-at-requires slice-aggregate-copy-at copy-at-requires sub-laid-of laid-of-requires
+    (tie.spec window-at-requires slice-aggregate-copy-at copy-at-requires sub-laid-of add-laid-of sub-laid-of-2 laid-of-requires
     copy-behind-requires add-settle settle-requires slice-aggregate-copy-at-2 copy-at-requires-2 same-length same-length-2
     returns)
