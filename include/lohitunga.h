@@ -692,7 +692,7 @@ lohitunga_roll_answer lohitunga_roll_take(lohitunga_roll *roll, const uint8_t *s
 
 /* The stack that a call needs at most, in bytes below the caller's stack pointer, its return address included and that of memcpy and memset left out:
  *   lohitunga_roll_take            1,224
- *   lohitunga_collect                792
+ *   lohitunga_collect                824
  *   lohitunga_to_sheet               600
  *   lohitunga_open                   568
  *   lohitunga_to_section             520
