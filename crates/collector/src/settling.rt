@@ -30,8 +30,8 @@ pub fn settle(bytes: &[u8], from: usize, t: usize, out: &mut [u8], at: usize) ->
 // that the compiler knows takes no loop.
 const WINDOW: usize = 224;
 
-// Where the window begins in a room of this size, so that it has the k bytes from n on: at a multiple of 32, so that no block
-// of the copy lies across two lines of the processor's cache, or where it ends with the room.
+// Where the window begins in a room of this size, so that it has the k bytes from n on: at a multiple of 32, so that in a
+// room that begins at one no block of the copy lies across two lines of the processor's cache, or where it ends with the room.
 fn window_at(n: usize, k: usize, size: usize) -> usize
     requires { ⌜ (k ≤ 192) × (n + k ≤ size) × (224 ≤ size) ⌝ }
     ensures { λ r. ⌜ (r ≤ n) × (n + k ≤ r + 224) × (r + 224 ≤ size) ⌝ }
