@@ -1,6 +1,7 @@
 // Document 01, "Tables that are known": six rows, which judge and writer both consult.
 ghost use mathlib.Core.Path.{_≡_};
 ghost use Rattle.tables.specs.Tables.{between, holds, isNumbered, rowOf, rowAt};
+ghost use Rattle.tables.specs.Inner.Rows.{besideIds};
 
 // The rows by name, and the number in the place of a row where none has the table_id.
 pub const NIT: usize = 0;
@@ -12,8 +13,8 @@ pub const TOT: usize = 5;
 pub const UNKNOWN: usize = 6;
 
 // table_id from and to, a second table_id from and to; syntax bit; least and greatest section_length; bytes before the first loop or entry;
-// entry's fixed bytes, 0 for none; 1 for a top loop; 1 for a CRC_32. In 16 bits each: the table is built anew on the stack at each call.
-const ROWS: [[u16; 11]; 6] = [
+// entry's fixed bytes, 0 for none; 1 for a top loop; 1 for a CRC_32.
+const ROWS: [[usize; 11]; 6] = [
     [0x40, 0x40, 0x41, 0x41, 1, 13, 1021, 8, 6, 1, 1],
     [0x42, 0x42, 0x46, 0x46, 1, 12, 1021, 11, 5, 0, 1],
     [0x4A, 0x4A, 0x4A, 0x4A, 1, 13, 1021, 8, 6, 1, 1],
@@ -33,14 +34,14 @@ pub struct Row {
     pub crc: usize,
 }
 
-fn within(low: u16, id: u16, high: u16) -> bool
+fn within(low: usize, id: usize, high: usize) -> bool
     ensures { λ r. ⌜ r ≡ between low id high ⌝ }
 {
     if low <= id { id <= high } else { false }
 }
 
 // The id lies in one of the row's two ranges.
-fn held_by(row: [u16; 11], id: u16) -> bool
+fn held_by(row: [usize; 11], id: usize) -> bool
     ensures { λ r. ⌜ r ≡ holds row id ⌝ }
 {
     if within(row[0], id, row[1]) {
@@ -54,7 +55,7 @@ pub fn row_of(table_id: u8) -> usize
     ensures { λ r. ⌜ r ≡ rowOf «table_id» ⌝ }
 {
     let rows = ROWS;
-    let id = table_id as u16;
+    let id = table_id as usize;
     let mut i: usize = 0;
     while i < UNKNOWN {
         if held_by(rows[i], id) {
@@ -72,36 +73,33 @@ pub fn is_numbered(row: usize) -> bool
     row < TDT
 }
 
-// A number of a row, at its full width.
-fn wide(n: u16) -> usize
-    ensures { λ r. ⌜ r ≡ n ⌝ }
+// What a row says beside its ids.
+fn beside_ids(row: [usize; 11]) -> Row
+    ensures { λ r. ⌜ r ≡ besideIds row ⌝ }
 {
-    n as usize
+    Row {
+        syntax: row[4],
+        least: row[5],
+        most: row[6],
+        before: row[7],
+        fixed: row[8],
+        top: row[9],
+        crc: row[10],
+    }
 }
 
-// The row of a number; one of zeros past the last.
+// The row of a number; one of zeros past the last. Each place in ROWS is a constant, so that the compiler knows the row's
+// numbers: for a place that is known only at run time it would build all of ROWS on the stack, at each call.
 pub fn row_at(i: usize) -> Row
     ensures { λ r. ⌜ r ≡ rowAt i ⌝ }
 {
-    if UNKNOWN <= i {
-        return Row {
-            syntax: 0,
-            least: 0,
-            most: 0,
-            before: 0,
-            fixed: 0,
-            top: 0,
-            crc: 0,
-        };
-    }
-    let row = ROWS[i];
-    Row {
-        syntax: wide(row[4]),
-        least: wide(row[5]),
-        most: wide(row[6]),
-        before: wide(row[7]),
-        fixed: wide(row[8]),
-        top: wide(row[9]),
-        crc: wide(row[10]),
+    match i {
+        NIT => beside_ids(ROWS[NIT]),
+        SDT => beside_ids(ROWS[SDT]),
+        BAT => beside_ids(ROWS[BAT]),
+        EIT => beside_ids(ROWS[EIT]),
+        TDT => beside_ids(ROWS[TDT]),
+        TOT => beside_ids(ROWS[TOT]),
+        _ => beside_ids([0; 11]),
     }
 }
