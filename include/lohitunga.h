@@ -691,15 +691,15 @@ lohitunga_roll_answer lohitunga_roll_take(lohitunga_roll *roll, const uint8_t *s
 #endif
 
 /* The stack that a call needs at most, in bytes below the caller's stack pointer, its return address included and that of memcpy and memset left out:
- *   lohitunga_roll_take            1,224
- *   lohitunga_collect                824
- *   lohitunga_to_sheet               600
- *   lohitunga_open                   568
- *   lohitunga_to_section             520
- *   lohitunga_search                 472
- *   lohitunga_judge                  312
+ *   lohitunga_roll_take            1,112
+ *   lohitunga_collect                712
+ *   lohitunga_to_sheet               408
+ *   lohitunga_to_section             360
  *   lohitunga_roll_ask               304
- *   lohitunga_next_entry             248
+ *   lohitunga_open                   296
+ *   lohitunga_search                 232
+ *   lohitunga_judge                  200
+ *   lohitunga_next_entry             184
  *   lohitunga_packets                184
  *   lohitunga_read_local_time_offset 184
  *   lohitunga_read_satellite         184
