@@ -2,11 +2,18 @@
    the header and the archive of its own commit, for both have the same names.
        bench ROUNDS            a line for each stream: its name, and nanoseconds a packet, the median of the rounds
        bench EIT|NIT TIMES     a short stream, gone over so often, to be counted: its packets
-   The whole stream comes from memory; a short one stays in the processor's caches and shows what the code costs by itself. */
+   The whole stream comes from memory; a short one stays in the processor's caches and shows what the code costs by itself.
+   With WAY, a name, it is one of the two ways of places.c, under that name. */
 #include "../rounds.h"
 #include "lohitunga.h"
 
-static struct found run(const struct stream *t) {
+#ifdef WAY
+#define run WAY
+struct found run(const struct stream *);
+#else
+static
+#endif
+struct found run(const struct stream *t) {
     static uint8_t hold[LOHITUNGA_HOLD], out[LOHITUNGA_OUT];
     lohitunga_record record = lohitunga_fresh(t->pid);
     struct found f = {0};
@@ -27,6 +34,7 @@ static struct found run(const struct stream *t) {
     return f;
 }
 
+#ifndef WAY
 static int time_stream(const char *name, struct stream t, int times) {
     static double took[MOST_ROUNDS];
     int again = 1 + (int)(50000 / t.count);
@@ -55,3 +63,4 @@ int main(int argc, char **argv) {
     return time_stream("EIT", eit_stream(1), times) || time_stream("EIT-short", eit_stream(256), times) ||
            time_stream("NIT", nit_stream(1), times) || time_stream("NIT-short", nit_stream(256), times);
 }
+#endif
