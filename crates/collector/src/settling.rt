@@ -9,7 +9,7 @@ ghost use Prim.Native.Nat.{_+_, _≤_};
 ghost use lib.ListN.{length, take, drop};
 ghost use Rattle.verdict.specs.Verdict.{numberOf};
 ghost use Rattle.section.specs.Reading.{judged};
-ghost use Rattle.collector.specs.Inner.Settling.{handedOut};
+ghost use Rattle.collector.specs.Inner.Settling.{handedOut, windowAt, laidOf};
 
 // The section bytes[from..from+t], judged where it lies, goes to out[at..] if it is accepted. The answer is its rejection's
 // number, 0 where there is none.
@@ -30,11 +30,12 @@ pub fn settle(bytes: &[u8], from: usize, t: usize, out: &mut [u8], at: usize) ->
 // that the compiler knows takes no loop.
 const WINDOW: usize = 224;
 
-// Where the window begins in a room of this size, so that it has the k bytes from n on: at a multiple of 32, so that in a
-// room that begins at one no block of the copy lies across two lines of the processor's cache, or where it ends with the room.
-fn window_at(n: usize, k: usize, size: usize) -> usize
-    requires { ⌜ (k ≤ 192) × (n + k ≤ size) × (224 ≤ size) ⌝ }
-    ensures { λ r. ⌜ (r ≤ n) × (n + k ≤ r + 224) × (r + 224 ≤ size) ⌝ }
+// Where the window begins in a room of this size, so that it has what a packet lays from n on: at a multiple of 32, so that
+// in a room that begins at one no block of the copy lies across two lines of the processor's cache, or where it ends with
+// the room.
+fn window_at(n: usize, size: usize) -> usize
+    requires { ⌜ 224 ≤ size ⌝ }
+    ensures { λ r. ⌜ r ≡ windowAt n size ⌝ }
 {
     let at = n - n % 32;
     if at < size - WINDOW { at } else { size - WINDOW }
@@ -43,8 +44,7 @@ fn window_at(n: usize, k: usize, size: usize) -> usize
 // How many bytes of the packet are laid behind what is in hand: it has left, of which the first k end the section, and the
 // window has this room. All of them where it can, for these are mostly as many, and not just those k.
 fn laid_of(k: usize, left: usize, room: usize) -> usize
-    requires { ⌜ (k ≤ left) × (k ≤ room) ⌝ }
-    ensures { λ r. ⌜ (k ≤ r) × (r ≤ left) × (r ≤ room) ⌝ }
+    ensures { λ r. ⌜ r ≡ laidOf k left room ⌝ }
 {
     if left <= room { left } else { k }
 }
@@ -66,7 +66,7 @@ pub fn settle_held(
     ensures { λ _. ⌜ now (out .exit)
         ≡ handedOut (now (out .entry)) 0 (take n (now (hold .entry)) ++ take k (drop from (now (packet .entry)))) ⌝ }
 {
-    let at = window_at(n, k, hold.len());
+    let at = window_at(n, hold.len());
     let mut window = [0u8; WINDOW];
     bytes::copy_at(hold, at, WINDOW, &mut window, 0);
     let laid = laid_of(k, packet.len() - from, at + WINDOW - n);

@@ -59,18 +59,22 @@ cell i j = getD (getD rows i []) j 0
 abbrev pub FixedTwo : ℕ → Type 0
 FixedTwo fixed = (fixed ≡ 0 → ⊥) → 2 ≤ fixed
 
+-- what a row says beside its ids, by its columns
+abbrev pub besideIds : (ℕ → ℕ) → Row
+besideIds column =
+    record {
+      syntax = column 4;
+      least = column 5;
+      most = column 6;
+      before = column 7;
+      fixed = column 8;
+      top = column 9;
+      crc = column 10;
+    }
+
 -- a row without its ids
 abbrev pub rowAt : ℕ → Row
-rowAt i =
-    record {
-      syntax = cell i 4;
-      least = cell i 5;
-      most = cell i 6;
-      before = cell i 7;
-      fixed = cell i 8;
-      top = cell i 9;
-      crc = cell i 10;
-    }
+rowAt i = besideIds (cell i)
 
 -- low ≤ x ≤ high
 abbrev pub between : ℕ → ℕ → ℕ → Bool

@@ -1,7 +1,7 @@
 // Document 01, "Tables that are known": six rows, which judge and writer both consult.
 ghost use mathlib.Core.Path.{_≡_};
-ghost use Rattle.tables.specs.Tables.{between, holds, isNumbered, rowOf, rowAt};
-ghost use Rattle.tables.specs.Inner.Rows.{besideIds};
+ghost use lib.ListN.{getD};
+ghost use Rattle.tables.specs.Tables.{between, holds, isNumbered, rowOf, besideIds, rowAt};
 
 // The rows by name, and the number in the place of a row where none has the table_id.
 pub const NIT: usize = 0;
@@ -75,7 +75,7 @@ pub fn is_numbered(row: usize) -> bool
 
 // What a row says beside its ids.
 fn beside_ids(row: [usize; 11]) -> Row
-    ensures { λ r. ⌜ r ≡ besideIds row ⌝ }
+    ensures { λ r. ⌜ r ≡ besideIds (λ column. getD row column 0) ⌝ }
 {
     Row {
         syntax: row[4],

@@ -2,32 +2,34 @@
 -- behind it is put back.
 use mathlib.Core.Path.{_≡_, sym, ap, _∙_}
 use mathlib.Core.List.{List, _++_}
-use Prim.Native.Nat.{ℕ, _+_, _≤_}
+use Prim.Native.Nat.{ℕ, _+_, _-_, _≤_}
 use native.Mathlib.Omega.{arith}
+use borrow.Author.Tests.{leb-true}
+use lib.Dec.{leb}
+use Rattle.wire.proofs.IfLaws.{if-case}
 use borrow.Author.Needs.{needs}
 use lib.ListN.{length, take, drop, replicate, length-take, length-drop}
 use lib.Seq.{paste, take-at, take-all, length-take-le}
 use Rattle.verdict.specs.Verdict.{numberOf}
 use Rattle.section.specs.Reading.{judged}
 use Rattle.copy.proofs.LaidLaws.{pasted-front, window-back}
-use Rattle.collector.specs.Inner.Settling.{handedOut}
+use Rattle.collector.specs.Inner.Settling.{handedOut, laidOf}
 use Rattle.collector.proofs.settling.settle_held.Statement.{statement}
 use Rattle.collector.proofs.settling.settle_held.Tie as tie
 
--- from where the section stands in the hold
-module _ (b : tie.After-copy-behind) where
-  abbrev counted : tie.After-laid-of
-  counted = b .before .before
+-- no more is laid than is left and has room, and no less than is asked for
+within : (k left room : ℕ) → k ≤ left → k ≤ room
+    → (k ≤ laidOf k left room) × (laidOf k left room ≤ left) × (laidOf k left room ≤ room)
+within k left room h g =
+    if-case (λ r. (k ≤ r) × (r ≤ left) × (r ≤ room)) (leb left room)
+    (λ e. (h, omega arith, leb-true left room e))
+    (λ _. (omega arith, h, g))
 
-  abbrev saved : tie.After-copy-at
-  saved = counted .before .before
-
-  abbrev found : tie.After-window-at
-  found = saved .before .before .before
-
+-- from where the window's place is known
+module _ (f : tie.After-window-at) where
   abbrev start : tie.Start
   start =
-      let after-shared-slice-known = found .before .before in
+      let after-shared-slice-known = f .before .before in
       after-shared-slice-known .before .before
 
   abbrev hold : List ℕ
@@ -39,50 +41,77 @@ module _ (b : tie.After-copy-behind) where
   abbrev k : ℕ
   k = start .args .k
 
-  -- the packet from the section's end on, and how much of it is laid
+  -- the packet from the section's end on
   abbrev ahead : List ℕ
   ahead = drop (start .args .from) (start .args .packet .now)
 
-  abbrev laid : ℕ
-  laid = counted .laid-of .result
+  abbrev at : ℕ
+  at = f .window-at .result
 
-  there : laid ≤ length ahead
-  there = omega (arith, counted .laid-of .ensures, length-drop (start .args .from) (start .args .packet .now))
+  -- it begins no later than what is laid, has the section's end and ends in the room
+  window-fits : (at ≤ n) × (n + k ≤ at + 224) × (at + 224 ≤ length hold)
+  window-fits = (omega arith, omega arith, omega arith)
+
+-- from where it is known how much is laid
+module _ (g : tie.After-laid-of) where
+  abbrev saved : tie.After-copy-at
+  saved = g .before .before
+
+  abbrev found : tie.After-window-at
+  found = saved .before .before .before
+
+  abbrev laid : ℕ
+  laid = g .laid-of .result
+
+  -- the section's end, no more than the packet has, and all of it in the window
+  laid-fits : (k found ≤ laid) × (laid ≤ length (ahead found)) × (n found + laid ≤ at found + 224)
+  laid-fits =
+      let a = start found .args in
+      let fits = window-fits found in
+      let w =
+      within (a .k) (length (a .packet .now) - a .from) (at found + 224 - a .n) (omega arith) (omega (arith, fits)) in (
+        omega (arith, w, g .laid-of .ensures),
+        omega (arith, w, g .laid-of .ensures, length-drop (a .from) (a .packet .now)),
+        omega (arith, w, g .laid-of .ensures, fits),
+      )
+
+-- from where the section stands in the hold
+module _ (b : tie.After-copy-behind) where
+  abbrev counted : tie.After-laid-of
+  counted = b .before .before
+
+  abbrev room : tie.After-window-at
+  room = found counted
 
   -- what stands in the hold then
-  now-held : take (n + k) (drop 0 (b .copy-behind .last .1 .1 .1 .0)) ≡ take n hold ++ take k ahead
+  now-held : take (n room + k room) (drop 0 (b .copy-behind .last .1 .1 .1 .0))
+      ≡ take (n room) (hold room) ++ take (k room) (ahead room)
   now-held =
-      ap (take (n + k)) (b .copy-behind .ensures)
-      ∙ pasted-front hold ahead n k laid (omega arith) (counted .laid-of .ensures .0) there
-
-  -- where the window begins, and that it has all that is laid
-  abbrev at : ℕ
-  at = found .window-at .result
-
-  has-all : (at ≤ n) × (n + laid ≤ at + 224) × (at + 224 ≤ length hold)
-  has-all = (
-    found .window-at .ensures .0,
-    omega (arith, found .window-at .ensures, counted .laid-of .ensures),
-    found .window-at .ensures .2,
-  )
+      ap (take (n room + k room)) (b .copy-behind .ensures)
+      ∙ pasted-front (hold room) (ahead room) (n room) (k room) (laid counted) (omega arith) (laid-fits counted .0)
+      (laid-fits counted .1)
 
   abbrev window : List ℕ
-  window = saved .copy-at .last .1 .1 .1 .0
+  window = saved counted .copy-at .last .1 .1 .1 .0
 
-  window-are : take 224 window ≡ take 224 (take 224 (drop at hold))
+  abbrev stood : List ℕ
+  stood = drop (at room) (hold room)
+
+  window-are : take 224 window ≡ take 224 (take 224 stood)
   window-are =
-      ap (take 224) (saved .copy-at .ensures)
-      ∙ take-at (take 224 (drop at hold)) (drop (0 + 224) (replicate 224 0)) 224
-      (length-take-le 224 (drop at hold) (omega (arith, length-drop at hold, has-all)))
-      ∙ sym (take-all 224 (take 224 (drop at hold)) (omega (arith, length-take 224 (drop at hold))))
+      ap (take 224) (saved counted .copy-at .ensures)
+      ∙ take-at (take 224 stood) (drop (0 + 224) (replicate 224 0)) 224
+      (length-take-le 224 stood (omega (arith, length-drop (at room) (hold room), window-fits room)))
+      ∙ sym (take-all 224 (take 224 stood) (omega (arith, length-take 224 stood)))
 
   -- put back, the hold is as it was
-  as-it-was : paste (b .copy-behind .last .1 .1 .1 .0) at window 224 ≡ hold
+  as-it-was : paste (b .copy-behind .last .1 .1 .1 .0) (at room) window 224 ≡ hold room
   as-it-was =
-      let laid-over : List ℕ = paste hold n ahead laid in
-      ap (λ (l : List ℕ). paste l at window 224) (b .copy-behind .ensures)
-      ∙ ap (λ (l : List ℕ). (take at laid-over ++ l) ++ drop (at + 224) laid-over) window-are
-      ∙ window-back hold at 224 n laid ahead (has-all .0) (has-all .1) (has-all .2) there
+      let laid-over : List ℕ = paste (hold room) (n room) (ahead room) (laid counted) in
+      ap (λ (l : List ℕ). paste l (at room) window 224) (b .copy-behind .ensures)
+      ∙ ap (λ (l : List ℕ). (take (at room) laid-over ++ l) ++ drop (at room + 224) laid-over) window-are
+      ∙ window-back (hold room) (at room) 224 (n room) (laid counted) (ahead room) (window-fits room .0)
+      (laid-fits counted .2) (window-fits room .2) (laid-fits counted .1)
 
 window-at-requires : tie.Need-window-at-requires
 window-at-requires c κs = search needs
@@ -106,7 +135,13 @@ laid-of-requires : tie.Need-laid-of-requires
 laid-of-requires c κs = search needs
 
 copy-behind-requires : tie.Need-copy-behind-requires
-copy-behind-requires c κs = search needs
+copy-behind-requires c κs =
+    let g = c .before in
+    let a = start (found g) .args in
+    (
+      omega (arith, laid-fits g, length-drop (a .from) (a .packet .now)),
+      omega (arith, laid-fits g, window-fits (found g)),
+    )
 
 add-settle : tie.Need-add-settle
 add-settle c = search needs
@@ -136,7 +171,7 @@ returns c =
       judged-there .settle .ensures .0 ∙ ap (λ (l : List ℕ). numberOf (judged l)) (now-held b),
       (
         put-back .copy-at2 .ensures ∙ as-it-was b,
-        judged-there .settle .ensures .1 ∙ ap (handedOut (start b .args .out .now) 0) (now-held b),
+        judged-there .settle .ensures .1 ∙ ap (handedOut (start (room b) .args .out .now) 0) (now-held b),
       ),
     )
 
