@@ -1,5 +1,5 @@
--- Over any run from a fresh record: the record, the hold and what came out are those of the history of the packets
--- taken.
+-- Over any run, from a fresh record or from one whose counters and number were told before: the record, the hold and
+-- what came out are those of the history of the packets taken.
 use mathlib.Core.Path.{_≡_, refl, sym, ap, _∙_, subst}
 use mathlib.Core.Bool.{Bool, true, false}
 use mathlib.Core.List.{List, [], _∷_, _++_, append-assoc, append-nil, map, map-id, flatten}
@@ -37,7 +37,8 @@ use Rattle.collector.proofs.PayloadLaws.{any}
 use Rattle.packet.proofs.Table.{or-false, payload-of}
 use Rattle.history.specs.History.{Byte, valueOf, numbered, History, unbegun, numberedIn, historyAfter, historyFrom}
 use Rattle.history.specs.Run.{Promised, Call, Run, no-call, one-call, fareOf, ruledFare, lentOf, rulingOn, beforeAfter, ruledIn, faresFrom, ruledTaken, beforeFrom, cut, handedBy, handed, bytesBy, toldBy}
-use Rattle.history.specs.Demand3.{Counted, deliveredIn, rejectedIn, numberIn}
+use Rattle.history.specs.Demand3.{deliveredIn, rejectedIn}
+use Rattle.history.specs.Healing.{Tally, noTally, ToldFrom}
 use Rattle.history.proofs.TestLaws.{or-none}
 use Rattle.history.proofs.LeftInHand.{Standing, standing-none, stands-taken, few-standing, stands-after}
 
@@ -72,6 +73,20 @@ pub whole-taken : (comes : List ℕ → Kind) (last : Option ℕ) (h : List ℕ)
 whole-taken comes last h q =
     plain-whole (storyAfter comes plain last (holding h) q .sections) (kept-taken comes last h q .whole)
 
+-- ---- what a taken packet hands out
+
+pub bytes-after : (r : Record) (hold out : List ℕ) (counter : ℕ) (s : Story ℕ) → let o = outcomeAfter r hold out counter s in
+    bytesBy (o .said) (o .out) ≡ flatten (deliveredOf s)
+bytes-after r hold out counter s =
+    take-append-seam (flatten (deliveredOf s)) (drop (length (flatten (deliveredOf s))) out)
+
+pub handed-after : (r : Record) (hold out : List ℕ) (counter : ℕ) (s : Story ℕ) → Each WholeSection (s .sections)
+    → let o = outcomeAfter r hold out counter s in handedBy (o .said) (o .out) ≡ deliveredOf s
+handed-after r hold out counter s x =
+    let secs : List (List ℕ) = deliveredOf s in
+    ap (cut (length secs)) (bytes-after r hold out counter s)
+    ∙ cut-whole secs (sections-each byJudge plain accepted WholeSection (s .sections) x)
+
 -- ---- what a ruling tells of a packet that is taken with payload
 
 abbrev Taking : ℕ → Ruling → Type 0
@@ -100,19 +115,21 @@ taking-of : (unfit : Bool) (pid size out : ℕ) (before : Before) (p : List ℕ)
 taking-of unfit pid size out before p =
     taking-at unfit pid size out before p (judged (tooSmall size out) unfit pid p) refl
 
--- ---- the record agrees with a history, and with what counts of the packets before
+-- ---- the record agrees with a history, which began where its counters and its number were from, and with what counts
+-- of the packets before
 
-pub record Agrees (pid size : ℕ) (r : Record) (hold : List ℕ) (before : Before) (h : History) : Type 0 where
+pub record Agrees (from : Tally) (pid size : ℕ) (r : Record) (hold : List ℕ) (before : Before) (h : History)
+    : Type 0 where
   pub pid-is : r .pid ≡ pid
   pub size-is : length hold ≡ size
   pub before-is : beforeOf r ≡ before
   pub last-is : before .last ≡ h .last
   pub stand-is : cannotStand r hold ≡ ltb 8191 pid
-  pub counted : Counted r hold (h .story)
-  pub number-is : r .rejection ≡ numberIn (h .story)
+  pub told : ToldFrom from r hold (h .story)
+  pub number-few : r .rejection ≤ 10
   pub standing : Standing (map valueOf (handOf (h .story)))
 
-pub agrees-fresh : (pid : ℕ) (hold : List ℕ) → Agrees pid (length hold) (freshRecord pid) hold noneBefore unbegun
+pub agrees-fresh : (pid : ℕ) (hold : List ℕ) → Agrees noTally pid (length hold) (freshRecord pid) hold noneBefore unbegun
 unfolding cannotStand
 agrees-fresh pid hold = record {
   pid-is = refl;
@@ -120,25 +137,27 @@ agrees-fresh pid hold = record {
   before-is = refl;
   last-is = refl;
   stand-is = or-none (ltb 8191 pid);
-  counted = record {
+  told = record {
     counters-are = counts-with pid None false 0 0 (λ k. 0);
     in-hand-is = refl;
     hold-is = refl;
+    number-is = refl;
   };
-  number-is = refl;
+  number-few = omega arith;
   standing = standing-none;
 }
 
 -- a counter that runs round goes on as the count does
-runs-round : (c n k d : ℕ) → c ≡ n % 2 ^ 32 → d ≡ n + k → (c + k) % 2 ^ 32 ≡ d % 2 ^ 32
-runs-round c n k d e w =
-    ap (λ (x : ℕ). (x + k) % 2 ^ 32) e ∙ mod-add-mod n (2 ^ 32) k ∙ ap (λ (x : ℕ). x % 2 ^ 32) (sym w)
+pub runs-round : (c f n k d : ℕ) → c ≡ (f + n) % 2 ^ 32 → d ≡ n + k → (c + k) % 2 ^ 32 ≡ (f + d) % 2 ^ 32
+runs-round c f n k d e w =
+    let on : f + d ≡ f + n + k = omega arith in
+    ap (λ (x : ℕ). (x + k) % 2 ^ 32) e ∙ mod-add-mod (f + n) (2 ^ 32) k ∙ ap (λ (x : ℕ). x % 2 ^ 32) (sym on)
 
-values-of : (k : ℕ) (bs : List ℕ) → map valueOf (numbered k bs) ≡ bs
+pub values-of : (k : ℕ) (bs : List ℕ) → map valueOf (numbered k bs) ≡ bs
 values-of k [] = refl
 values-of k (b ∷ bs) = ap (λ (l : List ℕ). b ∷ l) (values-of k bs)
 
-map-long : (l : List Byte) → length (map valueOf l) ≡ length l
+pub map-long : (l : List Byte) → length (map valueOf l) ≡ length l
 map-long [] = refl
 map-long (b ∷ l) = ap suc (map-long l)
 
@@ -147,8 +166,8 @@ stand-marked : (splice : Bool) (r : Record) (hold : List ℕ) → cannotStand (m
 unfolding cannotStand
 stand-marked splice r hold = refl
 
-module _ {pid size : ℕ} {r : Record} {hold : List ℕ} {before : Before} {h : History}
-    (g : Agrees pid size r hold before h) where
+module _ {from : Tally} {pid size : ℕ} {r : Record} {hold : List ℕ} {before : Before} {h : History}
+    (g : Agrees from pid size r hold before h) where
   abbrev hand : List ℕ
   hand = take (r .in_hand) hold
 
@@ -161,16 +180,10 @@ module _ {pid size : ℕ} {r : Record} {hold : List ℕ} {before : Before} {h : 
   none-other : (f : Fate) → sameFate f in-hand ≡ false → countOf f (marked in-hand hand) ≡ 0
   none-other f e = ap length (bytesOf-marked f in-hand hand ∙ ap (λ (t : Bool). if t then hand else []) e)
 
-  -- the number kept can stand
-  number-few : r .rejection ≤ 10
-  number-few =
-      subst (λ (n : ℕ). n ≤ 10) (sym (g .number-is))
-      (last-limit 0 (map (map valueOf) (rejectedIn (h .story))) (omega arith))
-
   -- the bytes in hand stand beside the whole history
   beside : Beside valueOf base secs (holding hand) (h .story)
   beside = record {
-    hand = sym (g .counted .hold-is) ∙ sym (bytesOf-marked in-hand in-hand hand);
+    hand = sym (g .told .hold-is) ∙ sym (bytesOf-marked in-hand in-hand hand);
     sections = sym (append-nil secs);
     counts = λ f e. sym (add-zero (base f)) ∙ ap (λ (n : ℕ). base f + n) (sym (none-other f e));
   }
@@ -192,7 +205,7 @@ module _ {pid size : ℕ} {r : Record} {hold : List ℕ} {before : Before} {h : 
         (beside-taken comes valueOf base secs (h .last) (holding hand) (h .story) (numberedIn (h .packets) q) beside)
 
     standing-after : Standing (handOf s)
-    standing-after = stands-taken comes (h .last) hand q (subst Standing (sym (g .counted .hold-is)) (g .standing))
+    standing-after = stands-taken comes (h .last) hand q (subst Standing (sym (g .told .hold-is)) (g .standing))
 
     -- the sections that a packet adds, of each kind that the judge tells
     sections-taken : (k : Kind)
@@ -206,17 +219,19 @@ module _ {pid size : ℕ} {r : Record} {hold : List ℕ} {before : Before} {h : 
         ∙ ap (λ (l : List (List ℕ)). l ++ sectionsOf byJudge plain k (s .sections))
         (sym (sections-values byJudge valueOf k (h .story .sections)))
 
-    number-after : lastNumber (r .rejection) (rejectedOf s) ≡ numberIn (historyAfter comes h q .story)
+    number-after : lastNumber (r .rejection) (rejectedOf s)
+        ≡ lastNumber (from .number) (map (map valueOf) (rejectedIn (historyAfter comes h q .story)))
     number-after =
-        ap (λ (n : ℕ). lastNumber n (rejectedOf s)) (g .number-is)
-        ∙ sym (last-more 0 (map (map valueOf) (rejectedIn (h .story))) (rejectedOf s))
-        ∙ ap (lastNumber 0) (sym (sections-taken rejected))
+        ap (λ (n : ℕ). lastNumber n (rejectedOf s)) (g .told .number-is)
+        ∙ sym (last-more (from .number) (map (map valueOf) (rejectedIn (h .story))) (rejectedOf s))
+        ∙ ap (lastNumber (from .number)) (sym (sections-taken rejected))
 
     agrees-taken : (q .counter ≤ 15) × (4096 ≤ size)
-        → Agrees pid size (recordAfter r (q .counter) s) (over (handOf s) hold) (handsOn q) (historyAfter comes h q)
+        → Agrees from pid size (recordAfter r (q .counter) s) (over (handOf s) hold) (handsOn q) (historyAfter comes h q)
     agrees-taken x =
         let b = beside-after in
         let few = few-standing (handOf s) standing-after in
+        let number-few = last-limit (r .rejection) (rejectedOf s) (g .number-few) in
         record {
           pid-is = g .pid-is;
           size-is =
@@ -231,78 +246,73 @@ module _ {pid size : ℕ} {r : Record} {hold : List ℕ} {before : Before} {h : 
           last-is = refl;
           stand-is =
               stands-after (recordAfter r (q .counter) s) (q .counter) refl (x .0) (handOf s) standing-after refl
-              (last-limit (r .rejection) (rejectedOf s) number-few)
-              (drop (length (handOf s)) hold)
+              number-few (drop (length (handOf s)) hold)
               ∙ ap (ltb 8191) (g .pid-is);
-          counted = record {
+          told = record {
             counters-are = λ k.
                 counts-with (r .pid) (Counter (q .counter)) false (lastNumber (r .rejection) (rejectedOf s))
                 (length (handOf s))
                 (λ j. (bytesCounted (done j) r + countOf (done j) (s .marks)) % 2 ^ 32) k
-                ∙ runs-round (bytesCounted (done k) r) (base (done k)) (countOf (done k) (s .marks)) _
-                (g .counted .counters-are k) (b .counts (done k) refl);
+                ∙ runs-round (bytesCounted (done k) r) (from .counted k) (base (done k)) (countOf (done k) (s .marks)) _
+                (g .told .counters-are k) (b .counts (done k) refl);
             in-hand-is = ap length (sym (b .hand)) ∙ map-long (handOf (historyAfter comes h q .story));
             hold-is = take-append-seam (handOf s) (drop (length (handOf s)) hold) ∙ sym (b .hand);
+            number-is = number-after;
           };
-          number-is = number-after;
+          number-few = number-few;
           standing = subst Standing (sym (b .hand)) standing-after;
         }
 
   -- a packet without payload changes the mark alone
   agrees-bare : (splice : Bool)
-      → Agrees pid size (markedBy splice r) hold (record { last = before .last; mark = markWith before splice }) h
+      → Agrees from pid size (markedBy splice r) hold (record { last = before .last; mark = markWith before splice }) h
   agrees-bare splice = record {
     pid-is = g .pid-is;
     size-is = g .size-is;
     before-is = λ i. record { last = g .before-is i .last; mark = markWith (g .before-is i) splice };
     last-is = g .last-is;
     stand-is = stand-marked splice r hold ∙ g .stand-is;
-    counted = record {
+    told = record {
       counters-are = λ k.
           counts-with (r .pid) (r .last) (markWith (beforeOf r) splice) (r .rejection) (r .in_hand)
           (λ j. bytesCounted (done j) r) k
-          ∙ g .counted .counters-are k;
-      in-hand-is = g .counted .in-hand-is;
-      hold-is = g .counted .hold-is;
+          ∙ g .told .counters-are k;
+      in-hand-is = g .told .in-hand-is;
+      hold-is = g .told .hold-is;
+      number-is = g .told .number-is;
     };
-    number-is = g .number-is;
+    number-few = g .number-few;
     standing = g .standing;
   }
 
 -- ---- one call
 
 -- what a call comes to, as it is ruled on
-record Went (pid size : ℕ) (before : Before) (h : History) (z : Ruling) (o : Outcome) : Type 0 where
-  fare : fareOf (o .said) ≡ ruledFare z
-  agrees : Agrees pid size (o .rec) (o .hold) (beforeAfter before z) (historyFrom byJudge h (ruledIn z))
-  sections : map (map valueOf) (deliveredIn (historyFrom byJudge h (ruledIn z) .story))
+pub record Went (from : Tally) (pid size : ℕ) (before : Before) (h : History) (z : Ruling) (o : Outcome) : Type 0 where
+  pub fare : fareOf (o .said) ≡ ruledFare z
+  pub agrees : Agrees from pid size (o .rec) (o .hold) (beforeAfter before z) (historyFrom byJudge h (ruledIn z))
+  pub sections : map (map valueOf) (deliveredIn (historyFrom byJudge h (ruledIn z) .story))
       ≡ map (map valueOf) (deliveredIn (h .story)) ++ handedBy (o .said) (o .out)
-  bytes : flatten (handedBy (o .said) (o .out)) ≡ bytesBy (o .said) (o .out)
-  told : length (flatten (handedBy (o .said) (o .out))) ≡ toldBy (o .said)
+  pub bytes : flatten (handedBy (o .said) (o .out)) ≡ bytesBy (o .said) (o .out)
+  pub told : length (flatten (handedBy (o .said) (o .out))) ≡ toldBy (o .said)
 
-module _ {pid size : ℕ} {r : Record} {hold : List ℕ} {before : Before} {h : History}
-    (g : Agrees pid size r hold before h) (out : List ℕ) where
+module _ {from : Tally} {pid size : ℕ} {r : Record} {hold : List ℕ} {before : Before} {h : History}
+    (g : Agrees from pid size r hold before h) (out : List ℕ) where
   went-taken : (q : Carried ℕ) → (q .counter ≤ 15) × (4096 ≤ size)
-      → Went pid size before h (takes q) (outcomeAfter r hold out (q .counter) (s g byJudge q))
+      → Went from pid size before h (takes q) (outcomeAfter r hold out (q .counter) (s g byJudge q))
   went-taken q x =
-      let secs : List (List ℕ) = deliveredOf (s g byJudge q) in
-      let front : take (length (flatten secs)) (over (flatten secs) out) ≡ flatten secs =
-      take-append-seam (flatten secs) (drop (length (flatten secs)) out) in
-      let given : cut (length secs) (take (length (flatten secs)) (over (flatten secs) out)) ≡ secs =
-      ap (cut (length secs)) front
-      ∙ cut-whole secs (sections-each byJudge plain accepted WholeSection (s g byJudge q .sections)
-      (whole-taken byJudge (h .last) (hand g) q)) in
+      let given = handed-after r hold out (q .counter) (s g byJudge q) (whole-taken byJudge (h .last) (hand g) q) in
       record {
         fare = refl;
         agrees = agrees-taken g byJudge q x;
         sections =
             sections-taken g byJudge q accepted
             ∙ ap (λ (l : List (List ℕ)). map (map valueOf) (deliveredIn (h .story)) ++ l) (sym given);
-        bytes = ap flatten given ∙ sym front;
+        bytes = ap flatten given ∙ sym (bytes-after r hold out (q .counter) (s g byJudge q));
         told = ap (λ (l : List (List ℕ)). length (flatten l)) given;
       }
 
-  went-by : (z : Ruling) → Taking size z → Went pid size before h z (outcomeOf r hold out z)
+  went-by : (z : Ruling) → Taking size z → Went from pid size before h z (outcomeOf r hold out z)
   unfolding flatten
   went-by (Ruled.refuses n) x =
       record { fare = refl; agrees = g; sections = sym (append-nil _); bytes = refl; told = refl }
@@ -311,13 +321,13 @@ module _ {pid size : ℕ} {r : Record} {hold : List ℕ} {before : Before} {h : 
       record { fare = refl; agrees = agrees-bare g splice; sections = sym (append-nil _); bytes = refl; told = refl }
   went-by (takes q) x =
       subst
-      (λ (l : Option ℕ). Went pid size before h (takes q)
+      (λ (l : Option ℕ). Went from pid size before h (takes q)
       (outcomeAfter r hold out (q .counter) (storyAfter byJudge plain l (holding (hand g)) q)))
       (sym (ap (λ (b : Before). b .last) (g .before-is) ∙ g .last-is)) (went-taken q x)
 
   -- the ruling on the packet is the one that the packets alone give
-  went : (packet : List ℕ) (o : Outcome) → Promised r hold out packet o
-      → Went pid size before h (rulingOn pid size before (record { packet = packet; room = length out })) o
+  pub went : (packet : List ℕ) (o : Outcome) → Promised r hold out packet o
+      → Went from pid size before h (rulingOn pid size before (record { packet = packet; room = length out })) o
   went packet o e =
       let z : Ruling = ruling (tooSmall (length hold) (length out)) (cannotStand r hold) (r .pid) (beforeOf r) packet in
       let same : z ≡ rulingOn pid size before (record { packet = packet; room = length out }) =
@@ -325,8 +335,8 @@ module _ {pid size : ℕ} {r : Record} {hold : List ℕ} {before : Before} {h : 
       let taking : Taking size z =
       subst (λ (n : ℕ). Taking n z) (g .size-is)
       (taking-of (cannotStand r hold) (r .pid) (length hold) (length out) (beforeOf r) packet) in
-      subst (λ (y : Ruling). Went pid size before h y o) same
-      (subst (Went pid size before h z) (sym e) (went-by z taking))
+      subst (λ (y : Ruling). Went from pid size before h y o) same
+      (subst (Went from pid size before h z) (sym e) (went-by z taking))
 
 -- ---- a run of calls
 
@@ -335,9 +345,10 @@ history-append : (comes : List ℕ → Kind) (h : History) (a c : List (Carried 
 history-append comes h [] c = refl
 history-append comes h (q ∷ a) c = history-append comes (historyAfter comes h q) a c
 
-pub record Ran (pid size : ℕ) (before : Before) (h : History) (ks : List Call) (r′ : Record) (hold′ : List ℕ) : Type 0 where
+pub record Ran (from : Tally) (pid size : ℕ) (before : Before) (h : History) (ks : List Call) (r′ : Record)
+    (hold′ : List ℕ) : Type 0 where
   pub fares : map (λ k. fareOf (k .said)) ks ≡ faresFrom pid size before (map lentOf ks)
-  pub agrees : Agrees pid size r′ hold′ (beforeFrom pid size before (map lentOf ks))
+  pub agrees : Agrees from pid size r′ hold′ (beforeFrom pid size before (map lentOf ks))
       (historyFrom byJudge h (ruledTaken pid size before (map lentOf ks)))
   pub sections : map (map valueOf)
       (deliveredIn (historyFrom byJudge h (ruledTaken pid size before (map lentOf ks)) .story))
@@ -345,23 +356,24 @@ pub record Ran (pid size : ℕ) (before : Before) (h : History) (ks : List Call)
   pub bytes : Each (λ k. flatten (handedBy (k .said) (k .out′)) ≡ bytesBy (k .said) (k .out′)) ks
   pub told : Each (λ k. length (flatten (handedBy (k .said) (k .out′))) ≡ toldBy (k .said)) ks
 
-pub ran : {pid size : ℕ} {r r′ : Record} {hold hold′ : List ℕ} {ks : List Call} → Run Promised r hold ks r′ hold′
-    → (before : Before) (h : History) → Agrees pid size r hold before h → Ran pid size before h ks r′ hold′
+pub ran : {from : Tally} {pid size : ℕ} {r r′ : Record} {hold hold′ : List ℕ} {ks : List Call}
+    → Run Promised r hold ks r′ hold′ → (before : Before) (h : History) → Agrees from pid size r hold before h
+    → Ran from pid size before h ks r′ hold′
 ran no-call before h g = record { fares = refl; agrees = g; sections = sym (append-nil _); bytes = tt; told = tt }
-ran {pid} {size} {r′ = r′} {hold′ = hold′} (one-call {k = k} {ks = ks} c rest) before h g =
+ran {from} {pid} {size} {r′ = r′} {hold′ = hold′} (one-call {k = k} {ks = ks} c rest) before h g =
     let w = went g (k .out) (k .packet) _ c in
     let z : Ruling = rulingOn pid size before (lentOf k) in
     let h₁ : History = historyFrom byJudge h (ruledIn z) in
     let next : Before = beforeAfter before z in
     let x = ran rest next h₁ (w .agrees) in
-    let from : historyFrom byJudge h₁ (ruledTaken pid size next (map lentOf ks))
+    let same : historyFrom byJudge h₁ (ruledTaken pid size next (map lentOf ks))
     ≡ historyFrom byJudge h (ruledIn z ++ ruledTaken pid size next (map lentOf ks)) =
     sym (history-append byJudge h (ruledIn z) (ruledTaken pid size next (map lentOf ks))) in
     record {
       fares = λ i. w .fare i ∷ x .fares i;
-      agrees = subst (Agrees pid size r′ hold′ (beforeFrom pid size next (map lentOf ks))) from (x .agrees);
+      agrees = subst (Agrees from pid size r′ hold′ (beforeFrom pid size next (map lentOf ks))) same (x .agrees);
       sections =
-          ap (λ (y : History). map (map valueOf) (deliveredIn (y .story))) (sym from)
+          ap (λ (y : History). map (map valueOf) (deliveredIn (y .story))) (sym same)
           ∙ x .sections
           ∙ ap (λ (l : List (List ℕ)). l ++ handed ks) (w .sections)
           ∙ append-assoc (map (map valueOf) (deliveredIn (h .story))) (handedBy (k .said) (k .out′)) (handed ks);

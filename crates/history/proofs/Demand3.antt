@@ -4,6 +4,7 @@ use mathlib.Core.Bool.{Bool, true, false}
 use mathlib.Core.List.{List, [], _∷_, _++_, append-assoc, append-nil, map, map-append, flatten}
 use mathlib.Core.Logic.{_↔_}
 use Prim.Native.Nat.{ℕ, _+_, _%_, _^_, _≤_}
+use native.Mathlib.Nat.{zero-add}
 use native.Mathlib.Omega.{arith}
 use lib.ListN.{length, drop}
 use lib.Dec.{ltb}
@@ -27,6 +28,7 @@ use Rattle.history.specs.History.{Byte, valueOf, numbered, History, unbe
 use Rattle.history.specs.Run.{Promised, Call, Run, Fare, taken, fareOf, saidTaken, splicesFrom, lentOf, rulingOn, beforeAfter, faresFrom, NotRefused, NotRepeated}
 use Rattle.history.specs.Demand1.{First}
 use Rattle.history.specs.Demand3.{TakenCallByCall, RefusedIf, takenByRule, storyBy, Counted, deliveredIn, MadeUnbroken, RefusedExactlyIf, TakenExactlyIf, ByPacketsAlone, NeverUnfit, OneFateEach, CountersAreFates, CountersMakeUp, DeliveredInOrder, NoSectionSpans, RejectedSpanNothing, KeptNumber}
+use Rattle.history.specs.Healing.{noTally}
 use Rattle.history.proofs.Agrees.{Ran, ran, agrees-fresh}
 use Rattle.history.proofs.FaresByTable.{Never, never-first, fares-cut, taken-alike}
 use Rattle.history.proofs.FaresByTable as fares
@@ -37,7 +39,7 @@ use Rattle.history.proofs.Marks.{splices-marked}
 -- ---- the fates themselves
 
 module _ (comes : List ℕ → Kind) where
-  kept-from : (h : History) (l : List Byte) (qs : List (Carried ℕ)) → Kept comes valueOf l (h .story)
+  pub kept-from : (h : History) (l : List Byte) (qs : List (Carried ℕ)) → Kept comes valueOf l (h .story)
       → Kept comes valueOf (l ++ payloadsFrom (h .packets) qs) (historyFrom comes h qs .story)
   kept-from h l [] x = subst (λ (z : List Byte). Kept comes valueOf z (h .story)) (sym (append-nil l)) x
   kept-from h l (q ∷ qs) x =
@@ -55,11 +57,17 @@ module _ (comes : List ℕ → Kind) where
 
 module _ (pid : ℕ) (hold : List ℕ) (calls : List Call) (r : Record) (hold′ : List ℕ)
     (x : Run Promised (freshRecord pid) hold calls r hold′) where
-  whole-run : Ran pid (length hold) noneBefore unbegun calls r hold′
+  whole-run : Ran noTally pid (length hold) noneBefore unbegun calls r hold′
   whole-run = ran x noneBefore unbegun (agrees-fresh pid hold)
 
   counted : Counted r hold′ (storyBy pid hold calls)
-  counted = whole-run .agrees .counted
+  counted =
+      let t = whole-run .agrees .told in
+      record {
+        counters-are = λ k. t .counters-are k ∙ ap (λ (n : ℕ). n % 2 ^ 32) (zero-add _);
+        in-hand-is = t .in-hand-is;
+        hold-is = t .hold-is;
+      }
 
   abbrev count : Story Byte → ℕ
   count s = sumOf (λ f. countOf f (s .marks))
@@ -88,7 +96,7 @@ delivered-in-order pid hold calls r hold′ x =
     }
 
 pub kept-number : KeptNumber Promised
-kept-number pid hold calls r hold′ x = whole-run pid hold calls r hold′ x .agrees .number-is
+kept-number pid hold calls r hold′ x = whole-run pid hold calls r hold′ x .agrees .told .number-is
 
 -- what is equal modulo 2^32 has equal sums modulo 2^32
 add-round : (a b n m : ℕ) → a % 2 ^ 32 ≡ n % 2 ^ 32 → b % 2 ^ 32 ≡ m % 2 ^ 32 → (a + b) % 2 ^ 32 ≡ (n + m) % 2 ^ 32

@@ -62,11 +62,11 @@ fares-by pid size before (k ∷ ks) a b =
 
 -- ---- what the statements say of a run, by the packets and the out rooms' sizes
 
-abbrev lastIn : Option ℕ → Last
+abbrev pub lastIn : Option ℕ → Last
 lastIn none = None
 lastIn (some c) = Counter c
 
-last-in : (l : Last) → lastIn (lastOf l) ≡ l
+pub last-in : (l : Last) → lastIn (lastOf l) ≡ l
 last-in None = refl
 last-in (Counter c) = refl
 
@@ -149,7 +149,7 @@ run-snoc : {C : Collector} {r r₁ r₂ : Record} {hold hold₁ hold₂ : List �
 run-snoc no-call c = one-call c no-call
 run-snoc (one-call d x) c = one-call d (run-snoc x c)
 
-cancel : {A : Type 0} (a x y : List A) → a ++ x ≡ a ++ y → x ≡ y
+pub cancel : {A : Type 0} (a x y : List A) → a ++ x ≡ a ++ y → x ≡ y
 cancel a x y e = sym (drop-append-seam a x) ∙ ap (drop (length a)) e ∙ drop-append-seam a y
 
 handed-snoc : (ks : List Call) (k : Call) → handed (ks ++ (k ∷ [])) ≡ handed ks ++ handedBy (k .said) (k .out′)
@@ -167,7 +167,7 @@ cut-long zero bs = refl
 cut-long (suc n) bs = ap suc (cut-long n (drop (totalOf bs) bs))
 
 -- an answer is fixed by how the packet fares, by the number of sections handed out and by the bytes that it tells
-same-told : (a b : Reply) (out out₂ : List ℕ) → fareOf a ≡ fareOf b → length (handedBy a out) ≡ length (handedBy b out₂)
+pub same-told : (a b : Reply) (out out₂ : List ℕ) → fareOf a ≡ fareOf b → length (handedBy a out) ≡ length (handedBy b out₂)
     → toldBy a ≡ toldBy b → a ≡ b
 same-told (refusedWith n) b out out₂ f s t = sym (said-refused n b .1 (sym f))
 same-told repeated (refusedWith n) out out₂ f s t = let z : _≡_ {A = ℕ} 1 0 = ap fareNumber f in absurd (omega arith)

@@ -133,7 +133,7 @@ module _ (comes : List ℕ → Kind) where
       in-stands (m .mode) (m .story)
       (in-stretch comes (outside filling) (λ z e. e) n bs (in-resumed s (handOf s) refl x))
 
-  stands-sections : (s : Story ℕ) (bs : List ℕ) → handOf s ≡ [] → Standing (handOf (sectionsIn comes plain s bs))
+  pub stands-sections : (s : Story ℕ) (bs : List ℕ) → handOf s ≡ [] → Standing (handOf (sectionsIn comes plain s bs))
   stands-sections s bs x =
       let n : Next ℕ = record { mode = begin; story = s } in
       let m : Next ℕ = stretch comes plain begin n bs in

@@ -18,4 +18,5 @@ pub mod FullSections
 pub mod OutRoom
 pub mod Judging
 pub mod Splits
+pub mod Healing
 pub mod Tied

@@ -104,13 +104,13 @@ module _ (comes : List ℕ → Kind) where
   one-stretch n (b ∷ bs) x =
       one-stretch (byteIn comes plain (outside filling) (n .mode) b (n .story)) bs (one-byte (n .mode) b (n .story) x)
 
-  one-goes : (s : Story ℕ) (bs : List ℕ) → s .sections ≡ [] → length (goesOn comes plain s bs .sections) ≤ 1
+  pub one-goes : (s : Story ℕ) (bs : List ℕ) → s .sections ≡ [] → length (goesOn comes plain s bs .sections) ≤ 1
   one-goes s bs x =
       let n : Next ℕ = record { mode = resumed (handOf s); story = s } in
       let m : Next ℕ = stretch comes plain (outside filling) n bs in
       one-most (m .mode) (m .story) (one-stretch n bs (one-resumed (handOf s) s x))
 
-none-yet : (t : Bool) (h : List ℕ) → joined t (holding h) .sections ≡ []
+pub none-yet : (t : Bool) (h : List ℕ) → joined t (holding h) .sections ≡ []
 none-yet true h = refl
 none-yet false h = refl
 

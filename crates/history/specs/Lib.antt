@@ -9,6 +9,7 @@ pub mod Fixed
 pub mod OutRoom
 pub mod Judging
 pub mod Splits
+pub mod Healing
 pub mod WrongCollectors
 pub mod AtWork
 pub mod OtherEnds

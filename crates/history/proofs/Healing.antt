@@ -1,0 +1,464 @@
+-- Request (xii): a packet with payload and the start flag that is taken leaves a record and a hold that tell what came
+-- from beyond its target, behind counters and a number that stood before it. From there on a run goes as from a fresh
+-- record.
+use mathlib.Core.Path.{_≡_, refl, sym, ap, _∙_, subst}
+use mathlib.Core.Bool.{Bool, true, false, _||_}
+use mathlib.Core.Logic.{⊎-elim}
+use mathlib.Core.List.{List, [], _∷_, _++_, append-nil, map, map-id, flatten}
+use Prim.Native.Nat.{ℕ, suc, _+_, _%_, _^_, _≤_, _<_}
+use native.Mathlib.Nat.{add-zero}
+use native.Mathlib.Omega.{arith}
+use lib.ListN.{length, take, drop, getD, length-append, length-drop}
+use lib.Seq.{take-append-seam, drop-cons, drop-drop}
+use lib.Dec.{ltb, eqb}
+use borrow.Author.Tests.{ltb-false, eqb-true, not-false, le-ltb, ne-eqb}
+use Rattle.wire.specs.If.{if_then_else_}
+use Rattle.wire.specs.Each.{Each}
+use Rattle.wire.specs.Sections.{WholeSection}
+use Rattle.wire.proofs.EachLaws.{each-of}
+use Rattle.copy.specs.Laid.{over}
+use Rattle.packet.specs.Header.{startFlag, pidOf, control, counterOf, discontinuity, payloadFrom, pointerOf}
+use Rattle.packet.specs.Refusals.{refusals, has-payload, judgedBy, judged}
+use Rattle.packet.specs.Refusals as Refusals
+use Rattle.packet.specs.Ruling.{Before, markWith, joins, repeats, Carried, Ruling, repeated, takes, ruledBy, ruling}
+use Rattle.packet.specs.Ruling as Ruled
+use Rattle.packet.proofs.Table.{Passed, all-passed}
+use Rattle.collector.specs.Rules.{Kind, pointer, accepted, rejected, broken, done, Fate, in-hand, sameFate, Story, countOf, handOf, given, brokenOff, holding, plain, joined, payload, sectionsOf, goesOn, sectionsIn, storyAfter}
+use Rattle.collector.specs.Judged.{byJudge, deliveredOf, rejectedOf, lastNumber}
+use Rattle.collector.specs.Refusals.{beforeOf, cannotStand, tooSmall}
+use Rattle.collector.specs.Answer.{Outcome}
+use Rattle.collector.specs.Answer as Answer
+use Rattle.collector.specs.Collected.{bytesCounted, recordAfter, outcomeAfter, outcomeOf}
+use Rattle.collector.specs.declared.Record.{Record}
+use Rattle.collector.specs.declared.Last.{Last}
+use Rattle.collector.specs.declared.Last.the-variants.{Counter}
+use Rattle.collector.proofs.Counters.{counts-with}
+use Rattle.collector.proofs.MarkLaws.{settled-hand}
+use Rattle.collector.proofs.Invariants.{keep-sections}
+use Rattle.collector.proofs.Simulation.{Beside, beside-sections}
+use Rattle.collector.proofs.StoryLaws.{Any, Kept, keeps-kept, kept-holding, sections-more, sections-values}
+use Rattle.collector.proofs.Parted.{last-more, last-limit}
+use Rattle.collector.proofs.Fits.{fit-of, few-number}
+use Rattle.history.specs.History.{Byte, valueOf, numbered, History, historyFrom, payloadsFrom}
+use Rattle.history.specs.Run.{Promised, Call, Run, no-call, one-call, Fare, fareOf, ruledFare, Lent, lentOf, rulingOn, beforeAfter, ruledIn, faresFrom, ruledTaken, beforeFrom, handedBy, bytesBy, toldBy}
+use Rattle.history.specs.Run as R
+use Rattle.history.specs.Demand3.{deliveredIn, rejectedIn}
+use Rattle.history.specs.Healing.{Starts, beyondTarget, fromTarget, behind, Following, followingOf, lentBy, takenBehind, beforeBehind, since, deliveredSince, rejectedSince, OnceSince, untilTarget, Tally, atTarget, ToldFrom, Took, IsTaken, followed, target, Now, FromTarget, ByPacketsSince, SameNow, SameFromThenOn, SameState, GrownAlike, SameNumber, Heals}
+use Rattle.history.proofs.LeftInHand.{Standing, few-standing, stands-sections, stands-after}
+use Rattle.history.proofs.Agrees.{whole-taken, bytes-after, handed-after, Agrees, values-of, map-long, Went, went, Ran, ran}
+use Rattle.history.proofs.FaresByTable.{fareNumber, here}
+use Rattle.history.proofs.FaresByTable as fares
+use Rattle.history.proofs.Demand3.{kept-from}
+use Rattle.history.proofs.OutRoom.{one-goes, none-yet}
+use Rattle.history.proofs.Fixed.{lastIn, last-in, cancel, same-told}
+
+-- ---- beyond the target, behind what came before it
+
+-- a story behind another, whose bytes in hand are broken off
+record Behind (before now : Story ℕ) (s : Story Byte) : Type 0 where
+  hand : handOf now ≡ map valueOf (handOf s)
+  sections : now .sections ≡ before .sections ++ map (map valueOf) (s .sections)
+  counts : (k : Kind) → countOf (done k) (now .marks) ≡ countOf (done k) (before .marks) + countOf (done k) (s .marks)
+
+plain-all : (secs : List (List ℕ)) → map (map plain) secs ≡ secs
+plain-all [] = refl
+plain-all (s ∷ secs) = λ i. map-id s i ∷ plain-all secs i
+
+module _ (before : Story ℕ) (none : handOf before ≡ []) (bytes : List ℕ) where
+  -- the bytes by themselves
+  abbrev alone : Story ℕ
+  alone = sectionsIn byJudge plain (holding []) bytes
+
+  abbrev base : Fate → ℕ
+  base f = countOf f (before .marks)
+
+  abbrev secs : List (List ℕ)
+  secs = map (map plain) (before .sections)
+
+  beside-before : Beside plain base secs alone (sectionsIn byJudge plain before bytes)
+  beside-before =
+      subst (λ (l : List ℕ). Beside plain base secs (sectionsIn byJudge plain (holding []) l) (sectionsIn byJudge plain before bytes))
+      (map-id bytes)
+      (beside-sections byJudge plain base secs (holding []) before bytes (record {
+        hand = ap (map plain) none;
+        sections = sym (append-nil secs);
+        counts = λ f e. sym (add-zero (base f));
+      }))
+
+  beside-numbered : Beside valueOf (λ f. 0) [] alone (sectionsIn byJudge valueOf (holding []) (numbered 0 bytes))
+  beside-numbered =
+      subst
+      (λ (l : List ℕ). Beside valueOf (λ f. 0) [] (sectionsIn byJudge plain (holding []) l)
+      (sectionsIn byJudge valueOf (holding []) (numbered 0 bytes)))
+      (values-of 0 bytes)
+      (beside-sections byJudge valueOf (λ f. 0) [] (holding []) (holding []) (numbered 0 bytes)
+      (record { hand = refl; sections = refl; counts = λ f e. refl }))
+
+  stands-behind : Behind before (sectionsIn byJudge plain before bytes) (sectionsIn byJudge valueOf (holding []) (numbered 0 bytes))
+  stands-behind =
+      let x = beside-before in
+      let y = beside-numbered in
+      record {
+        hand = sym (map-id _) ∙ x .hand ∙ sym (y .hand);
+        sections =
+            sym (plain-all _) ∙ x .sections
+            ∙ (λ i. plain-all (before .sections) i ++ sym (y .sections) i);
+        counts = λ k. omega (arith, x .counts (done k) refl, y .counts (done k) refl);
+      }
+
+-- the sections of a kind
+parted-behind : {before now : Story ℕ} {s : Story Byte} → Behind before now s → (k : Kind)
+    → sectionsOf byJudge plain k (now .sections)
+    ≡ sectionsOf byJudge plain k (before .sections) ++ map (map valueOf) (sectionsOf byJudge valueOf k (s .sections))
+parted-behind {before} {s = s} x k =
+    ap (sectionsOf byJudge plain k) (x .sections)
+    ∙ sections-more byJudge plain k (before .sections) (map (map valueOf) (s .sections))
+    ∙ ap (λ (l : List (List ℕ)). sectionsOf byJudge plain k (before .sections) ++ l)
+    (sym (sections-values byJudge valueOf k (s .sections)))
+
+-- ---- the packet that is taken
+
+-- what is known of it, and of the record and the hold that took it
+record TakenHere (r : Record) (hold out packet : List ℕ) : Type 0 where
+  pid-is : pidOf packet ≡ r .pid
+  hold-big : 4096 ≤ length hold
+  number-few : r .rejection ≤ 10
+  ruled : ruling (tooSmall (length hold) (length out)) (cannotStand r hold) (r .pid) (beforeOf r) packet
+      ≡ takes (here (beforeOf r) packet)
+  within : payloadFrom packet < length packet
+
+said-fare : (r : Record) (hold out : List ℕ) (z : Ruling) → fareOf (outcomeOf r hold out z .said) ≡ ruledFare z
+said-fare r hold out (Ruled.refuses n) = refl
+said-fare r hold out repeated = refl
+said-fare r hold out (Ruled.bare splice) = refl
+said-fare r hold out (takes q) = refl
+
+not-bare : {packet : List ℕ} → Starts packet → control packet ≡ 2 → ⊥
+not-bare x e = ⊎-elim (λ w. omega arith) (λ w. omega arith) (x .payload)
+
+with-payload : (small unfit : Bool) (pid : ℕ) (p : List ℕ) → Each Passed (refusals small unfit pid p)
+    → (control p ≡ 2 → ⊥)
+    → judged small unfit pid p ≡ has-payload (payloadFrom p) (startFlag p) (counterOf p) (discontinuity p)
+unfolding judged
+with-payload small unfit pid p x n =
+    ap (λ o. judgedBy o p) (all-passed (refusals small unfit pid p) x)
+    ∙ ap (λ (t : Bool). if t then Refusals.bare (discontinuity p)
+    else has-payload (payloadFrom p) (startFlag p) (counterOf p) (discontinuity p)) (ne-eqb (control p) 2 n)
+
+new-takes : (q : Carried ℕ) (t : Bool) → ruledFare (if t then repeated else takes q) ≡ R.taken
+    → (if t then repeated else takes q) ≡ takes q
+new-takes q true e = let z : _≡_ {A = ℕ} 1 2 = ap fareNumber e in absurd (omega arith)
+new-takes q false e = refl
+
+taken-here : (r : Record) (hold out packet : List ℕ) (o : Outcome) → Promised r hold out packet o → Starts packet
+    → fareOf (o .said) ≡ R.taken → TakenHere r hold out packet
+taken-here r hold out packet o is starts e =
+    let small : Bool = tooSmall (length hold) (length out) in
+    let unfit : Bool = cannotStand r hold in
+    let before : Before = beforeOf r in
+    let z : Ruling = ruling small unfit (r .pid) before packet in
+    let fare : ruledFare z ≡ R.taken = sym (said-fare r hold out z) ∙ ap (λ (y : Outcome). fareOf (y .said)) (sym is) ∙ e in
+    let passed = fares.taken-exactly-if small unfit (r .pid) before packet .0 fare .0 in
+    let has = with-payload small unfit (r .pid) packet passed (not-bare starts) in
+    let fit = fit-of r hold out packet (payloadFrom packet) (startFlag packet) (counterOf packet) (discontinuity packet) has in
+    let same : z ≡ ruledBy before packet (has-payload (payloadFrom packet) (startFlag packet) (counterOf packet) (discontinuity packet)) =
+    ap (ruledBy before packet) has in
+    record {
+      pid-is = eqb-true _ _ (not-false _ (passed .1 .1 .1 .1 .1 .0));
+      hold-big = fit .hold-big;
+      number-few = few-number r hold (passed .1 .1 .0);
+      ruled =
+          same
+          ∙ new-takes (here before packet) (repeats (before .last) (markWith before (discontinuity packet)) (counterOf packet))
+          (ap ruledFare (sym same) ∙ fare);
+      within = omega (arith, fit .from-within, fit .long);
+    }
+
+module _ (r : Record) (hold packet : List ℕ) where
+  abbrev until : Story ℕ
+  until = untilTarget r hold packet
+
+  -- what the packet adds to what is in hand
+  abbrev story : Story ℕ
+  story = sectionsIn byJudge plain until (beyondTarget packet)
+
+  -- what is in hand, as the packet finds it, and how it goes on up to the target
+  abbrev first : Story ℕ
+  first =
+      joined (joins (beforeOf r .last) (markWith (beforeOf r) (discontinuity packet)) (counterOf packet))
+      (holding (take (r .in_hand) hold))
+
+  abbrev gone : Story ℕ
+  gone =
+      goesOn byJudge plain (given (done pointer) (pointerOf packet) first)
+      (take (pointerOf packet) (drop (payloadFrom packet + 1) packet))
+
+  until-broken : handOf until ≡ []
+  until-broken = settled-hand (done broken) refl (gone .marks)
+
+  story-is : Starts packet → payloadFrom packet < length packet
+      → storyAfter byJudge plain (beforeOf r .last) (holding (take (r .in_hand) hold)) (here (beforeOf r) packet) ≡ story
+  story-is starts within =
+      let one-on : suc (payloadFrom packet) ≡ payloadFrom packet + 1 = omega arith in
+      let bytes : drop (payloadFrom packet) packet ≡ pointerOf packet ∷ drop (payloadFrom packet + 1) packet =
+      drop-cons packet (payloadFrom packet) 0 within ∙ ap (λ (n : ℕ). pointerOf packet ∷ drop n packet) one-on in
+      (λ i. payload byJudge plain (starts .start i) first (bytes i))
+      ∙ ap (sectionsIn byJudge plain until) (drop-drop (pointerOf packet) (payloadFrom packet + 1) packet)
+
+  behind-until : Behind until story (since packet [])
+  behind-until = stands-behind until until-broken (beyondTarget packet)
+
+  one-until : length (until .sections) ≤ 1
+  one-until =
+      one-goes byJudge (given (done pointer) (pointerOf packet) first)
+      (take (pointerOf packet) (drop (payloadFrom packet + 1) packet))
+      (none-yet (joins (beforeOf r .last) (markWith (beforeOf r) (discontinuity packet)) (counterOf packet))
+      (take (r .in_hand) hold))
+
+  -- what it leaves agrees with the history that begins at the target
+  agrees-behind : pidOf packet ≡ r .pid → 4096 ≤ length hold → r .rejection ≤ 10
+      → Agrees (atTarget r hold packet) (pidOf packet) (length hold) (recordAfter r (counterOf packet) story)
+      (over (handOf story) hold) (behind packet) (fromTarget packet)
+  agrees-behind pid big few =
+      let x = behind-until in
+      let stands : Standing (handOf story) = stands-sections byJudge until (beyondTarget packet) until-broken in
+      let number : lastNumber (r .rejection) (rejectedOf story) ≤ 10 = last-limit (r .rejection) (rejectedOf story) few in
+      record {
+        pid-is = sym pid;
+        size-is =
+            omega (
+              arith,
+              length-append (handOf story) (drop (length (handOf story)) hold),
+              length-drop (length (handOf story)) hold,
+              few-standing (handOf story) stands,
+              big,
+            );
+        before-is = refl;
+        last-is = refl;
+        stand-is =
+            stands-after (recordAfter r (counterOf packet) story) (counterOf packet) refl (omega arith) (handOf story) stands
+            refl number (drop (length (handOf story)) hold)
+            ∙ ap (ltb 8191) (sym pid);
+        told = record {
+          counters-are = λ k.
+              counts-with (r .pid) (Counter (counterOf packet)) false (lastNumber (r .rejection) (rejectedOf story))
+              (length (handOf story)) (λ j. (bytesCounted (done j) r + countOf (done j) (story .marks)) % 2 ^ 32) k
+              ∙ ap (λ (n : ℕ). n % 2 ^ 32) (omega (arith, x .counts k));
+          in-hand-is = ap length (x .hand) ∙ map-long (handOf (since packet []));
+          hold-is = take-append-seam (handOf story) (drop (length (handOf story)) hold) ∙ x .hand;
+          number-is =
+              ap (lastNumber (r .rejection)) (parted-behind x rejected)
+              ∙ last-more (r .rejection) (rejectedOf until) (rejectedSince packet []);
+        };
+        number-few = number;
+        standing = subst Standing (x .hand) stands;
+      }
+
+-- ---- packets that follow alike fare alike, whatever the rooms' sizes
+
+small-alike : (size room : ℕ) → 4096 ≤ size → tooSmall size room ≡ tooSmall 4096 (if ltb room 4280 then 0 else 4280)
+small-alike size room big = ap (λ (t : Bool). t || ltb room 4280) (le-ltb size 4096 big) ∙ by (ltb room 4280)
+  where
+    by : (t : Bool) → t ≡ tooSmall 4096 (if t then 0 else 4280)
+    by true = refl
+    by false = refl
+
+ruled-alike : (pid size : ℕ) (before : Before) (k : Call) → 4096 ≤ size
+    → rulingOn pid size before (lentOf k) ≡ rulingOn pid 4096 before (lentBy (followingOf k))
+ruled-alike pid size before k big =
+    ap (λ (t : Bool). ruling t (ltb 8191 pid) pid before (k .packet)) (small-alike size (length (k .out)) big)
+
+record Faring (pid size : ℕ) (before : Before) (ks : List Call) : Type 0 where
+  fares-are : faresFrom pid size before (map lentOf ks) ≡ faresFrom pid 4096 before (map lentBy (map followingOf ks))
+  taken-are : ruledTaken pid size before (map lentOf ks) ≡ ruledTaken pid 4096 before (map lentBy (map followingOf ks))
+  before-is : beforeFrom pid size before (map lentOf ks) ≡ beforeFrom pid 4096 before (map lentBy (map followingOf ks))
+
+faring : (pid size : ℕ) (before : Before) (ks : List Call) → 4096 ≤ size → Faring pid size before ks
+faring pid size before [] big = record { fares-are = refl; taken-are = refl; before-is = refl }
+faring pid size before (k ∷ ks) big =
+    let z : Ruling = rulingOn pid size before (lentOf k) in
+    let same : z ≡ rulingOn pid 4096 before (lentBy (followingOf k)) = ruled-alike pid size before k big in
+    let x = faring pid size (beforeAfter before z) ks big in
+    let xs : List Lent = map lentBy (map followingOf ks) in
+    record {
+      fares-are =
+          ap (λ (l : List Fare). ruledFare z ∷ l) (x .fares-are)
+          ∙ ap (λ (y : Ruling). ruledFare y ∷ faresFrom pid 4096 (beforeAfter before y) xs) same;
+      taken-are =
+          ap (λ (l : List (Carried ℕ)). ruledIn z ++ l) (x .taken-are)
+          ∙ ap (λ (y : Ruling). ruledIn y ++ ruledTaken pid 4096 (beforeAfter before y) xs) same;
+      before-is = x .before-is ∙ ap (λ (y : Ruling). beforeFrom pid 4096 (beforeAfter before y) xs) same;
+    }
+
+-- ---- one history
+
+module _ {packet : List ℕ} (starts : Starts packet) (t : Took Promised IsTaken packet) where
+  here-taken : TakenHere (t .at) (t .at-hold) (t .out) packet
+  here-taken = taken-here (t .at) (t .at-hold) (t .out) packet (t .outcome) (t .call) starts (t .fared)
+
+  abbrev after : Story ℕ
+  after = story (t .at) (t .at-hold) packet
+
+  abbrev came-of-it : Outcome
+  came-of-it = outcomeAfter (t .at) (t .at-hold) (t .out) (counterOf packet) after
+
+  outcome-is : t .outcome ≡ came-of-it
+  outcome-is =
+      t .call
+      ∙ ap (outcomeOf (t .at) (t .at-hold) (t .out)) (here-taken .ruled)
+      ∙ ap (outcomeAfter (t .at) (t .at-hold) (t .out) (counterOf packet))
+      (story-is (t .at) (t .at-hold) packet starts (here-taken .within))
+
+  on : Run Promised (came-of-it .rec) (came-of-it .hold) (t .later) (t .left) (t .left-hold)
+  on = subst (λ (o : Outcome). Run Promised (o .rec) (o .hold) (t .later) (t .left) (t .left-hold)) outcome-is (t .went-on)
+
+  agrees-now : Agrees (target t) (pidOf packet) (length (t .at-hold)) (came-of-it .rec) (came-of-it .hold) (behind packet)
+      (fromTarget packet)
+  agrees-now =
+      agrees-behind (t .at) (t .at-hold) packet (here-taken .pid-is) (here-taken .hold-big) (here-taken .number-few)
+
+  ran-on : Ran (target t) (pidOf packet) (length (t .at-hold)) (behind packet) (fromTarget packet) (t .later) (t .left)
+      (t .left-hold)
+  ran-on = ran on (behind packet) (fromTarget packet) agrees-now
+
+  after-whole : Each WholeSection (after .sections)
+  after-whole =
+      subst (λ (s : Story ℕ). Each WholeSection (s .sections))
+      (story-is (t .at) (t .at-hold) packet starts (here-taken .within))
+      (whole-taken byJudge (beforeOf (t .at) .last) (take (t .at .in_hand) (t .at-hold)) (here (beforeOf (t .at)) packet))
+
+  hands-now : Now t
+  hands-now =
+      let given : handedBy (t .outcome .said) (t .outcome .out) ≡ deliveredOf after =
+      ap (λ (o : Outcome). handedBy (o .said) (o .out)) outcome-is
+      ∙ handed-after (t .at) (t .at-hold) (t .out) (counterOf packet) after after-whole in
+      record {
+        sections-are = given ∙ parted-behind (behind-until (t .at) (t .at-hold) packet) accepted;
+        one-before = one-until (t .at) (t .at-hold) packet;
+        told-is =
+            ap (λ (o : Outcome). o .said) outcome-is
+            ∙ ap (λ (l : List (List ℕ)). Answer.taken (length l) (length (flatten l))) (sym given);
+        bytes-are =
+            ap (λ (o : Outcome). bytesBy (o .said) (o .out)) outcome-is
+            ∙ bytes-after (t .at) (t .at-hold) (t .out) (counterOf packet) after
+            ∙ ap flatten (sym given);
+      }
+
+  from-target : FromTarget t
+  from-target =
+      let x = ran-on in
+      let w = faring (pidOf packet) (length (t .at-hold)) (behind packet) (t .later) (here-taken .hold-big) in
+      record {
+        now = hands-now;
+        fares-are = x .fares ∙ w .fares-are;
+        sections-are =
+            ap (λ (qs : List (Carried ℕ)). map (map valueOf) (deliveredIn (historyFrom byJudge (fromTarget packet) qs .story)))
+            (sym (w .taken-are))
+            ∙ x .sections;
+        bytes-are = x .bytes;
+        told-are = x .told;
+        pid-is = x .agrees .pid-is;
+        before-is = x .agrees .before-is ∙ w .before-is;
+        told-from =
+            subst
+            (λ (qs : List (Carried ℕ)). ToldFrom (target t) (t .left) (t .left-hold)
+            (historyFrom byJudge (fromTarget packet) qs .story))
+            (w .taken-are) (x .agrees .told);
+      }
+
+pub by-packets-since : ByPacketsSince Promised
+by-packets-since packet starts t = from-target starts t
+
+-- ---- two histories
+
+record SameCalls (ks js : List Call) : Type 0 where
+  said : map (λ k. k .said) ks ≡ map (λ k. k .said) js
+  handed : map (λ k. handedBy (k .said) (k .out′)) ks ≡ map (λ k. handedBy (k .said) (k .out′)) js
+  bytes : map (λ k. bytesBy (k .said) (k .out′)) ks ≡ map (λ k. bytesBy (k .said) (k .out′)) js
+
+-- two records that agree with one history, whatever they told before it, answer alike, call by call
+calls-alike : {f₁ f₂ : Tally} {pid size₁ size₂ : ℕ} {r₁ r₂ r₁′ r₂′ : Record} {hold₁ hold₂ hold₁′ hold₂′ : List ℕ}
+    {ks js : List Call} → 4096 ≤ size₁ → 4096 ≤ size₂
+    → Run Promised r₁ hold₁ ks r₁′ hold₁′ → Run Promised r₂ hold₂ js r₂′ hold₂′
+    → (before : Before) (h : History) → Agrees f₁ pid size₁ r₁ hold₁ before h → Agrees f₂ pid size₂ r₂ hold₂ before h
+    → map followingOf ks ≡ map followingOf js → SameCalls ks js
+calls-alike big₁ big₂ no-call no-call before h g₁ g₂ e = record { said = refl; handed = refl; bytes = refl }
+calls-alike big₁ big₂ no-call (one-call d y) before h g₁ g₂ e = let z : _≡_ {A = ℕ} 0 1 = cc in absurd (omega arith)
+calls-alike big₁ big₂ (one-call c x) no-call before h g₁ g₂ e = let z : _≡_ {A = ℕ} 0 1 = cc in absurd (omega arith)
+calls-alike {f₂ = f₂} {pid} {size₁} {size₂} big₁ big₂ (one-call {k = k} {ks = ks} c x)
+    (one-call {r₁ = rec} {hold₁ = hold} {k = j} {ks = js} d y) before h g₁ g₂ e =
+    let same : followingOf k ≡ followingOf j = cc in
+    let rest : map followingOf ks ≡ map followingOf js = cc in
+    let ruled : rulingOn pid size₂ before (lentOf j) ≡ rulingOn pid size₁ before (lentOf k) =
+    ruled-alike pid size₂ before j big₂
+    ∙ ap (λ (z : Following). rulingOn pid 4096 before (lentBy z)) (sym same)
+    ∙ sym (ruled-alike pid size₁ before k big₁) in
+    let o : Outcome = record { rec = rec; hold = hold; out = j .out′; said = j .said } in
+    let v = went g₁ (k .out) (k .packet) _ c in
+    let w = subst (λ (z : Ruling). Went f₂ pid size₂ before h z o) ruled (went g₂ (j .out) (j .packet) o d) in
+    let handed : handedBy (k .said) (k .out′) ≡ handedBy (j .said) (j .out′) =
+    cancel (map (map valueOf) (deliveredIn (h .story))) _ _ (sym (v .sections) ∙ w .sections) in
+    let bytes : bytesBy (k .said) (k .out′) ≡ bytesBy (j .said) (j .out′) =
+    sym (v .bytes) ∙ ap flatten handed ∙ w .bytes in
+    let told : toldBy (k .said) ≡ toldBy (j .said) =
+    sym (v .told) ∙ ap (λ (l : List (List ℕ)). length (flatten l)) handed ∙ w .told in
+    let said : k .said ≡ j .said =
+    same-told (k .said) (j .said) (k .out′) (j .out′) (v .fare ∙ sym (w .fare)) (ap length handed) told in
+    let z = calls-alike big₁ big₂ x y _ _ (v .agrees) (w .agrees) rest in
+    record {
+      said = λ i. said i ∷ z .said i;
+      handed = λ i. handed i ∷ z .handed i;
+      bytes = λ i. bytes i ∷ z .bytes i;
+    }
+
+-- a number that is overwritten is the same, whatever it was
+overwritten : (n m : ℕ) (secs : List (List ℕ)) → (secs ≡ [] → ⊥) → lastNumber n secs ≡ lastNumber m secs
+overwritten n m [] x = absurd (x refl)
+overwritten n m (s ∷ secs) x = refl
+
+pub heals : Heals Promised
+heals = record {
+  now = λ packet starts a b alike. (hands-now starts a, hands-now starts b);
+  from-then-on = λ packet starts a b alike.
+      let x = calls-alike (here-taken starts a .hold-big) (here-taken starts b .hold-big) (on starts a) (on starts b)
+      (behind packet) (fromTarget packet) (agrees-now starts a) (agrees-now starts b) alike in
+      (x .said, x .handed, x .bytes);
+  state = λ packet starts a b alike.
+      let x = from-target starts a in
+      let y = from-target starts b in
+      let same : beforeOf (a .left) ≡ beforeOf (b .left) =
+      x .before-is ∙ ap (beforeBehind packet) alike ∙ sym (y .before-is) in
+      let story : since packet (followed a) ≡ since packet (followed b) = ap (since packet) alike in (
+        sym (last-in (a .left .last)) ∙ ap (λ (z : Before). lastIn (z .last)) same ∙ last-in (b .left .last),
+        ap (λ (z : Before). z .mark) same,
+        x .told-from .in-hand-is
+            ∙ ap (λ (s : Story Byte). countOf in-hand (s .marks)) story
+            ∙ sym (y .told-from .in-hand-is),
+        x .told-from .hold-is ∙ ap (λ (s : Story Byte). map valueOf (handOf s)) story ∙ sym (y .told-from .hold-is),
+      );
+  counters = λ packet starts a b alike k.
+      let x = from-target starts a in
+      let y = from-target starts b in (
+        countOf (done k) (since packet (followed a) .marks),
+        x .told-from .counters-are k,
+        y .told-from .counters-are k
+            ∙ ap (λ l. (target b .counted k + countOf (done k) (since packet l .marks)) % 2 ^ 32) (sym alike),
+      );
+  number = λ packet starts a b alike.
+      let x = from-target starts a .told-from .number-is in
+      let y = from-target starts b .told-from .number-is
+      ∙ ap (λ l. lastNumber (target b .number) (rejectedSince packet l)) (sym alike) in (
+        λ some. x ∙ overwritten (target a .number) (target b .number) (rejectedSince packet (followed a)) some ∙ sym y,
+        λ none. (x ∙ ap (lastNumber (target a .number)) none, y ∙ ap (lastNumber (target b .number)) none),
+      );
+}
+
+-- ---- each byte from beyond the target is in the story once
+
+pub once-since : OnceSince
+once-since packet later =
+    let bytes : List Byte = numbered 0 (beyondTarget packet) in
+    kept-from byJudge (fromTarget packet) bytes (takenBehind packet later)
+    (keep-sections byJudge valueOf Any (Kept byJudge valueOf) (keeps-kept byJudge valueOf) [] (holding []) bytes
+    (each-of Any (λ b. tt) bytes) (kept-holding byJudge valueOf []))
+    .seen

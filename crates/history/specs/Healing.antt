@@ -1,0 +1,232 @@
+-- Request (xii), "What a lost hour can't spoil", as statements about any collector: "take any two histories; if both then take the same packet with
+-- payload and the start flag, everything delivered from beyond its pointer's target is the same, now and for all packets that follow alike, and so
+-- are last counter, mark and bytes in hand. The byte counters, and the last rejected number until the next rejection of a section from beyond that
+-- target, may differ."
+use mathlib.Core.Path.{_≡_}
+use mathlib.Core.Bool.{Bool, true, false}
+use mathlib.Core.Logic.{_⊎_}
+use mathlib.Core.List.{List, [], _++_, map, flatten}
+use mathlib.Core.Option.{some}
+use Prim.Native.Nat.{ℕ, _+_, _%_, _^_, _≤_}
+use lib.ListN.{length, take, drop}
+use lib.Dec.{ltb}
+use Rattle.wire.specs.If.{if_then_else_}
+use Rattle.wire.specs.Each.{Each}
+use Rattle.packet.specs.Header.{startFlag, pidOf, control, counterOf, discontinuity, payloadFrom, pointerOf}
+use Rattle.packet.specs.Ruling.{Before, markWith, joins, Carried}
+use Rattle.collector.specs.Rules.{Kind, pointer, in-hand, done, Story, countOf, handOf, given, holding, brokenOff, plain, joined, goesOn, sectionsIn}
+use Rattle.collector.specs.Judged.{byJudge, deliveredOf, rejectedOf, lastNumber}
+use Rattle.collector.specs.Refusals.{beforeOf}
+use Rattle.collector.specs.Answer.{Outcome}
+use Rattle.collector.specs.Answer as Answer
+use Rattle.collector.specs.Collected.{bytesCounted}
+use Rattle.collector.specs.declared.Record.{Record}
+use Rattle.history.specs.History.{Byte, valueOf, numbered, History, historyFrom, payloadsFrom}
+use Rattle.history.specs.Run.{Collector, Call, Run, Fare, taken, fareOf, Lent, faresFrom, ruledTaken, beforeFrom, handedBy, handed, bytesBy, toldBy}
+use Rattle.history.specs.Demand3.{deliveredIn, rejectedIn}
+
+-- ---- the packet
+
+-- "the same packet with payload and the start flag": adaptation control 01 or 11
+pub record Starts (packet : List ℕ) : Type 0 where
+  pub payload : (control packet ≡ 1) ⊎ (control packet ≡ 3)
+  pub start : startFlag packet ≡ true
+
+-- "beyond its pointer's target": from as many bytes behind the pointer on as it says
+abbrev pub beyondTarget : List ℕ → List ℕ
+beyondTarget packet = drop (payloadFrom packet + 1 + pointerOf packet) packet
+
+-- ---- what comes from beyond the target, by the packets alone
+
+-- a history that begins at the target, with nothing in hand; the packet has the number 0
+abbrev pub fromTarget : List ℕ → History
+fromTarget packet = record {
+  last = some (counterOf packet);
+  packets = 1;
+  story = sectionsIn byJudge valueOf (holding []) (numbered 0 (beyondTarget packet));
+}
+
+-- what counts for the packet behind it
+abbrev pub behind : List ℕ → Before
+behind packet = record { last = some (counterOf packet); mark = false }
+
+-- "packets that follow alike": of each call behind it, the packet, and whether the out room is too small. What the rooms hold may be anything.
+pub record Following : Type 0 where
+  pub packet : List ℕ
+  pub small : Bool
+
+abbrev pub followingOf : Call → Following
+followingOf k = record { packet = k .packet; small = ltb (length (k .out)) 4280 }
+
+-- with an out room that is too small or just suffices
+abbrev pub lentBy : Following → Lent
+lentBy x = record { packet = x .packet; room = if x .small then 0 else 4280 }
+
+-- the PID is the packet's own, and the hold, which took a packet, suffices
+abbrev pub faresBehind : List ℕ → List Following → List Fare
+faresBehind packet later = faresFrom (pidOf packet) 4096 (behind packet) (map lentBy later)
+
+abbrev pub takenBehind : List ℕ → List Following → List (Carried ℕ)
+takenBehind packet later = ruledTaken (pidOf packet) 4096 (behind packet) (map lentBy later)
+
+abbrev pub beforeBehind : List ℕ → List Following → Before
+beforeBehind packet later = beforeFrom (pidOf packet) 4096 (behind packet) (map lentBy later)
+
+-- from the target on, over the packets that follow
+abbrev pub since : List ℕ → List Following → Story Byte
+since packet later = historyFrom byJudge (fromTarget packet) (takenBehind packet later) .story
+
+-- "everything delivered from beyond its pointer's target", and what is rejected
+abbrev pub deliveredSince : List ℕ → List Following → List (List ℕ)
+deliveredSince packet later = map (map valueOf) (deliveredIn (since packet later))
+
+abbrev pub rejectedSince : List ℕ → List Following → List (List ℕ)
+rejectedSince packet later = map (map valueOf) (rejectedIn (since packet later))
+
+-- each byte beyond the target, and each byte of payload taken behind it, is in that story once, with its fate; there is no other
+abbrev pub OnceSince : Type 0
+OnceSince = (packet : List ℕ) (later : List Following)
+    → map (λ m. m .byte) (since packet later .marks)
+    ≡ numbered 0 (beyondTarget packet) ++ payloadsFrom 1 (takenBehind packet later)
+
+-- ---- what comes before it
+
+-- the story of what a record has in hand and of the packet's bytes up to the target, where "a section still unfinished .. is broken off"
+abbrev pub untilTarget : Record → List ℕ → List ℕ → Story ℕ
+untilTarget r hold packet =
+    brokenOff
+    (goesOn byJudge plain
+    (given (done pointer) (pointerOf packet)
+    (joined (joins (beforeOf r .last) (markWith (beforeOf r) (discontinuity packet)) (counterOf packet))
+    (holding (take (r .in_hand) hold))))
+    (take (pointerOf packet) (drop (payloadFrom packet + 1) packet)))
+
+-- the six counters, not yet run round, and the number of the last rejected section
+pub record Tally : Type 0 where
+  pub counted : Kind → ℕ
+  pub number : ℕ
+
+abbrev pub noTally : Tally
+noTally = record { counted = λ k. 0; number = 0 }
+
+-- as they stand at the target
+abbrev pub atTarget : Record → List ℕ → List ℕ → Tally
+atTarget r hold packet = record {
+  counted = λ k. bytesCounted (done k) r + countOf (done k) (untilTarget r hold packet .marks);
+  number = lastNumber (r .rejection) (rejectedOf (untilTarget r hold packet));
+}
+
+-- a record and a hold tell what came since, behind counters and a number that stood before
+pub record ToldFrom (from : Tally) (r : Record) (hold : List ℕ) (s : Story Byte) : Type 0 where
+  pub counters-are : (k : Kind) → bytesCounted (done k) r ≡ (from .counted k + countOf (done k) (s .marks)) % 2 ^ 32
+  pub in-hand-is : r .in_hand ≡ countOf in-hand (s .marks)
+  pub hold-is : take (r .in_hand) hold ≡ map valueOf (handOf s)
+  pub number-is : r .rejection ≡ lastNumber (from .number) (map (map valueOf) (rejectedIn s))
+
+-- ---- a history, from any record and any hold, fresh or made by hand: any calls; then one with the packet, which fares so; then later ones, of
+-- which the last may be any
+
+module _ (C : Collector) (F : Fare → Type 0) where
+  pub record Took (packet : List ℕ) : Type 0 where
+    pub from : Record
+    pub from-hold : List ℕ
+    pub past : List Call
+    pub at : Record
+    pub at-hold : List ℕ
+    pub came : Run C from from-hold past at at-hold
+    pub out : List ℕ
+    pub outcome : Outcome
+    pub call : C at at-hold out packet outcome
+    pub fared : F (fareOf (outcome .said))
+    pub later : List Call
+    pub left : Record
+    pub left-hold : List ℕ
+    pub went-on : Run C (outcome .rec) (outcome .hold) later left left-hold
+
+-- "if both then take"
+abbrev pub IsTaken : Fare → Type 0
+IsTaken f = f ≡ taken
+
+module _ {C : Collector} {F : Fare → Type 0} {packet : List ℕ} (t : Took C F packet) where
+  abbrev pub followed : List Following
+  followed = map followingOf (t .later)
+
+  abbrev pub until : Story ℕ
+  until = untilTarget (t .at) (t .at-hold) packet
+
+  abbrev pub target : Tally
+  target = atTarget (t .at) (t .at-hold) packet
+
+  -- what the call with the packet hands out
+  abbrev pub handedNow : List (List ℕ)
+  handedNow = handedBy (t .outcome .said) (t .outcome .out)
+
+  -- "everything delivered from beyond its pointer's target .., now": behind what ended before the target, at most one section, delivered or
+  -- rejected, are those from beyond it
+  pub record Now : Type 0 where
+    pub sections-are : handedNow ≡ deliveredOf until ++ deliveredSince packet []
+    pub one-before : length (until .sections) ≤ 1
+    pub told-is : t .outcome .said ≡ Answer.taken (length handedNow) (length (flatten handedNow))
+    pub bytes-are : bytesBy (t .outcome .said) (t .outcome .out) ≡ flatten handedNow
+
+  -- all that the history comes to from the target on
+  pub record FromTarget : Type 0 where
+    pub now : Now
+    pub fares-are : map (λ k. fareOf (k .said)) (t .later) ≡ faresBehind packet followed
+    pub sections-are : deliveredSince packet followed ≡ deliveredSince packet [] ++ handed (t .later)
+    pub bytes-are : Each (λ k. flatten (handedBy (k .said) (k .out′)) ≡ bytesBy (k .said) (k .out′)) (t .later)
+    pub told-are : Each (λ k. length (flatten (handedBy (k .said) (k .out′))) ≡ toldBy (k .said)) (t .later)
+    pub pid-is : t .left .pid ≡ pidOf packet
+    pub before-is : beforeOf (t .left) ≡ beforeBehind packet followed
+    pub told-from : ToldFrom target (t .left) (t .left-hold) (since packet followed)
+
+-- ---- the statements: P is what is asked of the packet, and F how it fares
+
+-- of one history: what comes from beyond the target, and all that the record tells but what stood before it, is fixed by the packets alone
+abbrev pub ByPacketsSince : Collector → Type 0
+ByPacketsSince C = (packet : List ℕ) → Starts packet → (t : Took C IsTaken packet) → FromTarget t
+
+module _ (C : Collector) (P : List ℕ → Type 0) (F : Fare → Type 0) where
+  -- of two
+  abbrev pub OverPairs : ((packet : List ℕ) → Took C F packet → Took C F packet → Type 0) → Type 0
+  OverPairs Q = (packet : List ℕ) → P packet → (a b : Took C F packet) → followed a ≡ followed b → Q packet a b
+
+  -- "everything delivered from beyond its pointer's target is the same, now"
+  abbrev pub SameNow : Type 0
+  SameNow = OverPairs (λ packet a b. Now a × Now b)
+
+  -- ".. and for all packets that follow alike": call by call the same answer, with its numbers of sections and bytes, the same sections, and the
+  -- same bytes
+  abbrev pub SameFromThenOn : Type 0
+  SameFromThenOn = OverPairs (λ packet a b.
+      (map (λ k. k .said) (a .later) ≡ map (λ k. k .said) (b .later))
+      × (map (λ k. handedBy (k .said) (k .out′)) (a .later) ≡ map (λ k. handedBy (k .said) (k .out′)) (b .later))
+      × (map (λ k. bytesBy (k .said) (k .out′)) (a .later) ≡ map (λ k. bytesBy (k .said) (k .out′)) (b .later)))
+
+  -- ".. and so are last counter, mark and bytes in hand": their number, and the bytes
+  abbrev pub SameState : Type 0
+  SameState = OverPairs (λ packet a b.
+      (a .left .last ≡ b .left .last) × (a .left .mark ≡ b .left .mark) × (a .left .in_hand ≡ b .left .in_hand)
+      × (take (a .left .in_hand) (a .left-hold) ≡ take (b .left .in_hand) (b .left-hold)))
+
+  -- "The byte counters .. may differ": each has grown by as many bytes from the target on, modulo 2^32
+  abbrev pub GrownAlike : Type 0
+  GrownAlike = OverPairs (λ packet a b. (k : Kind) → (more : ℕ)
+      × (bytesCounted (done k) (a .left) ≡ (target a .counted k + more) % 2 ^ 32)
+      × (bytesCounted (done k) (b .left) ≡ (target b .counted k + more) % 2 ^ 32))
+
+  -- "and the last rejected number until the next rejection of a section from beyond that target, may differ": it is the same from then on, and
+  -- until then it is what it was at the target
+  abbrev pub SameNumber : Type 0
+  SameNumber = OverPairs (λ packet a b.
+      ((rejectedSince packet (followed a) ≡ [] → ⊥) → a .left .rejection ≡ b .left .rejection)
+      × (rejectedSince packet (followed a) ≡ []
+      → (a .left .rejection ≡ target a .number) × (b .left .rejection ≡ target b .number)))
+
+-- the sentence
+pub record Heals (C : Collector) : Type 0 where
+  pub now : SameNow C Starts IsTaken
+  pub from-then-on : SameFromThenOn C Starts IsTaken
+  pub state : SameState C Starts IsTaken
+  pub counters : GrownAlike C Starts IsTaken
+  pub number : SameNumber C Starts IsTaken
