@@ -43,7 +43,7 @@ use Rattle.history.specs.History.{Byte, valueOf, numbered, History, hist
 use Rattle.history.specs.Run.{Promised, Call, Run, no-call, one-call, Fare, fareOf, ruledFare, Lent, lentOf, rulingOn, beforeAfter, ruledIn, faresFrom, ruledTaken, beforeFrom, handedBy, bytesBy, toldBy}
 use Rattle.history.specs.Run as R
 use Rattle.history.specs.Demand3.{deliveredIn, rejectedIn}
-use Rattle.history.specs.Healing.{Starts, beyondTarget, fromTarget, behind, Following, followingOf, lentBy, takenBehind, beforeBehind, since, deliveredSince, rejectedSince, OnceSince, untilTarget, Tally, atTarget, ToldFrom, Took, IsTaken, followed, target, Now, FromTarget, ByPacketsSince, SameNow, SameFromThenOn, SameState, GrownAlike, SameNumber, Heals}
+use Rattle.history.specs.Healing.{Starts, beyondTarget, fromTarget, behind, Following, followingOf, lentBy, takenBehind, beforeBehind, since, deliveredSince, rejectedSince, OnceSince, untilTarget, Tally, atTarget, ToldFrom, stateOf, statesIn, Took, IsTaken, followed, target, Now, FromTarget, ByPacketsSince, SameNow, SameFromThenOn, SameState, GrownAlike, SameNumber, Heals}
 use Rattle.history.proofs.LeftInHand.{Standing, few-standing, stands-sections, stands-after}
 use Rattle.history.proofs.Agrees.{whole-taken, bytes-after, handed-after, Agrees, values-of, map-long, Went, went, Ran, ran}
 use Rattle.history.proofs.FaresByTable.{fareNumber, here}
@@ -309,17 +309,18 @@ module _ {packet : List ℕ} (starts : Starts packet) (t : Took Promised IsTaken
       ∙ ap (outcomeAfter (t .at) (t .at-hold) (t .out) (counterOf packet))
       (story-is (t .at) (t .at-hold) packet starts (here-taken .within))
 
-  on : Run Promised (came-of-it .rec) (came-of-it .hold) (t .later) (t .left) (t .left-hold)
-  on = subst (λ (o : Outcome). Run Promised (o .rec) (o .hold) (t .later) (t .left) (t .left-hold)) outcome-is (t .went-on)
-
-  agrees-now : Agrees (target t) (pidOf packet) (length (t .at-hold)) (came-of-it .rec) (came-of-it .hold) (behind packet)
+  agrees-now : Agrees (target t) (pidOf packet) (length (t .at-hold)) (t .outcome .rec) (t .outcome .hold) (behind packet)
       (fromTarget packet)
   agrees-now =
-      agrees-behind (t .at) (t .at-hold) packet (here-taken .pid-is) (here-taken .hold-big) (here-taken .number-few)
+      subst
+      (λ (o : Outcome). Agrees (target t) (pidOf packet) (length (t .at-hold)) (o .rec) (o .hold) (behind packet)
+      (fromTarget packet))
+      (sym outcome-is)
+      (agrees-behind (t .at) (t .at-hold) packet (here-taken .pid-is) (here-taken .hold-big) (here-taken .number-few))
 
   ran-on : Ran (target t) (pidOf packet) (length (t .at-hold)) (behind packet) (fromTarget packet) (t .later) (t .left)
       (t .left-hold)
-  ran-on = ran on (behind packet) (fromTarget packet) agrees-now
+  ran-on = ran (t .went-on) (behind packet) (fromTarget packet) agrees-now
 
   after-whole : Each WholeSection (after .sections)
   after-whole =
@@ -371,18 +372,32 @@ by-packets-since packet starts t = from-target starts t
 
 -- ---- two histories
 
-record SameCalls (ks js : List Call) : Type 0 where
+-- records that agree with one history are in the same state
+state-alike : {f₁ f₂ : Tally} {pid₁ pid₂ size₁ size₂ : ℕ} {r₁ r₂ : Record} {hold₁ hold₂ : List ℕ} {before : Before} {h : History}
+    → Agrees f₁ pid₁ size₁ r₁ hold₁ before h → Agrees f₂ pid₂ size₂ r₂ hold₂ before h → stateOf r₁ hold₁ ≡ stateOf r₂ hold₂
+state-alike {r₁ = r₁} {r₂ = r₂} g₁ g₂ =
+    let same : beforeOf r₁ ≡ beforeOf r₂ = g₁ .before-is ∙ sym (g₂ .before-is) in
+    let last : r₁ .last ≡ r₂ .last =
+    sym (last-in (r₁ .last)) ∙ ap (λ (z : Before). lastIn (z .last)) same ∙ last-in (r₂ .last) in
+    let held = g₁ .told .in-hand-is ∙ sym (g₂ .told .in-hand-is) in
+    let bytes = g₁ .told .hold-is ∙ sym (g₂ .told .hold-is) in
+    λ i. record { last = last i; mark = same i .mark; in-hand = held i; bytes = bytes i }
+
+record SameCalls {r₁ r₂ r₁′ r₂′ : Record} {hold₁ hold₂ hold₁′ hold₂′ : List ℕ} {ks js : List Call}
+    (x : Run Promised r₁ hold₁ ks r₁′ hold₁′) (y : Run Promised r₂ hold₂ js r₂′ hold₂′) : Type 0 where
   said : map (λ k. k .said) ks ≡ map (λ k. k .said) js
   handed : map (λ k. handedBy (k .said) (k .out′)) ks ≡ map (λ k. handedBy (k .said) (k .out′)) js
   bytes : map (λ k. bytesBy (k .said) (k .out′)) ks ≡ map (λ k. bytesBy (k .said) (k .out′)) js
+  states : statesIn x ≡ statesIn y
 
 -- two records that agree with one history, whatever they told before it, answer alike, call by call
 calls-alike : {f₁ f₂ : Tally} {pid size₁ size₂ : ℕ} {r₁ r₂ r₁′ r₂′ : Record} {hold₁ hold₂ hold₁′ hold₂′ : List ℕ}
     {ks js : List Call} → 4096 ≤ size₁ → 4096 ≤ size₂
-    → Run Promised r₁ hold₁ ks r₁′ hold₁′ → Run Promised r₂ hold₂ js r₂′ hold₂′
+    → (x : Run Promised r₁ hold₁ ks r₁′ hold₁′) (y : Run Promised r₂ hold₂ js r₂′ hold₂′)
     → (before : Before) (h : History) → Agrees f₁ pid size₁ r₁ hold₁ before h → Agrees f₂ pid size₂ r₂ hold₂ before h
-    → map followingOf ks ≡ map followingOf js → SameCalls ks js
-calls-alike big₁ big₂ no-call no-call before h g₁ g₂ e = record { said = refl; handed = refl; bytes = refl }
+    → map followingOf ks ≡ map followingOf js → SameCalls x y
+calls-alike big₁ big₂ no-call no-call before h g₁ g₂ e =
+    record { said = refl; handed = refl; bytes = refl; states = λ i. state-alike g₁ g₂ i ∷ [] }
 calls-alike big₁ big₂ no-call (one-call d y) before h g₁ g₂ e = let z : _≡_ {A = ℕ} 0 1 = cc in absurd (omega arith)
 calls-alike big₁ big₂ (one-call c x) no-call before h g₁ g₂ e = let z : _≡_ {A = ℕ} 0 1 = cc in absurd (omega arith)
 calls-alike {f₂ = f₂} {pid} {size₁} {size₂} big₁ big₂ (one-call {k = k} {ks = ks} c x)
@@ -409,6 +424,7 @@ calls-alike {f₂ = f₂} {pid} {size₁} {size₂} big₁ big₂ (one-call {k =
       said = λ i. said i ∷ z .said i;
       handed = λ i. handed i ∷ z .handed i;
       bytes = λ i. bytes i ∷ z .bytes i;
+      states = λ i. state-alike g₁ g₂ i ∷ z .states i;
     }
 
 -- a number that is overwritten is the same, whatever it was
@@ -416,26 +432,18 @@ overwritten : (n m : ℕ) (secs : List (List ℕ)) → (secs ≡ [] → ⊥) →
 overwritten n m [] x = absurd (x refl)
 overwritten n m (s ∷ secs) x = refl
 
+module _ {packet : List ℕ} (starts : Starts packet) (a b : Took Promised IsTaken packet) (alike : followed a ≡ followed b) where
+  on-alike : SameCalls (a .went-on) (b .went-on)
+  on-alike =
+      calls-alike (here-taken starts a .hold-big) (here-taken starts b .hold-big) (a .went-on) (b .went-on) (behind packet)
+      (fromTarget packet) (agrees-now starts a) (agrees-now starts b) alike
+
 pub heals : Heals Promised
 heals = record {
   now = λ packet starts a b alike. (hands-now starts a, hands-now starts b);
   from-then-on = λ packet starts a b alike.
-      let x = calls-alike (here-taken starts a .hold-big) (here-taken starts b .hold-big) (on starts a) (on starts b)
-      (behind packet) (fromTarget packet) (agrees-now starts a) (agrees-now starts b) alike in
-      (x .said, x .handed, x .bytes);
-  state = λ packet starts a b alike.
-      let x = from-target starts a in
-      let y = from-target starts b in
-      let same : beforeOf (a .left) ≡ beforeOf (b .left) =
-      x .before-is ∙ ap (beforeBehind packet) alike ∙ sym (y .before-is) in
-      let story : since packet (followed a) ≡ since packet (followed b) = ap (since packet) alike in (
-        sym (last-in (a .left .last)) ∙ ap (λ (z : Before). lastIn (z .last)) same ∙ last-in (b .left .last),
-        ap (λ (z : Before). z .mark) same,
-        x .told-from .in-hand-is
-            ∙ ap (λ (s : Story Byte). countOf in-hand (s .marks)) story
-            ∙ sym (y .told-from .in-hand-is),
-        x .told-from .hold-is ∙ ap (λ (s : Story Byte). map valueOf (handOf s)) story ∙ sym (y .told-from .hold-is),
-      );
+      let x = on-alike starts a b alike in (x .said, x .handed, x .bytes);
+  state = λ packet starts a b alike. on-alike starts a b alike .states;
   counters = λ packet starts a b alike k.
       let x = from-target starts a in
       let y = from-target starts b in (

@@ -5,7 +5,7 @@
 use mathlib.Core.Path.{_≡_}
 use mathlib.Core.Bool.{Bool, true, false}
 use mathlib.Core.Logic.{_⊎_}
-use mathlib.Core.List.{List, [], _++_, map, flatten}
+use mathlib.Core.List.{List, [], _∷_, _++_, map, flatten}
 use mathlib.Core.Option.{some}
 use Prim.Native.Nat.{ℕ, _+_, _%_, _^_, _≤_}
 use lib.ListN.{length, take, drop}
@@ -21,8 +21,9 @@ use Rattle.collector.specs.Answer.{Outcome}
 use Rattle.collector.specs.Answer as Answer
 use Rattle.collector.specs.Collected.{bytesCounted}
 use Rattle.collector.specs.declared.Record.{Record}
+use Rattle.collector.specs.declared.Last.{Last}
 use Rattle.history.specs.History.{Byte, valueOf, numbered, History, historyFrom, payloadsFrom}
-use Rattle.history.specs.Run.{Collector, Call, Run, Fare, taken, fareOf, Lent, faresFrom, ruledTaken, beforeFrom, handedBy, handed, bytesBy, toldBy}
+use Rattle.history.specs.Run.{Collector, Call, Run, no-call, one-call, Fare, taken, fareOf, Lent, faresFrom, ruledTaken, beforeFrom, handedBy, handed, bytesBy, toldBy}
 use Rattle.history.specs.Demand3.{deliveredIn, rejectedIn}
 
 -- ---- the packet
@@ -123,6 +124,22 @@ pub record ToldFrom (from : Tally) (r : Record) (hold : List ℕ) (s : Story Byt
   pub hold-is : take (r .in_hand) hold ≡ map valueOf (handOf s)
   pub number-is : r .rejection ≡ lastNumber (from .number) (map (map valueOf) (rejectedIn s))
 
+-- ---- "last counter, mark and bytes in hand": their number, and the bytes
+
+pub record State : Type 0 where
+  pub last : Last
+  pub mark : Bool
+  pub in-hand : ℕ
+  pub bytes : List ℕ
+
+abbrev pub stateOf : Record → List ℕ → State
+stateOf r hold = record { last = r .last; mark = r .mark; in-hand = r .in_hand; bytes = take (r .in_hand) hold }
+
+-- as a run finds them, and as each of its calls leaves them
+abbrev pub statesIn : {C : Collector} {r r′ : Record} {hold hold′ : List ℕ} {ks : List Call} → Run C r hold ks r′ hold′ → List State
+statesIn {r = r} {hold = hold} no-call = stateOf r hold ∷ []
+statesIn {r = r} {hold = hold} (one-call c rest) = stateOf r hold ∷ statesIn rest
+
 -- ---- a history, from any record and any hold, fresh or made by hand: any calls; then one with the packet, which fares so; then later ones, of
 -- which the last may be any
 
@@ -203,11 +220,9 @@ module _ (C : Collector) (P : List ℕ → Type 0) (F : Fare → Type 0) where
       × (map (λ k. handedBy (k .said) (k .out′)) (a .later) ≡ map (λ k. handedBy (k .said) (k .out′)) (b .later))
       × (map (λ k. bytesBy (k .said) (k .out′)) (a .later) ≡ map (λ k. bytesBy (k .said) (k .out′)) (b .later)))
 
-  -- ".. and so are last counter, mark and bytes in hand": their number, and the bytes
+  -- ".. and so are last counter, mark and bytes in hand": after the packet, and after each that follows, refused and repeated ones among them
   abbrev pub SameState : Type 0
-  SameState = OverPairs (λ packet a b.
-      (a .left .last ≡ b .left .last) × (a .left .mark ≡ b .left .mark) × (a .left .in_hand ≡ b .left .in_hand)
-      × (take (a .left .in_hand) (a .left-hold) ≡ take (b .left .in_hand) (b .left-hold)))
+  SameState = OverPairs (λ packet a b. statesIn (a .went-on) ≡ statesIn (b .went-on))
 
   -- "The byte counters .. may differ": each has grown by as many bytes from the target on, modulo 2^32
   abbrev pub GrownAlike : Type 0
