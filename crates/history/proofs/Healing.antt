@@ -43,7 +43,7 @@ use Rattle.history.specs.History.{Byte, valueOf, numbered, History, hist
 use Rattle.history.specs.Run.{Promised, Call, Run, no-call, one-call, Fare, fareOf, ruledFare, Lent, lentOf, rulingOn, beforeAfter, ruledIn, faresFrom, ruledTaken, beforeFrom, handedBy, bytesBy, toldBy}
 use Rattle.history.specs.Run as R
 use Rattle.history.specs.Demand3.{deliveredIn, rejectedIn}
-use Rattle.history.specs.Healing.{Starts, beyondTarget, fromTarget, behind, Following, followingOf, lentBy, takenBehind, beforeBehind, since, deliveredSince, rejectedSince, OnceSince, untilTarget, Tally, atTarget, ToldFrom, stateOf, statesIn, Took, IsTaken, followed, target, Now, FromTarget, ByPacketsSince, SameNow, SameFromThenOn, SameState, GrownAlike, SameNumber, Heals}
+use Rattle.history.specs.Healing.{Starts, beyondTarget, fromTarget, behind, Following, followingOf, lentBy, takenBehind, beforeBehind, since, deliveredSince, rejectedSince, OnceSince, untilTarget, Tally, atTarget, ToldFrom, stateOf, statesIn, Took, IsTaken, followed, target, Now, FromTarget, SameCalls, Grown, Overwritten, ByPacketsSince, Heals}
 use Rattle.history.proofs.LeftInHand.{Standing, few-standing, stands-sections, stands-after}
 use Rattle.history.proofs.Agrees.{whole-taken, bytes-after, handed-after, Agrees, values-of, map-long, Went, went, Ran, ran}
 use Rattle.history.proofs.FaresByTable.{fareNumber, here}
@@ -383,11 +383,9 @@ state-alike {r₁ = r₁} {r₂ = r₂} g₁ g₂ =
     let bytes = g₁ .told .hold-is ∙ sym (g₂ .told .hold-is) in
     λ i. record { last = last i; mark = same i .mark; in-hand = held i; bytes = bytes i }
 
-record SameCalls {r₁ r₂ r₁′ r₂′ : Record} {hold₁ hold₂ hold₁′ hold₂′ : List ℕ} {ks js : List Call}
+record AlikeOn {r₁ r₂ r₁′ r₂′ : Record} {hold₁ hold₂ hold₁′ hold₂′ : List ℕ} {ks js : List Call}
     (x : Run Promised r₁ hold₁ ks r₁′ hold₁′) (y : Run Promised r₂ hold₂ js r₂′ hold₂′) : Type 0 where
-  said : map (λ k. k .said) ks ≡ map (λ k. k .said) js
-  handed : map (λ k. handedBy (k .said) (k .out′)) ks ≡ map (λ k. handedBy (k .said) (k .out′)) js
-  bytes : map (λ k. bytesBy (k .said) (k .out′)) ks ≡ map (λ k. bytesBy (k .said) (k .out′)) js
+  calls : SameCalls ks js
   states : statesIn x ≡ statesIn y
 
 -- two records that agree with one history, whatever they told before it, answer alike, call by call
@@ -395,9 +393,9 @@ calls-alike : {f₁ f₂ : Tally} {pid size₁ size₂ : ℕ} {r₁ r₂ r₁′
     {ks js : List Call} → 4096 ≤ size₁ → 4096 ≤ size₂
     → (x : Run Promised r₁ hold₁ ks r₁′ hold₁′) (y : Run Promised r₂ hold₂ js r₂′ hold₂′)
     → (before : Before) (h : History) → Agrees f₁ pid size₁ r₁ hold₁ before h → Agrees f₂ pid size₂ r₂ hold₂ before h
-    → map followingOf ks ≡ map followingOf js → SameCalls x y
+    → map followingOf ks ≡ map followingOf js → AlikeOn x y
 calls-alike big₁ big₂ no-call no-call before h g₁ g₂ e =
-    record { said = refl; handed = refl; bytes = refl; states = λ i. state-alike g₁ g₂ i ∷ [] }
+    record { calls = record { said = refl; sections = refl; bytes = refl }; states = λ i. state-alike g₁ g₂ i ∷ [] }
 calls-alike big₁ big₂ no-call (one-call d y) before h g₁ g₂ e = let z : _≡_ {A = ℕ} 0 1 = cc in absurd (omega arith)
 calls-alike big₁ big₂ (one-call c x) no-call before h g₁ g₂ e = let z : _≡_ {A = ℕ} 0 1 = cc in absurd (omega arith)
 calls-alike {f₂ = f₂} {pid} {size₁} {size₂} big₁ big₂ (one-call {k = k} {ks = ks} c x)
@@ -411,19 +409,21 @@ calls-alike {f₂ = f₂} {pid} {size₁} {size₂} big₁ big₂ (one-call {k =
     let o : Outcome = record { rec = rec; hold = hold; out = j .out′; said = j .said } in
     let v = went g₁ (k .out) (k .packet) _ c in
     let w = subst (λ (z : Ruling). Went f₂ pid size₂ before h z o) ruled (went g₂ (j .out) (j .packet) o d) in
-    let handed : handedBy (k .said) (k .out′) ≡ handedBy (j .said) (j .out′) =
+    let sections : handedBy (k .said) (k .out′) ≡ handedBy (j .said) (j .out′) =
     cancel (map (map valueOf) (deliveredIn (h .story))) _ _ (sym (v .sections) ∙ w .sections) in
     let bytes : bytesBy (k .said) (k .out′) ≡ bytesBy (j .said) (j .out′) =
-    sym (v .bytes) ∙ ap flatten handed ∙ w .bytes in
+    sym (v .bytes) ∙ ap flatten sections ∙ w .bytes in
     let told : toldBy (k .said) ≡ toldBy (j .said) =
-    sym (v .told) ∙ ap (λ (l : List (List ℕ)). length (flatten l)) handed ∙ w .told in
+    sym (v .told) ∙ ap (λ (l : List (List ℕ)). length (flatten l)) sections ∙ w .told in
     let said : k .said ≡ j .said =
-    same-told (k .said) (j .said) (k .out′) (j .out′) (v .fare ∙ sym (w .fare)) (ap length handed) told in
+    same-told (k .said) (j .said) (k .out′) (j .out′) (v .fare ∙ sym (w .fare)) (ap length sections) told in
     let z = calls-alike big₁ big₂ x y _ _ (v .agrees) (w .agrees) rest in
     record {
-      said = λ i. said i ∷ z .said i;
-      handed = λ i. handed i ∷ z .handed i;
-      bytes = λ i. bytes i ∷ z .bytes i;
+      calls = record {
+        said = λ i. said i ∷ z .calls .said i;
+        sections = λ i. sections i ∷ z .calls .sections i;
+        bytes = λ i. bytes i ∷ z .calls .bytes i;
+      };
       states = λ i. state-alike g₁ g₂ i ∷ z .states i;
     }
 
@@ -433,32 +433,40 @@ overwritten n m [] x = absurd (x refl)
 overwritten n m (s ∷ secs) x = refl
 
 module _ {packet : List ℕ} (starts : Starts packet) (a b : Took Promised IsTaken packet) (alike : followed a ≡ followed b) where
-  on-alike : SameCalls (a .went-on) (b .went-on)
+  on-alike : AlikeOn (a .went-on) (b .went-on)
   on-alike =
       calls-alike (here-taken starts a .hold-big) (here-taken starts b .hold-big) (a .went-on) (b .went-on) (behind packet)
       (fromTarget packet) (agrees-now starts a) (agrees-now starts b) alike
 
+  grown-alike : (k : Kind) → Grown a b k
+  grown-alike k = record {
+    more = countOf (done k) (since packet (followed a) .marks);
+    one = from-target starts a .told-from .counters-are k;
+    other =
+        from-target starts b .told-from .counters-are k
+        ∙ ap (λ l. (target b .counted k + countOf (done k) (since packet l .marks)) % 2 ^ 32) (sym alike);
+  }
+
+  overwrites : Overwritten a b
+  overwrites =
+      let rejected : List (List ℕ) = rejectedSince packet (followed a) in
+      let one : a .left .rejection ≡ lastNumber (target a .number) rejected = from-target starts a .told-from .number-is in
+      let other : b .left .rejection ≡ lastNumber (target b .number) rejected =
+      from-target starts b .told-from .number-is
+      ∙ ap (λ l. lastNumber (target b .number) (rejectedSince packet l)) (sym alike) in
+      record {
+        since-then = λ some. one ∙ overwritten (target a .number) (target b .number) rejected some ∙ sym other;
+        one-until = λ none. one ∙ ap (lastNumber (target a .number)) none;
+        other-until = λ none. other ∙ ap (lastNumber (target b .number)) none;
+      }
+
 pub heals : Heals Promised
 heals = record {
   now = λ packet starts a b alike. (hands-now starts a, hands-now starts b);
-  from-then-on = λ packet starts a b alike.
-      let x = on-alike starts a b alike in (x .said, x .handed, x .bytes);
+  from-then-on = λ packet starts a b alike. on-alike starts a b alike .calls;
   state = λ packet starts a b alike. on-alike starts a b alike .states;
-  counters = λ packet starts a b alike k.
-      let x = from-target starts a in
-      let y = from-target starts b in (
-        countOf (done k) (since packet (followed a) .marks),
-        x .told-from .counters-are k,
-        y .told-from .counters-are k
-            ∙ ap (λ l. (target b .counted k + countOf (done k) (since packet l .marks)) % 2 ^ 32) (sym alike),
-      );
-  number = λ packet starts a b alike.
-      let x = from-target starts a .told-from .number-is in
-      let y = from-target starts b .told-from .number-is
-      ∙ ap (λ l. lastNumber (target b .number) (rejectedSince packet l)) (sym alike) in (
-        λ some. x ∙ overwritten (target a .number) (target b .number) (rejectedSince packet (followed a)) some ∙ sym y,
-        λ none. (x ∙ ap (lastNumber (target a .number)) none, y ∙ ap (lastNumber (target b .number)) none),
-      );
+  counters = λ packet starts a b alike. grown-alike starts a b alike;
+  number = λ packet starts a b alike. overwrites starts a b alike;
 }
 
 -- ---- each byte from beyond the target is in the story once

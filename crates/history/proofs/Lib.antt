@@ -12,6 +12,7 @@ pub mod Demand3
 pub mod WrongCollectors
 pub mod AtWork
 pub mod OtherEnds
+pub mod Fades
 pub mod Promise
 pub mod Fixed
 pub mod FullSections

@@ -197,6 +197,27 @@ module _ {C : Collector} {F : Fare → Type 0} {packet : List ℕ} (t : Took C F
     pub before-is : beforeOf (t .left) ≡ beforeBehind packet followed
     pub told-from : ToldFrom target (t .left) (t .left-hold) (since packet followed)
 
+-- ---- two histories
+
+-- call by call the same answer, with its numbers of sections and bytes, the same sections, and the same bytes
+pub record SameCalls (ks js : List Call) : Type 0 where
+  pub said : map (λ k. k .said) ks ≡ map (λ k. k .said) js
+  pub sections : map (λ k. handedBy (k .said) (k .out′)) ks ≡ map (λ k. handedBy (k .said) (k .out′)) js
+  pub bytes : map (λ k. bytesBy (k .said) (k .out′)) ks ≡ map (λ k. bytesBy (k .said) (k .out′)) js
+
+module _ {C : Collector} {F : Fare → Type 0} {packet : List ℕ} (a b : Took C F packet) where
+  -- a counter has grown by as many bytes in both from the target on, modulo 2^32
+  pub record Grown (k : Kind) : Type 0 where
+    pub more : ℕ
+    pub one : bytesCounted (done k) (a .left) ≡ (target a .counted k + more) % 2 ^ 32
+    pub other : bytesCounted (done k) (b .left) ≡ (target b .counted k + more) % 2 ^ 32
+
+  -- the last rejected number is the same from the next rejection of a section from beyond the target on, and until then it is what it was there
+  pub record Overwritten : Type 0 where
+    pub since-then : (rejectedSince packet (followed a) ≡ [] → ⊥) → a .left .rejection ≡ b .left .rejection
+    pub one-until : rejectedSince packet (followed a) ≡ [] → a .left .rejection ≡ target a .number
+    pub other-until : rejectedSince packet (followed a) ≡ [] → b .left .rejection ≡ target b .number
+
 -- ---- the statements: P is what is asked of the packet, and F how it fares
 
 -- of one history: what comes from beyond the target, and all that the record tells but what stood before it, is fixed by the packets alone
@@ -212,31 +233,21 @@ module _ (C : Collector) (P : List ℕ → Type 0) (F : Fare → Type 0) where
   abbrev pub SameNow : Type 0
   SameNow = OverPairs (λ packet a b. Now a × Now b)
 
-  -- ".. and for all packets that follow alike": call by call the same answer, with its numbers of sections and bytes, the same sections, and the
-  -- same bytes
+  -- ".. and for all packets that follow alike"
   abbrev pub SameFromThenOn : Type 0
-  SameFromThenOn = OverPairs (λ packet a b.
-      (map (λ k. k .said) (a .later) ≡ map (λ k. k .said) (b .later))
-      × (map (λ k. handedBy (k .said) (k .out′)) (a .later) ≡ map (λ k. handedBy (k .said) (k .out′)) (b .later))
-      × (map (λ k. bytesBy (k .said) (k .out′)) (a .later) ≡ map (λ k. bytesBy (k .said) (k .out′)) (b .later)))
+  SameFromThenOn = OverPairs (λ packet a b. SameCalls (a .later) (b .later))
 
   -- ".. and so are last counter, mark and bytes in hand": after the packet, and after each that follows, refused and repeated ones among them
   abbrev pub SameState : Type 0
   SameState = OverPairs (λ packet a b. statesIn (a .went-on) ≡ statesIn (b .went-on))
 
-  -- "The byte counters .. may differ": each has grown by as many bytes from the target on, modulo 2^32
+  -- "The byte counters .. may differ", and grow alike
   abbrev pub GrownAlike : Type 0
-  GrownAlike = OverPairs (λ packet a b. (k : Kind) → (more : ℕ)
-      × (bytesCounted (done k) (a .left) ≡ (target a .counted k + more) % 2 ^ 32)
-      × (bytesCounted (done k) (b .left) ≡ (target b .counted k + more) % 2 ^ 32))
+  GrownAlike = OverPairs (λ packet a b. (k : Kind) → Grown a b k)
 
-  -- "and the last rejected number until the next rejection of a section from beyond that target, may differ": it is the same from then on, and
-  -- until then it is what it was at the target
+  -- "and the last rejected number until the next rejection of a section from beyond that target, may differ"
   abbrev pub SameNumber : Type 0
-  SameNumber = OverPairs (λ packet a b.
-      ((rejectedSince packet (followed a) ≡ [] → ⊥) → a .left .rejection ≡ b .left .rejection)
-      × (rejectedSince packet (followed a) ≡ []
-      → (a .left .rejection ≡ target a .number) × (b .left .rejection ≡ target b .number)))
+  SameNumber = OverPairs (λ packet a b. Overwritten a b)
 
 -- the sentence
 pub record Heals (C : Collector) : Type 0 where

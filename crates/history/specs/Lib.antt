@@ -13,3 +13,4 @@ pub mod Healing
 pub mod WrongCollectors
 pub mod AtWork
 pub mod OtherEnds
+pub mod Fades
