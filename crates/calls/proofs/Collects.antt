@@ -22,12 +22,14 @@ use Rattle.collector.specs.Answer as collector
 use Rattle.collector.specs.Collected.{bytesCounted, recordWith, freshRecord, outcomeOf, collected}
 use Rattle.history.specs.Run as beneath
 use Rattle.history.specs.Run.{cut, handedBy, handed}
+use Rattle.history.specs.Healing as healing
 use Rattle.history.proofs.Judging.{none-rejected-leaves}
 use Rattle.collector.specs.declared.Last.the-variants.{None, Counter}
 use Rattle.collector.specs.declared.Record as of
 use Rattle.cabinet.specs.Collect.{lastIn, lastSays, markIn, markSays, numbersWith, SameName, recordIn, recordAfter, recordSays, collectSays, Outcome, leaves, outcomeSays, collecting}
 use Rattle.cabinet.proofs.Outcomes.{last-kept, mark-kept, record-kept}
 use Rattle.calls.specs.Collects.{LastIs, Stands, Tells, tells-refused, tells-repeated, tells-taken, Promised, Kept, KeepsNumbers, Call, Run, no-call, one-call, handedOut, callSays, Beneath, RunsBeneath}
+use Rattle.calls.specs.Healing.{State, stateOf, statesIn}
 use Rattle.cabinet.specs.declared.collect.Record.{Record}
 
 -- ---- a taken packet's counter has four bits
@@ -66,7 +68,7 @@ mark-told : (n : ℕ) (mark : Bool) → markIn (markSays n mark) ≡ mark
 mark-told n false = refl
 mark-told n true = if-case (λ k. markIn k ≡ true) (eqb n 0) (λ _. refl) (λ is. ap not is)
 
-abbrev NumbersTell : of.Record → Type 0
+abbrev pub NumbersTell : of.Record → Type 0
 NumbersTell x = lastIn (lastSays (x .last)) ≡ x .last
 
 told-counter : (n : ℕ) → n < 16 → lastIn n ≡ Counter n
@@ -79,7 +81,7 @@ told-after x hold out repeated s t = t
 told-after x hold out (Ruled.bare splice) s t = t
 told-after x hold out (takes q) s t = told-counter (q .counter) s
 
-told-on : (x : of.Record) (hold out packet : List ℕ) → NumbersTell x → NumbersTell (collected x hold out packet .rec)
+pub told-on : (x : of.Record) (hold out packet : List ℕ) → NumbersTell x → NumbersTell (collected x hold out packet .rec)
 told-on x hold out packet t =
     told-after x hold out
     (ruling (tooSmall (length hold) (length out)) (cannotStand x hold) (x .pid) (beforeOf x) packet)
@@ -206,7 +208,7 @@ more ks r r₁ hold₁ k o is e b = record {
   record-stands = b .record-stands;
 }
 
-runs : (x : of.Record) (hold : List ℕ) (calls : List Call) (r r′ : Record) (hold′ : List ℕ) → NumbersTell x
+pub runs : (x : of.Record) (hold : List ℕ) (calls : List Call) (r r′ : Record) (hold′ : List ℕ) → NumbersTell x
     → r ≡ recordSays x
     → Run Promised r hold calls r′ hold′ → Beneath x hold calls r′ hold′
 runs x hold [] r r′ hold′ t is no-call = record {
@@ -228,9 +230,27 @@ runs x hold (k ∷ ks) r r′ hold′ t is (one-call {r₁ = r₁} {hold₁ = ho
 pub runs-beneath : RunsBeneath Promised
 runs-beneath pid fresh hold calls r hold′ is x = runs (freshRecord pid) hold calls fresh r hold′ refl is x
 
+-- ---- last counter, mark and bytes in hand, as each call leaves them
+
+abbrev pub stateSays : healing.State → State
+stateSays s = record { last = lastSays (s .last); mark = markSays 0 (s .mark); in-hand = s .in-hand; bytes = s .bytes }
+
+pub states-beneath : (x : of.Record) (hold : List ℕ) (calls : List Call) (r r′ : Record) (hold′ : List ℕ) (t : NumbersTell x)
+    (is : r ≡ recordSays x) (run : Run Promised r hold calls r′ hold′)
+    → statesIn run ≡ map stateSays (healing.statesIn (runs x hold calls r r′ hold′ t is run .run))
+unfolding runs more
+states-beneath x hold [] r r′ hold′ t is no-call = λ i. stateOf (is i) hold ∷ []
+states-beneath x hold (k ∷ ks) r r′ hold′ t is (one-call {r₁ = r₁} {hold₁ = hold₁} p rest) =
+    let o = collected x hold (k .out) (k .packet) in
+    let e : leaves r₁ hold₁ (k .out′) (k .answer) ≡ outcomeSays (recordSays x) o =
+    p ∙ ap (λ (y : Record). collecting y hold (k .out) (k .packet)) is ∙ says-on x hold (k .out) (k .packet) t in
+    λ i. stateOf (is i) hold
+    ∷ states-beneath (o .rec) hold₁ ks r₁ r′ hold′ (told-on x hold (k .out) (k .packet) t)
+    (ap (λ (z : Outcome). z .rec) e ∙ says-after x (o .rec)) rest i
+
 -- ---- the sections that the calls hand out
 
-handed-says : (said : collector.Reply) (out : List ℕ)
+pub handed-says : (said : collector.Reply) (out : List ℕ)
     → cut (collectSays said .sections) (take (collectSays said .size) out) ≡ handedBy said out
 handed-says (collector.refusedWith n) out = refl
 handed-says collector.repeated out = refl

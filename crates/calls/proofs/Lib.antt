@@ -1,6 +1,7 @@
 -- That the promises of the calls give each statement.
 pub mod Collects
 pub mod Judging
+pub mod Healing
 pub mod Refusals
 pub mod Judges
 pub mod Rolls

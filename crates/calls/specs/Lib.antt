@@ -2,6 +2,7 @@
 -- packet writer's, and what the readings tell of a wrong field.
 pub mod Collects
 pub mod Judging
+pub mod Healing
 pub mod Judges
 pub mod Rolls
 pub mod Sheets

@@ -48,6 +48,7 @@ use Rattle.history.proofs.LeftInHand.{Standing, few-standing, stands-se
 use Rattle.history.proofs.Agrees.{whole-taken, bytes-after, handed-after, Agrees, values-of, map-long, Went, went, Ran, ran}
 use Rattle.history.proofs.FaresByTable.{fareNumber, here}
 use Rattle.history.proofs.FaresByTable as fares
+use Rattle.history.proofs.Demand1.{fare-is}
 use Rattle.history.proofs.Demand3.{kept-from}
 use Rattle.history.proofs.OutRoom.{one-goes, none-yet}
 use Rattle.history.proofs.Fixed.{lastIn, last-in, cancel, same-told}
@@ -127,12 +128,6 @@ record TakenHere (r : Record) (hold out packet : List ℕ) : Type 0 where
       ≡ takes (here (beforeOf r) packet)
   within : payloadFrom packet < length packet
 
-said-fare : (r : Record) (hold out : List ℕ) (z : Ruling) → fareOf (outcomeOf r hold out z .said) ≡ ruledFare z
-said-fare r hold out (Ruled.refuses n) = refl
-said-fare r hold out repeated = refl
-said-fare r hold out (Ruled.bare splice) = refl
-said-fare r hold out (takes q) = refl
-
 not-bare : {packet : List ℕ} → Starts packet → control packet ≡ 2 → ⊥
 not-bare x e = ⊎-elim (λ w. omega arith) (λ w. omega arith) (x .payload)
 
@@ -157,7 +152,7 @@ taken-here r hold out packet o is starts e =
     let unfit : Bool = cannotStand r hold in
     let before : Before = beforeOf r in
     let z : Ruling = ruling small unfit (r .pid) before packet in
-    let fare : ruledFare z ≡ R.taken = sym (said-fare r hold out z) ∙ ap (λ (y : Outcome). fareOf (y .said)) (sym is) ∙ e in
+    let fare : ruledFare z ≡ R.taken = sym (fare-is r hold out z) ∙ ap (λ (y : Outcome). fareOf (y .said)) (sym is) ∙ e in
     let passed = fares.taken-exactly-if small unfit (r .pid) before packet .0 fare .0 in
     let has = with-payload small unfit (r .pid) packet passed (not-bare starts) in
     let fit = fit-of r hold out packet (payloadFrom packet) (startFlag packet) (counterOf packet) (discontinuity packet) has in
