@@ -6,7 +6,8 @@ tests/outside/second/build stand_in
 tried=target/second/stand_in.log
 target/second/stand_in 1 20000 >"$tried" || { cat "$tried"; exit 1; }
 # Kind and fault. What 63 to 65 tell is tried twice: by the second implementation, and by the caller's bytes, the kind digits. So are faults of judging
-# what is collected: in histories of packets, and in the packets that were written.
+# what is collected: in histories of packets, and in the packets that were written. The kind fades has no second implementation to ask: it sees what
+# two histories leave in the answers from a section start on, the mark and the number that stay among them.
 all="bytes:1 bytes:6 sections:2 sections:3 sections:4 sections:5 sections:23 sections:24 sections:25 sections:26
     packets:7 packets:8 packets:9 packets:10 packets:27 descriptors:11 descriptors:12 descriptors:13 times:14 times:15
     rolls:16 rolls:17 rolls:18 sheets:19 sheets:20 sheets:21 sheets:22
@@ -17,7 +18,8 @@ all="bytes:1 bytes:6 sections:2 sections:3 sections:4 sections:5 sections:23 sec
     writer:54 writer:55
     packets:56 packets:57 packets:58 packets:59 packets:60 packets:61 packets:62 packets:63 packets:64 packets:65 packets:66
     packets:67 packets:68 packets:69 packets:70 packets:71 packets:72 packets:73 packets:74
-    writer:57 writer:63 writer:64 writer:65 writer:66 writer:67 writer:69"
+    writer:57 writer:63 writer:64 writer:65 writer:66 writer:67 writer:69
+    fades:75 fades:76 fades:77 fades:78 fades:79 fades:80 fades:81 fades:9 fades:35 fades:63 fades:65 fades:73 fades:74"
 for kind in $all; do
     status=0
     FAULT=${kind#*:} target/second/stand_in 1 20000 "${kind%:*}" >"$tried" || status=$?

@@ -1,16 +1,20 @@
 -- A history of `lohitunga_collect` that takes a packet with payload and the start flag goes on as one of the collector.
-use mathlib.Core.Path.{_≡_, refl, sym, ap, _∙_, subst}
+use mathlib.Core.Path.{_≡_, refl, sym, ap, _∙_}
 use mathlib.Core.Bool.{Bool, true, false}
-use mathlib.Core.List.{List, [], _∷_, _++_, map, flatten}
-use Prim.Native.Nat.{ℕ, _%_, _^_}
+use mathlib.Core.Logic.{inr}
+use mathlib.Core.List.{List, [], _∷_, map, flatten}
+use Prim.Native.Nat.{ℕ, _<_}
 use native.Mathlib.Omega.{arith}
-use lib.ListN.{length, take}
+use lib.ListN.{length, take, drop}
+use Rattle.wire.specs.Each.{Each}
 use Rattle.wire.proofs.IfLaws.{true-not-false}
-use Rattle.packet.specs.Ruling.{Before}
-use Rattle.packet.specs.Refusals.{_when_, refusals}
-use Rattle.collector.specs.Rules.{Kind, byKind, done}
-use Rattle.collector.specs.Judged.{deliveredOf}
-use Rattle.collector.specs.Refusals.{beforeOf, cannotStand, tooSmall}
+use Rattle.packet.specs.Ruling.{Before, joins, repeats}
+use Rattle.packet.specs.Refusals.{_when_, refusals, judged}
+use Rattle.tables.specs.Tables.{rowOf, cell, first, holds}
+use Rattle.section.specs.Reading.{_andThen_, plain, inside, opening, wrongSyntax, lengthOutside, sizeDiffers, crcFails, aboveLast, header, read}
+use Rattle.section.specs.Reading.{judged as verdict}
+use Rattle.collector.specs.Rules.{Kind, byKind, done, sizeOf}
+use Rattle.collector.specs.Refusals.{cannotStand, tooSmall}
 use Rattle.collector.specs.Answer as collector
 use Rattle.collector.specs.Collected.{bytesCounted, collected}
 use Rattle.collector.specs.declared.Record as of
@@ -22,11 +26,11 @@ use Rattle.history.specs.Healing as under
 use Rattle.history.proofs.FaresByTable.{Never, never-first}
 use Rattle.history.proofs.Demand1.{refuses-first}
 use Rattle.history.proofs.Healing.{by-packets-since, heals}
-use Rattle.cabinet.specs.Collect.{lastIn, lastSays, markSays, numbersWith, countedIn, recordIn, recordAfter, recordSays, collectSays, Outcome, outcomeSays, collecting}
+use Rattle.cabinet.specs.Collect.{lastIn, lastSays, markSays, numbersWith, countedIn, recordIn, recordSays, collectSays, Outcome, outcomeSays, collecting}
 use Rattle.cabinet.specs.declared.collect.Record.{Record}
 use Rattle.cabinet.proofs.Outcomes.{last-kept}
-use Rattle.calls.specs.Collects.{Promised, Call, Run, no-call, one-call, callSays, Beneath}
-use Rattle.calls.specs.Healing.{followingOf, State, stateOf, statesIn, Took, followed, Now, SameCalls, Grown, Overwritten, Healed, Heals}
+use Rattle.calls.specs.Collects.{Promised, Call, callSays, Beneath}
+use Rattle.calls.specs.Healing.{followingOf, statesIn, Took, followed, Now, SameCalls, Heals, PremisesMet}
 use Rattle.calls.proofs.Collects.{NumbersTell, told-on, runs, stateSays, states-beneath, handed-says}
 
 -- ---- the packet is taken
@@ -34,9 +38,18 @@ use Rattle.calls.proofs.Collects.{NumbersTell, told-on, runs, stateSays
 -- no refusal has the number 0
 never-0 : (small unfit : Bool) (pid : ℕ) (p : List ℕ) → First 0 (refusals small unfit pid p) → ⊥
 never-0 small unfit pid p =
-    let other : (n : ℕ) (t : Bool) → (n ≡ 0 → ⊥) → Never 0 (n when t) = λ n t f e w. f w in
-    never-first 0 (refusals small unfit pid p)
-    (other 41 _ (λ e. omega arith), (other 42 _ (λ e. omega arith), (other 43 _ (λ e. omega arith), (other 44 _ (λ e. omega arith), (other 45 _ (λ e. omega arith), (other 46 _ (λ e. omega arith), (other 47 _ (λ e. omega arith), (other 48 _ (λ e. omega arith), (other 49 _ (λ e. omega arith), tt)))))))))
+    let other : (n : ℕ) (t : Bool) → 0 < n → Never 0 (n when t) = λ n t some e w. omega arith in
+    let last : Each (Never 0) (drop 5 (refusals small unfit pid p)) = (
+      other 46 _ (omega arith),
+      (other 47 _ (omega arith), (other 48 _ (omega arith), (other 49 _ (omega arith), tt))),
+    ) in
+    never-first 0 (refusals small unfit pid p) (
+      other 41 _ (omega arith),
+      (
+        other 42 _ (omega arith),
+        (other 43 _ (omega arith), (other 44 _ (omega arith), (other 45 _ (omega arith), last))),
+      ),
+    )
 
 -- an answer that is neither a refusal nor "repeated"
 taken-said : (said : collector.Reply) → (said ≡ collector.refusedWith 0 → ⊥) → collectSays said .number ≡ 0
@@ -73,9 +86,15 @@ module _ {packet : List ℕ} (starts : Starts packet) (t : Took Promised packet)
       (refuses-first x (t .at-hold) (t .out) packet o refl 0 .0 e))
       (ap (λ a. a .number) (sym answer-says) ∙ t .not-refused) (ap (λ a. a .repeated) (sym answer-says) ∙ t .not-repeated)
 
-  -- the collector's history, up to the packet
-  abbrev up-to : under.Took beneath.Promised IsTaken packet
-  up-to = record {
+  rooms-say : _≡_ {A = collector.Outcome}
+      (record { rec = o .rec; hold = t .outcome .hold; out = t .outcome .out; said = o .said }) o
+  rooms-say = λ i. record { rec = o .rec; hold = outcome-says i .hold; out = outcome-says i .out; said = o .said }
+
+  -- the collector's history, with these calls behind the packet
+  abbrev with-calls : (later : List beneath.Call) (left : of.Record) (left-hold : List ℕ)
+      → beneath.Run beneath.Promised (o .rec) (t .outcome .hold) later left left-hold
+      → under.Took beneath.Promised IsTaken packet
+  with-calls later left left-hold run = record {
     from = x;
     from-hold = t .at-hold;
     past = [];
@@ -83,18 +102,20 @@ module _ {packet : List ℕ} (starts : Starts packet) (t : Took Promised packet)
     at-hold = t .at-hold;
     came = beneath.no-call;
     out = t .out;
-    outcome = o;
-    call = refl;
+    outcome = record { rec = o .rec; hold = t .outcome .hold; out = t .outcome .out; said = o .said };
+    call = rooms-say;
     fared = is-taken;
-    later = [];
-    left = o .rec;
-    left-hold = o .hold;
-    went-on = beneath.no-call;
+    later = later;
+    left = left;
+    left-hold = left-hold;
+    went-on = run;
   }
 
   -- its mark is cleared, so that the numbers it leaves are its own
   no-mark : o .rec .mark ≡ false
-  no-mark = ap (λ (b : Before). b .mark) (by-packets-since packet starts up-to .before-is)
+  no-mark =
+      ap (λ (b : Before). b .mark)
+      (by-packets-since packet starts (with-calls [] (o .rec) (t .outcome .hold) beneath.no-call) .before-is)
 
   record-says : t .outcome .rec ≡ recordSays (o .rec)
   record-says =
@@ -114,26 +135,8 @@ module _ {packet : List ℕ} (starts : Starts packet) (t : Took Promised packet)
   goes-on : Beneath (o .rec) (t .outcome .hold) (t .later) (t .left) (t .left-hold)
   goes-on = runs (o .rec) (t .outcome .hold) (t .later) (t .outcome .rec) (t .left) (t .left-hold) tells record-says (t .went-on)
 
-  rooms-say : _≡_ {A = collector.Outcome} (record { rec = o .rec; hold = t .outcome .hold; out = t .outcome .out; said = o .said }) o
-  rooms-say = λ i. record { rec = o .rec; hold = outcome-says i .hold; out = outcome-says i .out; said = o .said }
-
   abbrev down : under.Took beneath.Promised IsTaken packet
-  down = record {
-    from = x;
-    from-hold = t .at-hold;
-    past = [];
-    at = x;
-    at-hold = t .at-hold;
-    came = beneath.no-call;
-    out = t .out;
-    outcome = record { rec = o .rec; hold = t .outcome .hold; out = t .outcome .out; said = o .said };
-    call = rooms-say;
-    fared = is-taken;
-    later = goes-on .under;
-    left = goes-on .rec;
-    left-hold = t .left-hold;
-    went-on = goes-on .run;
-  }
+  down = with-calls (goes-on .under) (goes-on .rec) (t .left-hold) (goes-on .run)
 
   followed-beneath : followed t ≡ under.followed down
   followed-beneath = ap (map followingOf) (goes-on .calls-say) ∙ follow (goes-on .under)
@@ -236,3 +239,13 @@ heals-for-c packet starts a b alike =
         other-until = λ none. number-says starts b ∙ number .other-until (rejected ∙ none);
       };
     }
+
+pub premises-met : PremisesMet
+unfolding judged sizeOf joins repeats cannotStand flatten verdict read opening _andThen_ rowOf first holds cell header
+    wrongSyntax lengthOutside sizeDiffers crcFails aboveLast inside plain collecting
+premises-met = record {
+  starts = record { payload = inr refl; start = refl };
+  fresh = record { not-refused = refl; not-repeated = refl; sections = refl; mark = refl };
+  by-hand = record { not-refused = refl; not-repeated = refl; sections = refl; mark = refl };
+  counters-differ = (refl, refl);
+}

@@ -7,9 +7,12 @@ use lib.ListN.{length, take}
 use lib.Dec.{ltb}
 use Rattle.collector.specs.Rules.{Kind, Story}
 use Rattle.collector.specs.Judged.{deliveredOf}
+use Rattle.collector.specs.Collected.{freshRecord}
 use Rattle.history.specs.Run.{cut}
 use Rattle.history.specs.Healing.{Starts, Following, deliveredSince, rejectedSince, untilTarget, Tally, atTarget}
-use Rattle.cabinet.specs.Collect.{countedIn, recordIn, Outcome}
+use Rattle.history.specs.WrongCollectors.{hold₀, out₀}
+use Rattle.history.specs.Fades.{common}
+use Rattle.cabinet.specs.Collect.{countedIn, numbersWith, recordIn, recordSays, Outcome, collecting}
 use Rattle.cabinet.specs.declared.collect.Record.{Record}
 use Rattle.calls.specs.Collects.{Collector, Call, Run, no-call, one-call}
 
@@ -101,3 +104,23 @@ module _ {C : Collector} {packet : List ℕ} (a b : Took C packet) where
 
 abbrev pub Heals : Collector → Type 0
 Heals C = (packet : List ℕ) → Starts packet → (a b : Took C packet) → followed a ≡ followed b → Healed a b
+
+-- ---- the premises can be met: by fresh numbers, and by numbers made by hand, whose mark is set by another number than 1
+
+abbrev pub byHand : Record
+byHand = numbersWith 20 4 7 7 2 (λ k. 4294967295)
+
+-- the packet is taken, with one section, and its mark is 0 then
+pub record Takes (r : Record) (hold : List ℕ) : Type 0 where
+  pub not-refused : collecting r hold out₀ common .answer .number ≡ 0
+  pub not-repeated : collecting r hold out₀ common .answer .repeated ≡ 0
+  pub sections : collecting r hold out₀ common .answer .sections ≡ 1
+  pub mark : collecting r hold out₀ common .rec .mark ≡ 0
+
+pub record PremisesMet : Type 0 where
+  pub starts : Starts common
+  pub fresh : Takes (recordSays (freshRecord 20)) hold₀
+  pub by-hand : Takes byHand (0x70 ∷ 0x70 ∷ hold₀)
+  -- the counters differ before it, and after it
+  pub counters-differ : (collecting (recordSays (freshRecord 20)) hold₀ out₀ common .rec .accepted ≡ 8)
+      × (collecting byHand (0x70 ∷ 0x70 ∷ hold₀) out₀ common .rec .accepted ≡ 7)

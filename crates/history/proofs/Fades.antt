@@ -1,7 +1,7 @@
 -- Each pair of histories of `specs/Fades.antt`, computed.
-use mathlib.Core.Path.{_≡_, refl, sym, ap, _∙_}
+use mathlib.Core.Path.{_≡_, refl, ap}
 use mathlib.Core.Logic.{inl, inr}
-use mathlib.Core.List.{List, [], _∷_, map, flatten}
+use mathlib.Core.List.{List, [], _∷_, flatten}
 use Prim.Native.Nat.{ℕ, _+_, _%_, _^_}
 use native.Mathlib.Omega.{arith}
 use lib.ListN.{length, drop, replicate}
@@ -17,10 +17,10 @@ use Rattle.collector.specs.Rules.{Kind, accepted, byKind, done}
 use Rattle.collector.specs.Collected.{bytesCounted, collected}
 use Rattle.history.specs.Run.{Promised}
 use Rattle.history.specs.Healing.{Starts, rejectedSince, State, IsTaken, SameFromThenOn, SameState, GrownAlike, SameNumber}
-use Rattle.history.specs.WrongCollectors.{bare-splice, rest-of-it, keepsFirst, collectedBy}
+use Rattle.history.specs.WrongCollectors.{keepsFirst, collectedBy}
 use Rattle.history.specs.AtWork as story
 use Rattle.history.specs.AtWork.{tdt, starts}
-use Rattle.history.specs.Fades.{Making, Makes, tale, common, behind-it, begins, with-2, fresh, halfway, marked, busy, byHand, PremisesMet, CounterSame, NumberSame, HandedSame, HasPayload, HasFlag, NotRefused, Stronger, forgetsToBreak, markSurvives, countersStop, fallsSilent, ShutOut}
+use Rattle.history.specs.Fades.{Makes, tale, common, behind-it, begins, with-2, fresh, halfway, marked, busy, byHand, PremisesMet, LossOfSixteen, CounterSame, NumberSame, HandedSame, HasPayload, HasFlag, NotRefused, Stronger, forgetsToBreak, markSurvives, countersStop, fallsSilent, ShutOut}
 
 pub premises-met : PremisesMet
 unfolding judged sizeOf joins repeats cannotStand flatten verdict read opening _andThen_ rowOf first holds cell header
@@ -39,6 +39,11 @@ premises-met = record {
   starts-01 = record { payload = inl refl; start = refl };
   takes-01 = (refl, refl);
 }
+
+pub loss-of-sixteen : LossOfSixteen
+unfolding judged sizeOf joins repeats cannotStand flatten verdict read opening _andThen_ rowOf first holds cell header
+    wrongSyntax lengthOutside sizeDiffers crcFails aboveLast inside plain
+loss-of-sixteen = record { as-many = refl; sent = refl; joined-over = refl; seen = refl; both-take = (refl, refl) }
 
 -- ---- stronger statements
 

@@ -8,10 +8,10 @@ use mathlib.Core.List.{List, [], _∷_, _++_, append-nil, map, map-id, flatten}
 use Prim.Native.Nat.{ℕ, suc, _+_, _%_, _^_, _≤_, _<_}
 use native.Mathlib.Nat.{add-zero}
 use native.Mathlib.Omega.{arith}
-use lib.ListN.{length, take, drop, getD, length-append, length-drop}
+use lib.ListN.{length, take, drop, length-append, length-drop}
 use lib.Seq.{take-append-seam, drop-cons, drop-drop}
-use lib.Dec.{ltb, eqb}
-use borrow.Author.Tests.{ltb-false, eqb-true, not-false, le-ltb, ne-eqb}
+use lib.Dec.{ltb}
+use borrow.Author.Tests.{eqb-true, not-false, le-ltb, ne-eqb}
 use Rattle.wire.specs.If.{if_then_else_}
 use Rattle.wire.specs.Each.{Each}
 use Rattle.wire.specs.Sections.{WholeSection}
@@ -21,16 +21,14 @@ use Rattle.packet.specs.Header.{startFlag, pidOf, control, counterOf, discontin
 use Rattle.packet.specs.Refusals.{refusals, has-payload, judgedBy, judged}
 use Rattle.packet.specs.Refusals as Refusals
 use Rattle.packet.specs.Ruling.{Before, markWith, joins, repeats, Carried, Ruling, repeated, takes, ruledBy, ruling}
-use Rattle.packet.specs.Ruling as Ruled
 use Rattle.packet.proofs.Table.{Passed, all-passed}
-use Rattle.collector.specs.Rules.{Kind, pointer, accepted, rejected, broken, done, Fate, in-hand, sameFate, Story, countOf, handOf, given, brokenOff, holding, plain, joined, payload, sectionsOf, goesOn, sectionsIn, storyAfter}
+use Rattle.collector.specs.Rules.{Kind, pointer, accepted, rejected, broken, done, Fate, in-hand, Story, countOf, handOf, given, holding, plain, joined, payload, sectionsOf, goesOn, sectionsIn, storyAfter}
 use Rattle.collector.specs.Judged.{byJudge, deliveredOf, rejectedOf, lastNumber}
 use Rattle.collector.specs.Refusals.{beforeOf, cannotStand, tooSmall}
 use Rattle.collector.specs.Answer.{Outcome}
 use Rattle.collector.specs.Answer as Answer
 use Rattle.collector.specs.Collected.{bytesCounted, recordAfter, outcomeAfter, outcomeOf}
 use Rattle.collector.specs.declared.Record.{Record}
-use Rattle.collector.specs.declared.Last.{Last}
 use Rattle.collector.specs.declared.Last.the-variants.{Counter}
 use Rattle.collector.proofs.Counters.{counts-with}
 use Rattle.collector.proofs.MarkLaws.{settled-hand}
@@ -39,11 +37,11 @@ use Rattle.collector.proofs.Simulation.{Beside, beside-sections}
 use Rattle.collector.proofs.StoryLaws.{Any, Kept, keeps-kept, kept-holding, sections-more, sections-values}
 use Rattle.collector.proofs.Parted.{last-more, last-limit}
 use Rattle.collector.proofs.Fits.{fit-of, few-number}
-use Rattle.history.specs.History.{Byte, valueOf, numbered, History, historyFrom, payloadsFrom}
+use Rattle.history.specs.History.{Byte, valueOf, numbered, History, historyFrom}
 use Rattle.history.specs.Run.{Promised, Call, Run, no-call, one-call, Fare, fareOf, ruledFare, Lent, lentOf, rulingOn, beforeAfter, ruledIn, faresFrom, ruledTaken, beforeFrom, handedBy, bytesBy, toldBy}
 use Rattle.history.specs.Run as R
-use Rattle.history.specs.Demand3.{deliveredIn, rejectedIn}
-use Rattle.history.specs.Healing.{Starts, beyondTarget, fromTarget, behind, Following, followingOf, lentBy, takenBehind, beforeBehind, since, deliveredSince, rejectedSince, OnceSince, untilTarget, Tally, atTarget, ToldFrom, stateOf, statesIn, Took, IsTaken, followed, target, Now, FromTarget, SameCalls, Grown, Overwritten, ByPacketsSince, Heals}
+use Rattle.history.specs.Demand3.{deliveredIn}
+use Rattle.history.specs.Healing.{Starts, beyondTarget, fromTarget, behind, Following, followingOf, lentBy, takenBehind, since, rejectedSince, OnceSince, untilTarget, Tally, atTarget, ToldFrom, stateOf, statesIn, Took, IsTaken, followed, target, Now, FromTarget, SameCalls, Grown, Overwritten, ByPacketsSince, Heals}
 use Rattle.history.proofs.LeftInHand.{Standing, few-standing, stands-sections, stands-after}
 use Rattle.history.proofs.Agrees.{whole-taken, bytes-after, handed-after, Agrees, values-of, map-long, Went, went, Ran, ran}
 use Rattle.history.proofs.FaresByTable.{fareNumber, here}

@@ -9,7 +9,7 @@ use lib.ListN.{length, take, drop, replicate}
 use lib.Dec.{ltb}
 use Rattle.wire.specs.If.{if_then_else_}
 use Rattle.packet.specs.Header.{startFlag, control}
-use Rattle.packet.specs.Ruling.{joins, Carried, Ruling, refuses, repeated, bare, takes, ruling}
+use Rattle.packet.specs.Ruling.{joins, Ruling, refuses, repeated, bare, takes, ruling}
 use Rattle.collector.specs.Rules.{Kind, pointer, done, Story, given, holding, plain, joined, goesOn, sectionsIn}
 use Rattle.collector.specs.Judged.{byJudge}
 use Rattle.collector.specs.Refusals.{beforeOf, cannotStand, tooSmall}
@@ -19,7 +19,7 @@ use Rattle.collector.specs.declared.Record.{Record}
 use Rattle.collector.specs.declared.Last.the-variants.{Counter}
 use Rattle.history.specs.Run.{Collector, Promised, Call, Run, no-call, one-call, Fare, fareOf, handed}
 use Rattle.history.specs.Run as R
-use Rattle.history.specs.Healing.{Starts, Following, faresBehind, deliveredSince, rejectedSince, Took, IsTaken, followed, handedNow, OverPairs, SameFromThenOn, SameState, GrownAlike, SameNumber}
+use Rattle.history.specs.Healing.{Starts, Following, faresBehind, deliveredSince, rejectedSince, Took, IsTaken, handedNow, OverPairs, SameFromThenOn, SameState, GrownAlike, SameNumber}
 use Rattle.history.specs.WrongCollectors.{hold₀, out₀, rest-of-it, bare-splice, worked, keepsFirst, collectedBy}
 use Rattle.history.specs.AtWork as story
 use Rattle.history.specs.AtWork.{tdt, starts}
@@ -162,6 +162,31 @@ pub record PremisesMet : Type 0 where
   -- and with adaptation control 01
   pub starts-01 : Starts (worked 5)
   pub takes-01 : Takes fresh halfway (worked 5) × Takes fresh marked (worked 5)
+
+-- ---- what a loss can spoil up to there: "A loss of 16 packets shows no break; the CRC is left to catch it."
+
+-- behind a packet with the counter 4 the rest of its TDT, and fifteen packets more
+abbrev pub sixteen : List (List ℕ)
+sixteen =
+    story.goesOn 5 (drop 1 tdt)
+    ∷ map (λ c. story.goesOn c (1 ∷ [])) (6 ∷ 7 ∷ 8 ∷ 9 ∷ 10 ∷ 11 ∷ 12 ∷ 13 ∷ 14 ∷ 15 ∷ 0 ∷ 1 ∷ 2 ∷ 3 ∷ 4 ∷ [])
+
+-- all packets came; those sixteen did not, and the next goes on as if they had not been
+abbrev pub complete : List (List ℕ)
+complete = begins 4 ∷ sixteen ++ (story.goesOn 5 rest-of-it ∷ [])
+
+abbrev pub faded : List (List ℕ)
+faded = begins 4 ∷ story.goesOn 5 rest-of-it ∷ []
+
+pub record LossOfSixteen : Type 0 where
+  pub as-many : length sixteen ≡ 16
+  pub sent : handed (callsWith collected fresh complete) ≡ tdt ∷ []
+  -- a section comes out that nobody sent: a TDT has no CRC_32
+  pub joined-over : handed (callsWith collected fresh faded) ≡ (0x70 ∷ rest-of-it) ∷ []
+  -- with one more lost the break is seen
+  pub seen : handed (callsWith collected fresh (begins 4 ∷ story.goesOn 6 rest-of-it ∷ [])) ≡ []
+  -- the next start is taken in both, and heals
+  pub both-take : Takes fresh complete (begins 6) × Takes fresh faded (begins 6)
 
 -- ---- stronger statements, which are false
 

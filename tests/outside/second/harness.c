@@ -29,7 +29,8 @@
     KIND(rolls) \
     KIND(sheets) \
     KIND(digits) \
-    KIND(writer)
+    KIND(writer) \
+    KIND(fades)
 
 #define DECLARED(name) extern const struct kind kind_##name;
 #define LISTED(name) &kind_##name,

@@ -36,6 +36,16 @@ void back(void);
 /* What 63 to 65 tell, of the library's answer and of `why` in the second implementation's: three values, "number place digit". */
 #define WHY(told) (told).number, (long long)(told).place, (told).digit
 
+/* "An adaptation field of at least one byte with that bit set": in control 10 and 11, its flags behind its length */
+int has_bit(const uint8_t *packet);
+
+/* The size of the section with this head. */
+size_t declared_by(const uint8_t *head);
+
+/* Of records that nobody left so: a byte counter, often about to run round; a mark, clear or set by any number. */
+uint32_t any_count(struct dice *d);
+uint8_t any_mark(struct dice *d);
+
 /* Of kinds_parts.c: a part of the kind `sections`. */
 void prepare_parts(void);
 void compare_parts(struct dice *d, const uint8_t *section, size_t size);

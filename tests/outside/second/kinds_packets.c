@@ -49,9 +49,6 @@ static void prepare_packets(void)
     must_meet("a mark of 2 or more", "refused 10 10-bit 01 11");
 }
 
-/* "An adaptation field of at least one byte with that bit set": in control 10 and 11, its flags behind its length */
-static int has_bit(const uint8_t *packet) { return packet[3] & 0x20 && packet[4] != 0 && packet[5] & 0x80; }
-
 /* The ledger: every payload byte of the packets taken so far, with its fate */
 
 static struct {
@@ -113,8 +110,6 @@ static void same_counts(const lohitunga_record *r)
     library[SECOND_IN_HAND] = (long long)r->in_hand;
     same(RECORD_COUNTERS "in_hand", library, counts, SECOND_FATES);
 }
-
-static size_t declared_by(const uint8_t *head) { return 3 + (head[1] % 16u * 256u + head[2]); }
 
 /*
  * "Delivered bytes come out once, in order; no delivered section spans a break in the continuity counter from one taken
@@ -384,23 +379,10 @@ static void compare_collect(struct collector *c, const uint8_t *packet, size_t s
 
 /* Records that nobody left so */
 
-static uint32_t any_count(struct dice *d)
-{
-    return one_in(d, 2) ? (uint32_t)dice_any(d) : UINT32_MAX - below(d, 400);
-}
-
 /* A number that is kept, mostly one that can stand. */
 static uint32_t any_rejection(struct dice *d)
 {
     return one_in(d, 8) ? (one_in(d, 3) ? 11 : any_count(d)) : below(d, 11);
-}
-
-/* Clear, or set by any number. */
-static uint8_t any_mark(struct dice *d)
-{
-    static const uint8_t marks[] = {0, 0, 0, 0, 1, 2, 255};
-    unsigned i = below(d, COUNT(marks) + 1);
-    return i < COUNT(marks) ? marks[i] : (uint8_t)below(d, 256);
 }
 
 /* A record, with a hold to it, that may stand or not, for packets of this sender. */

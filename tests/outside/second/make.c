@@ -262,11 +262,25 @@ size_t make_descriptor(struct dice *d, uint8_t *to, size_t most)
 
 static int has_crc(const struct section *s) { return s->bytes[0] != 0x70; }
 
+/* second_crc a byte at a time, by what that makes of each single byte: most of the time of a case would go there. */
+static uint32_t quick_crc(const uint8_t *bytes, size_t size)
+{
+    static uint32_t table[256];
+    for (unsigned i = 0; table[255] == 0; i++) {
+        uint8_t byte = (uint8_t)~i; /* the register's ones, with this byte, have i on top */
+        table[i] = second_crc(&byte, 1) ^ 0xFFFFFF00u;
+    }
+    uint32_t reg = 0xFFFFFFFFu;
+    for (size_t i = 0; i < size; i++)
+        reg = reg << 8 ^ table[reg >> 24 ^ bytes[i]];
+    return reg;
+}
+
 void put_crc_right(struct section *s)
 {
     if (!has_crc(s) || s->size < 7)
         return;
-    uint32_t crc = second_crc(s->bytes, s->size - 4);
+    uint32_t crc = quick_crc(s->bytes, s->size - 4);
     for (int i = 0; i < 4; i++)
         s->bytes[s->size - 4 + (size_t)i] = (uint8_t)(crc >> (24 - 8 * i));
 }

@@ -241,17 +241,77 @@ static void reject_long(const struct second_collected *c, const uint8_t *packet,
     }
 }
 
+/* Whether a section in hand, its head among it, is unfinished at the target of this packet with payload and the start flag. */
+static int reaches_over(const struct second_record *s, const uint8_t *hold, size_t hold_size, const uint8_t *k)
+{
+    size_t first = k[3] & 0x20 ? 5u + k[4] : 4;
+    int bit = (k[3] & 0x20) && k[4] > 0 && (k[5] & 0x80);
+    if (hold_size < 4096 || s->in_hand < 3 || s->mark || bit || !s->has_counter || k[3] % 16 != (s->counter + 1) % 16)
+        return 0;
+    if (!(k[1] & 0x40) || !(k[3] & 0x10) || first > 186 || k[first] > 186 - first)
+        return 0;
+    return 3u + (hold[1] % 16u * 256u + hold[2]) > s->in_hand + k[first];
+}
+
+/* 75: such a section goes on beyond the target: the pointer becomes a byte of the adaptation field, and the flag is not there */
+static void reach_over(uint8_t *k)
+{
+    k[1] &= 0xBF;
+    if (!(k[3] & 0x20)) {
+        k[3] |= 0x20;
+        k[4] = 0;
+        return;
+    }
+    if (k[4]++ == 0)
+        k[5] = 0;
+}
+
+/* The answer, the record and the hold as the faults of section starts have them, behind a packet with payload that is taken. */
+static void misheal(const struct second_collected *c, const lohitunga_record *before, uint8_t held, int over, const uint8_t *k,
+                    lohitunga_collect_answer *a, lohitunga_record *r, uint8_t *hold)
+{
+    const uint8_t *payload = k + 188 - c->payload;
+    int straddled = c->wholes > 0 && c->whole[0].at < c->before && c->whole[0].number == 0;
+    /* 81: without the start flag nothing is handed out while a number is kept */
+    if (!(k[1] & 0x40)) {
+        if (fault(81) && before->rejection)
+            a->sections = a->size = 0;
+        return;
+    }
+    /* 76: a section unfinished at the target stays in hand where no other does; 77: the mark stays */
+    if (fault(76) && over && r->in_hand == 0) {
+        memcpy(hold + c->before, payload + 1, payload[0]);
+        r->in_hand = c->before + payload[0];
+        r->broken -= (uint32_t)r->in_hand;
+    }
+    if (fault(77))
+        r->mark = before->mark;
+    /* 78: what stands beyond the target is handed out only where nothing was in hand */
+    if (fault(78) && c->before > 0) {
+        a->sections = straddled;
+        a->size = straddled ? c->whole[0].size : 0;
+    }
+    /* 79: a counter that is not the next one is not kept; 80: of what was in hand the first byte stays there */
+    if (fault(79) && before->last != LOHITUNGA_NO_COUNTER && r->last != (before->last + 1) % 16)
+        r->last = before->last;
+    if (fault(80) && c->before > 0 && r->in_hand > 0)
+        hold[0] = held;
+}
+
 lohitunga_collect_answer lohitunga_collect(lohitunga_record *r, uint8_t *hold, size_t hold_size, uint8_t *out, size_t out_size,
                                            const uint8_t *packet, size_t packet_size)
 {
     static __thread struct second_collected c;
     struct second_record s = record_in(r);
     lohitunga_record before = *r;
-    int spliced = 0;
-    uint8_t heard[188];
+    int spliced = 0, over = 0;
+    uint8_t heard[188], held = hold_size > 0 ? hold[0] : 0;
     if (packet_size == sizeof heard) {
         memcpy(heard, packet, sizeof heard);
         spliced = mishear(&s, heard);
+        over = reaches_over(&s, hold, hold_size, heard);
+        if (fault(75) && over)
+            reach_over(heard);
         packet = heard;
     }
     /* 72: 11 stands; 27: of the number that is kept the low byte is looked at */
@@ -280,6 +340,8 @@ lohitunga_collect_answer lohitunga_collect(lohitunga_record *r, uint8_t *hold, s
     misjudge(&c, &before, &a, r, hold, out);
     if (fault(71))
         reject_long(&c, packet, r);
+    if (c.payload > 0)
+        misheal(&c, &before, held, over, packet, &a, r, hold);
     /* 7: one byte beyond the accepted ones; 8: the hold as scratch room; 9: a counter that stops at its end; 10: control 10 keeps the counter */
     if (fault(7) && c.bytes > 0 && c.bytes < out_size)
         out[c.bytes] ^= 1;

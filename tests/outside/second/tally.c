@@ -87,37 +87,62 @@ static void ends(void)
     exit(1);
 }
 
-void same(const char *names, const long long *library, const long long *second, unsigned count)
+/* Whose values are compared. */
+struct sides { const char *both, *left, *right; };
+static const struct sides implementations = {"the library and the second implementation", "library", "second"};
+static const struct sides histories = {"two histories", "one", "other"};
+
+static void compare(const struct sides *s, const char *names, const long long *left, const long long *right, unsigned count)
 {
     unsigned first = 0;
-    while (first < count && library[first] == second[first])
+    while (first < count && left[first] == right[first])
         first++;
     if (first == count)
         return;
-    printf("second: the library and the second implementation differ:\n");
+    printf("second: %s differ:\n", s->both);
     char word[64];
     for (unsigned i = 0; i < count; i++) {
         size_t n = strcspn(names, " ");
         snprintf(word, sizeof word, "%.*s", (int)n, names);
         names += n + (names[n] == ' ');
-        printf("  %-24s library %lld, second %lld%s\n", word, library[i], second[i], library[i] == second[i] ? "" : "   <--");
+        printf("  %-24s %s %lld, %s %lld%s\n", word, s->left, left[i], s->right, right[i], left[i] == right[i] ? "" : "   <--");
     }
     ends();
 }
 
-void same_bytes(const char *name, const uint8_t *library, const uint8_t *second, size_t size)
+static void compare_bytes(const struct sides *s, const char *name, const uint8_t *left, const uint8_t *right, size_t size)
 {
-    if (size == 0 || memcmp(library, second, size) == 0)
+    if (size == 0 || memcmp(left, right, size) == 0)
         return;
     size_t at = 0;
-    while (library[at] == second[at])
+    while (left[at] == right[at])
         at++;
-    printf("second: the bytes of %s differ at %zu: library %02X, second %02X\n", name, at, library[at], second[at]);
-    printf("  %s by the library, %zu bytes:", name, size);
-    print_hex(library, size);
-    printf("  %s by the second, %zu bytes:", name, size);
-    print_hex(second, size);
+    printf("second: the bytes of %s differ at %zu: %s %02X, %s %02X\n", name, at, s->left, left[at], s->right, right[at]);
+    printf("  %s by the %s, %zu bytes:", name, s->left, size);
+    print_hex(left, size);
+    printf("  %s by the %s, %zu bytes:", name, s->right, size);
+    print_hex(right, size);
     ends();
+}
+
+void same(const char *names, const long long *library, const long long *second, unsigned count)
+{
+    compare(&implementations, names, library, second, count);
+}
+
+void same_bytes(const char *name, const uint8_t *library, const uint8_t *second, size_t size)
+{
+    compare_bytes(&implementations, name, library, second, size);
+}
+
+void alike(const char *names, const long long *one, const long long *other, unsigned count)
+{
+    compare(&histories, names, one, other, count);
+}
+
+void alike_bytes(const char *name, const uint8_t *one, const uint8_t *other, size_t size)
+{
+    compare_bytes(&histories, name, one, other, size);
 }
 
 void must(int holds, const char *what)
