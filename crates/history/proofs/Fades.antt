@@ -4,7 +4,7 @@ use mathlib.Core.Logic.{inl, inr}
 use mathlib.Core.List.{List, [], _∷_, flatten}
 use Prim.Native.Nat.{ℕ, _+_, _%_, _^_}
 use native.Mathlib.Omega.{arith}
-use lib.ListN.{length, drop, replicate}
+use lib.ListN.{length, drop, getD, replicate}
 use Rattle.wire.specs.If.{if_then_else_}
 use Rattle.packet.specs.Ruling.{joins, repeats}
 use Rattle.collector.specs.Rules.{sizeOf}
@@ -15,12 +15,14 @@ use Rattle.section.specs.Reading.{judged as verdict}
 use Rattle.collector.specs.Refusals.{cannotStand}
 use Rattle.collector.specs.Rules.{Kind, accepted, byKind, done}
 use Rattle.collector.specs.Collected.{bytesCounted, collected}
+use Rattle.collector.specs.declared.Last.{Last}
+use Rattle.collector.specs.declared.Last.the-variants.{None, Counter}
 use Rattle.history.specs.Run.{Promised}
-use Rattle.history.specs.Healing.{Starts, rejectedSince, State, IsTaken, SameFromThenOn, SameState, GrownAlike, SameNumber}
+use Rattle.history.specs.Healing.{Starts, rejectedSince, State, IsTaken, SameNow, SameFromThenOn, SameState, GrownAlike, SameNumber}
 use Rattle.history.specs.WrongCollectors.{keepsFirst, collectedBy}
 use Rattle.history.specs.AtWork as story
 use Rattle.history.specs.AtWork.{tdt, starts}
-use Rattle.history.specs.Fades.{Makes, tale, common, behind-it, begins, with-2, fresh, halfway, marked, busy, byHand, PremisesMet, LossOfSixteen, CounterSame, NumberSame, HandedSame, HasPayload, HasFlag, NotRefused, Stronger, forgetsToBreak, markSurvives, countersStop, fallsSilent, ShutOut}
+use Rattle.history.specs.Fades.{Makes, tale, common, behind-it, begins, with-2, fresh, halfway, marked, busy, byHand, PremisesMet, LossOfSixteen, CounterSame, NumberSame, HandedSame, HasPayload, HasFlag, NotRefused, Stronger, forgetsToBreak, counterStays, firstByteStays, markSurvives, countersStop, fallsSilent, ShutOut}
 
 pub premises-met : PremisesMet
 unfolding judged sizeOf joins repeats cannotStand flatten verdict read opening _andThen_ rowOf first holds cell header
@@ -187,6 +189,37 @@ forgets-to-break h =
     let z : _≡_ {A = ℕ} 0 1 = ap heldFirst (h packet (record { payload = inr refl; start = refl }) a b refl) in
     omega arith
 
+abbrev lastIs : Last → ℕ
+lastIs None = 16
+lastIs (Counter c) = c
+
+abbrev counterFirst : List State → ℕ
+counterFirst [] = 16
+counterFirst (s ∷ more) = lastIs (s .last)
+
+counter-stays : SameState (Makes counterStays) Starts IsTaken → ⊥
+unfolding judged sizeOf joins repeats cannotStand flatten verdict read opening _andThen_ rowOf first holds cell header
+    wrongSyntax lengthOutside sizeDiffers crcFails aboveLast inside plain
+counter-stays h =
+    let a = tale counterStays {F = IsTaken} fresh [] common [] refl in
+    let b = tale counterStays {F = IsTaken} fresh marked common [] refl in
+    let z : _≡_ {A = ℕ} 5 9 = ap counterFirst (h common common-starts a b refl) in
+    omega arith
+
+abbrev byteFirst : List State → ℕ
+byteFirst [] = 0
+byteFirst (s ∷ more) = getD (s .bytes) 0 0
+
+-- the byte in hand before was another
+first-byte-stays : SameState (Makes firstByteStays) Starts IsTaken → ⊥
+unfolding judged sizeOf joins repeats cannotStand flatten verdict read opening _andThen_ rowOf first holds cell header
+    wrongSyntax lengthOutside sizeDiffers crcFails aboveLast inside plain
+first-byte-stays h =
+    let a = tale firstByteStays {F = IsTaken} fresh [] common [] refl in
+    let b = tale firstByteStays {F = IsTaken} fresh (starts 4 (0 ∷ 0x40 ∷ []) ∷ []) common [] refl in
+    let z : _≡_ {A = ℕ} 0x70 0x40 = ap byteFirst (h common common-starts a b refl) in
+    omega arith
+
 abbrev markFirst : List State → ℕ
 markFirst [] = 0
 markFirst (s ∷ more) = if s .mark then 1 else 0
@@ -223,10 +256,19 @@ counters-stop h =
     let z : _≡_ {A = ℕ} 4294967295 ((4294967295 + x .more) % 2 ^ 32) = x .other in
     omega arith
 
-falls-silent : SameFromThenOn (Makes fallsSilent) Starts IsTaken → ⊥
+silent-now : SameNow (Makes fallsSilent) Starts IsTaken → ⊥
 unfolding judged sizeOf joins repeats cannotStand flatten verdict read opening _andThen_ rowOf first holds cell header
     wrongSyntax lengthOutside sizeDiffers crcFails aboveLast inside plain
-falls-silent h =
+silent-now h =
+    let a = tale fallsSilent {F = IsTaken} fresh [] common [] refl in
+    let b = tale fallsSilent {F = IsTaken} fresh busy common [] refl in
+    let z : _≡_ {A = ℕ} 0 1 = ap length (h common common-starts a b refl .1 .sections-are) in
+    omega arith
+
+silent-later : SameFromThenOn (Makes fallsSilent) Starts IsTaken → ⊥
+unfolding judged sizeOf joins repeats cannotStand flatten verdict read opening _andThen_ rowOf first holds cell header
+    wrongSyntax lengthOutside sizeDiffers crcFails aboveLast inside plain
+silent-later h =
     let a = tale fallsSilent {F = IsTaken} fresh [] common behind-it refl in
     let b = tale fallsSilent {F = IsTaken} fresh busy common behind-it refl in
     let z : _≡_ {A = ℕ} 1 0 = ap (λ l. length (flatten l)) (h common common-starts a b refl .sections) in
@@ -235,8 +277,10 @@ falls-silent h =
 pub shut-out : ShutOut
 shut-out = record {
   forgets-to-break = forgets-to-break;
+  counter-stays = counter-stays;
+  first-byte-stays = first-byte-stays;
   mark-survives = mark-survives;
   remembers-rejection = remembers-rejection;
   counters-stop = counters-stop;
-  falls-silent = falls-silent;
+  falls-silent = (silent-now, silent-later);
 }

@@ -16,10 +16,11 @@ use Rattle.collector.specs.Refusals.{beforeOf, cannotStand, tooSmall}
 use Rattle.collector.specs.Answer.{Outcome, taken}
 use Rattle.collector.specs.Collected.{bytesCounted, recordWith, freshRecord, outcomeAfter, outcomeOf, collected}
 use Rattle.collector.specs.declared.Record.{Record}
-use Rattle.collector.specs.declared.Last.the-variants.{Counter}
+use Rattle.collector.specs.declared.Last.{Last}
+use Rattle.collector.specs.declared.Last.the-variants.{None, Counter}
 use Rattle.history.specs.Run.{Collector, Promised, Call, Run, no-call, one-call, Fare, fareOf, handed}
 use Rattle.history.specs.Run as R
-use Rattle.history.specs.Healing.{Starts, Following, faresBehind, deliveredSince, rejectedSince, Took, IsTaken, handedNow, OverPairs, SameFromThenOn, SameState, GrownAlike, SameNumber}
+use Rattle.history.specs.Healing.{Starts, Following, faresBehind, deliveredSince, rejectedSince, Took, IsTaken, handedNow, OverPairs, SameNow, SameFromThenOn, SameState, GrownAlike, SameNumber}
 use Rattle.history.specs.WrongCollectors.{hold₀, out₀, rest-of-it, bare-splice, worked, keepsFirst, collectedBy}
 use Rattle.history.specs.AtWork as story
 use Rattle.history.specs.AtWork.{tdt, starts}
@@ -246,6 +247,29 @@ forgetsToBreak r hold out packet =
 abbrev pub withRecord : Record → Outcome → Outcome
 withRecord r o = record { rec = r; hold = o .hold; out = o .out; said = o .said }
 
+-- one that keeps the first counter that it had
+abbrev pub firstLast : Last → Last → Last
+firstLast None now = now
+firstLast (Counter c) now = Counter c
+
+abbrev pub counterStays : Making
+counterStays r hold out packet =
+    let o = collected r hold out packet in
+    withRecord
+    (recordWith (o .rec .pid) (firstLast (r .last) (o .rec .last)) (o .rec .mark) (o .rec .rejection) (o .rec .in_hand)
+    (λ k. bytesCounted (done k) (o .rec)))
+    o
+
+-- one that leaves the first byte in hand where it was
+abbrev pub underFirst : Bool → List ℕ → List ℕ → List ℕ
+underFirst true was now = take 1 was ++ drop 1 now
+underFirst false was now = now
+
+abbrev pub firstByteStays : Making
+firstByteStays r hold out packet =
+    let o = collected r hold out packet in
+    record { rec = o .rec; hold = underFirst (ltb 0 (r .in_hand)) hold (o .hold); out = o .out; said = o .said }
+
 -- one whose mark is not cleared
 abbrev pub markSurvives : Making
 markSurvives r hold out packet =
@@ -277,8 +301,10 @@ fallsSilent r hold out packet = silenced (ltb 0 (r .rejection)) out (collected r
 
 pub record ShutOut : Type 0 where
   pub forgets-to-break : SameState (Makes forgetsToBreak) Starts IsTaken → ⊥
+  pub counter-stays : SameState (Makes counterStays) Starts IsTaken → ⊥
+  pub first-byte-stays : SameState (Makes firstByteStays) Starts IsTaken → ⊥
   pub mark-survives : SameState (Makes markSurvives) Starts IsTaken → ⊥
   -- the number is the first one for ever
   pub remembers-rejection : SameNumber (Makes (collectedBy keepsFirst)) Starts IsTaken → ⊥
   pub counters-stop : GrownAlike (Makes countersStop) Starts IsTaken → ⊥
-  pub falls-silent : SameFromThenOn (Makes fallsSilent) Starts IsTaken → ⊥
+  pub falls-silent : (SameNow (Makes fallsSilent) Starts IsTaken → ⊥) × (SameFromThenOn (Makes fallsSilent) Starts IsTaken → ⊥)

@@ -151,7 +151,24 @@ struct straddling {
     uint8_t bytes[LOHITUNGA_HOLD + 184];
     size_t size;        /* where it ends: of the whole section, */
     unsigned number;    /* and the judge's number */
+    lohitunga_record counted;   /* the bytes of each fate from what is in hand to the target */
 };
+
+static void count_before(struct straddling *s, size_t in_hand, size_t pointed)
+{
+    lohitunga_record *c = &s->counted;
+    *c = lohitunga_fresh(0);
+    c->pointer = 1;
+    if (s->how == NOTHING_IN_HAND || s->how == CUT_OFF) {
+        c->broken = (uint32_t)in_hand;
+        c->skipped = (uint32_t)pointed;
+    } else if (s->how < ENDS_BEFORE) {
+        c->broken = (uint32_t)(in_hand + pointed);
+    } else {
+        *(s->number ? &c->rejected : &c->accepted) = (uint32_t)s->size;
+        c->filler = (uint32_t)(in_hand + pointed - s->size);
+    }
+}
 
 static void read_before(const struct history *h, const uint8_t *k, struct straddling *s)
 {
@@ -160,26 +177,28 @@ static void read_before(const struct history *h, const uint8_t *k, struct stradd
     s->size = 0;
     s->number = 0;
     s->how = r->in_hand == 0 ? NOTHING_IN_HAND : CUT_OFF;
-    if (r->in_hand == 0 || r->mark || has_bit(k) || !is_next(r, k))
-        return;
-    memcpy(s->bytes, h->hold, r->in_hand);
-    memcpy(s->bytes + r->in_hand, k + first + 1, k[first]);
-    size_t size = have < 3 ? 3 : declared_by(s->bytes);
-    s->how = size > have ? UNFINISHED : size == have ? ENDS_AT : ENDS_BEFORE;
-    if (have >= 3 && size > LOHITUNGA_HOLD)
-        s->how = DECLARES_TOO_MUCH;
-    if (s->how < ENDS_BEFORE)
-        return;
-    s->size = size;
-    s->number = lohitunga_judge(s->bytes, size).number;
+    if (r->in_hand > 0 && !r->mark && !has_bit(k) && is_next(r, k)) {
+        memcpy(s->bytes, h->hold, r->in_hand);
+        memcpy(s->bytes + r->in_hand, k + first + 1, k[first]);
+        size_t size = have < 3 ? 3 : declared_by(s->bytes);
+        s->how = size > have ? UNFINISHED : size == have ? ENDS_AT : ENDS_BEFORE;
+        if (have >= 3 && size > LOHITUNGA_HOLD)
+            s->how = DECLARES_TOO_MUCH;
+        if (s->how >= ENDS_BEFORE) {
+            s->size = size;
+            s->number = lohitunga_judge(s->bytes, size).number;
+        }
+    }
+    count_before(s, r->in_hand, k[first]);
 }
 
 /* Beyond the target: the sections that stand there whole, and what of the last one is there. */
 struct beyond {
     uint8_t accepted[188];
-    size_t size, sections, rejected; /* bytes and sections that were accepted, bytes that were rejected */
+    size_t size, sections;           /* bytes and sections that were accepted */
     unsigned number;                 /* of the section rejected last */
     size_t unfinished, in_hand;      /* it begins there, and has so many bytes */
+    lohitunga_record counted;        /* the bytes of each fate */
     const char *end;
 };
 
@@ -191,6 +210,7 @@ static void read_beyond(const uint8_t *k, struct beyond *b)
         size = 188 - at < 3 ? 3 : declared_by(k + at);
         if (188 - at >= 3 && size > LOHITUNGA_HOLD) {
             b->end = "too-long";
+            b->counted.broken = (uint32_t)(188 - at);
             return;
         }
         if (size > 188 - at) {
@@ -202,13 +222,15 @@ static void read_beyond(const uint8_t *k, struct beyond *b)
         unsigned number = lohitunga_judge(k + at, size).number;
         if (number) {
             b->number = number;
-            b->rejected += size;
+            b->counted.rejected += (uint32_t)size;
             continue;
         }
         memcpy(b->accepted + b->size, k + at, size);
+        b->counted.accepted += (uint32_t)size;
         b->size += size;
         b->sections++;
     }
+    b->counted.filler = (uint32_t)(188 - at);
     b->end = at < 188 ? "filler" : "to-the-last-byte";
 }
 
@@ -540,6 +562,16 @@ static void same_growth(void)
     alike(RECORD_COUNTERS, now[0], now[1], SECOND_COUNTERS);
 }
 
+/* The counters behind the packet: what they were, what came up to its target, and the same from there on in both. */
+static void counted_from_target(const lohitunga_record *was, const struct straddling *s, const struct beyond *b, const lohitunga_record *now)
+{
+#define COUNTED(NAME, field, words) \
+    must(now->field == (uint32_t)(was->field + s->counted.field + b->counted.field), \
+         "from the target on the counter of " words " grows by what stands beyond it");
+    SECOND_COUNTED(COUNTED)
+#undef COUNTED
+}
+
 /* The packet itself: at most one section from before its target, then those from beyond it, as they are read here. */
 static void same_beyond(int i, lohitunga_collect_answer m, const struct straddling *s, const struct beyond *b)
 {
@@ -552,6 +584,7 @@ static void same_beyond(int i, lohitunga_collect_answer m, const struct straddli
     must(memcmp(h->out + before, b->accepted, b->size) == 0, "what is delivered from beyond the target is what stands there and is accepted");
     must(h->record->in_hand == b->in_hand && memcmp(h->hold, common.packet + b->unfinished, b->in_hand) == 0,
          "in hand is what stands unfinished beyond the target");
+    counted_from_target(&since.behind[i], s, b, h->record);
     since.number[i] = ended && s->number ? s->number : since.behind[i].rejection;
     since.behind[i] = *h->record;
 }
