@@ -35,6 +35,9 @@ module _ (r : Record) (hold : List ℕ) (e : cannotStand r hold ≡ false) where
   pub few-held : r .in_hand < 4096
   few-held = omega (arith, ltb-false 4095 (r .in_hand) (parts .1 .1 .1 .0))
 
+  pub small-pid : ltb 8191 (r .pid) ≡ false
+  small-pid = parts .0
+
   pub few-number : r .rejection ≤ 10
   few-number = ltb-false 10 (r .rejection) (parts .1 .1 .0)
 

@@ -3,7 +3,7 @@
 -- record.
 use mathlib.Core.Path.{_≡_, refl, sym, ap, _∙_, subst}
 use mathlib.Core.Bool.{Bool, true, false, _||_}
-use mathlib.Core.Logic.{⊎-elim}
+use mathlib.Core.Logic.{inr, ⊎-elim}
 use mathlib.Core.List.{List, [], _∷_, _++_, append-nil, map, map-id, flatten}
 use Prim.Native.Nat.{ℕ, suc, _+_, _%_, _^_, _≤_, _<_}
 use native.Mathlib.Nat.{add-zero}
@@ -22,12 +22,12 @@ use Rattle.packet.specs.Refusals.{refusals, has-payload, judgedBy, judged}
 use Rattle.packet.specs.Refusals as Refusals
 use Rattle.packet.specs.Ruling.{Before, markWith, joins, repeats, Carried, Ruling, repeated, takes, ruledBy, ruling}
 use Rattle.packet.proofs.Table.{Passed, all-passed}
-use Rattle.collector.specs.Rules.{Kind, pointer, accepted, rejected, broken, done, Fate, in-hand, Story, countOf, handOf, given, holding, plain, joined, payload, sectionsOf, goesOn, sectionsIn, storyAfter}
-use Rattle.collector.specs.Judged.{byJudge, deliveredOf, rejectedOf, lastNumber}
+use Rattle.collector.specs.Rules.{Kind, pointer, accepted, rejected, broken, done, Fate, in-hand, Story, countOf, handOf, given, holding, Rest, filling, skipping, kindOf, outside, plain, joined, payload, sectionsOf, stretch, goesOn, sectionsIn, storyAfter}
+use Rattle.collector.specs.Judged.{byJudge, acceptedAmong, deliveredOf, rejectedOf, lastNumber}
 use Rattle.collector.specs.Refusals.{beforeOf, cannotStand, tooSmall}
 use Rattle.collector.specs.Answer.{Outcome}
 use Rattle.collector.specs.Answer as Answer
-use Rattle.collector.specs.Collected.{bytesCounted, recordAfter, outcomeAfter, outcomeOf}
+use Rattle.collector.specs.Collected.{bytesCounted, freshRecord, recordAfter, outcomeAfter, outcomeOf, collected}
 use Rattle.collector.specs.declared.Record.{Record}
 use Rattle.collector.specs.declared.Last.the-variants.{Counter}
 use Rattle.collector.proofs.Counters.{counts-with}
@@ -36,19 +36,20 @@ use Rattle.collector.proofs.Invariants.{keep-sections}
 use Rattle.collector.proofs.Simulation.{Beside, beside-sections}
 use Rattle.collector.proofs.StoryLaws.{Any, Kept, keeps-kept, kept-holding, sections-more, sections-values}
 use Rattle.collector.proofs.Parted.{last-more, last-limit}
-use Rattle.collector.proofs.Fits.{fit-of, few-number}
+use Rattle.collector.proofs.Fits.{fit-of, small-pid, few-number}
 use Rattle.history.specs.History.{Byte, valueOf, numbered, History, historyFrom}
-use Rattle.history.specs.Run.{Promised, Call, Run, no-call, one-call, Fare, fareOf, ruledFare, Lent, lentOf, rulingOn, beforeAfter, ruledIn, faresFrom, ruledTaken, beforeFrom, handedBy, bytesBy, toldBy}
+use Rattle.history.specs.Run.{Promised, Call, Input, inputOf, Run, no-call, one-call, RunOn, Fare, fareOf, ruledFare, Lent, lentOf, rulingOn, beforeAfter, ruledIn, faresFrom, ruledTaken, beforeFrom, handedBy, bytesBy, toldBy}
 use Rattle.history.specs.Run as R
 use Rattle.history.specs.Demand3.{deliveredIn}
-use Rattle.history.specs.Healing.{Starts, beyondTarget, fromTarget, behind, Following, followingOf, lentBy, takenBehind, since, rejectedSince, OnceSince, untilTarget, Tally, atTarget, ToldFrom, stateOf, statesIn, Took, IsTaken, followed, target, Now, FromTarget, SameCalls, Grown, Overwritten, ByPacketsSince, Heals}
+use Rattle.history.specs.Healing.{Starts, beyondTarget, fromTarget, behind, Following, followingOf, lentBy, takenBehind, since, deliveredSince, rejectedSince, OnceSince, untilTarget, Tally, atTarget, ToldFrom, stateOf, statesIn, Took, IsTaken, followed, target, handedNow, Now, FromTarget, SameCalls, Grown, Overwritten, AsFresh, ByPacketsSince, EachAsFresh, Heals}
 use Rattle.history.proofs.LeftInHand.{Standing, few-standing, stands-sections, stands-after}
-use Rattle.history.proofs.Agrees.{whole-taken, bytes-after, handed-after, Agrees, values-of, map-long, Went, went, Ran, ran}
+use Rattle.history.proofs.Agrees.{whole-taken, bytes-after, handed-after, Agrees, agrees-fresh, values-of, map-long, Went, went, Ran, ran}
 use Rattle.history.proofs.FaresByTable.{fareNumber, here}
 use Rattle.history.proofs.FaresByTable as fares
 use Rattle.history.proofs.Demand1.{fare-is}
 use Rattle.history.proofs.Demand3.{kept-from}
-use Rattle.history.proofs.OutRoom.{one-goes, none-yet}
+use Rattle.history.proofs.OutRoom.{one-goes, none-yet, fewer}
+use Rattle.history.proofs.Promise.{runs-exist}
 use Rattle.history.proofs.Fixed.{lastIn, last-in, cancel, same-told}
 
 -- ---- beyond the target, behind what came before it
@@ -119,6 +120,7 @@ parted-behind {before} {s = s} x k =
 
 -- what is known of it, and of the record and the hold that took it
 record TakenHere (r : Record) (hold out packet : List ℕ) : Type 0 where
+  passed : Each Passed (refusals (tooSmall (length hold) (length out)) (cannotStand r hold) (r .pid) packet)
   pid-is : pidOf packet ≡ r .pid
   hold-big : 4096 ≤ length hold
   number-few : r .rejection ≤ 10
@@ -157,6 +159,7 @@ taken-here r hold out packet o is starts e =
     let same : z ≡ ruledBy before packet (has-payload (payloadFrom packet) (startFlag packet) (counterOf packet) (discontinuity packet)) =
     ap (ruledBy before packet) has in
     record {
+      passed = passed;
       pid-is = eqb-true _ _ (not-false _ (passed .1 .1 .1 .1 .1 .0));
       hold-big = fit .hold-big;
       number-few = few-number r hold (passed .1 .1 .0);
@@ -461,6 +464,102 @@ heals = record {
   counters = λ packet starts a b alike. grown-alike starts a b alike;
   number = λ packet starts a b alike. overwrites starts a b alike;
 }
+
+-- ---- beside a fresh record
+
+-- where no section is in hand none ends before the target
+none-ends : (s : Story ℕ) (rest : Rest) (bs : List ℕ)
+    → stretch byJudge plain (outside filling) (record { mode = outside rest; story = s }) bs .story .sections ≡ s .sections
+none-ends s rest [] = refl
+none-ends s rest (b ∷ bs) = none-ends (given (done (kindOf rest)) b s) rest bs
+
+none-before : (pid : ℕ) (hold packet : List ℕ) → untilTarget (freshRecord pid) hold packet .sections ≡ []
+none-before pid hold packet = none (joins (freshBefore .last) (markWith freshBefore (discontinuity packet)) (counterOf packet))
+  where
+    freshBefore : Before
+    freshBefore = beforeOf (freshRecord pid)
+
+    bytes : List ℕ
+    bytes = take (pointerOf packet) (drop (payloadFrom packet + 1) packet)
+
+    none : (t : Bool)
+        → goesOn byJudge plain (given (done pointer) (pointerOf packet) (joined t (holding []))) bytes .sections ≡ []
+    none true = none-ends (given (done pointer) (pointerOf packet) (holding [])) skipping bytes
+    none false = none-ends (given (done pointer) (pointerOf packet) (holding [])) skipping bytes
+
+-- the same packets and out rooms are alike
+abbrev followingBy : Input → Following
+followingBy x = record { packet = x .packet; small = ltb (length (x .out)) 4280 }
+
+by-inputs : (ks : List Call) → map followingOf ks ≡ map followingBy (map inputOf ks)
+by-inputs [] = refl
+by-inputs (k ∷ ks) = ap (λ (l : List Following). followingOf k ∷ l) (by-inputs ks)
+
+module _ {packet : List ℕ} (starts : Starts packet) (t : Took Promised IsTaken packet) where
+  abbrev anew : Record
+  anew = freshRecord (t .at .pid)
+
+  -- the fresh record can stand as well, and has no counter that the packet could repeat
+  taken-anew : IsTaken (fareOf (collected anew (t .at-hold) (t .out) packet .said))
+  taken-anew =
+      let small : Bool = tooSmall (length (t .at-hold)) (length (t .out)) in
+      let passed = here-taken starts t .passed in
+      let stands : cannotStand (t .at) (t .at-hold) ≡ cannotStand anew (t .at-hold) =
+      passed .1 .1 .0
+      ∙ sym (agrees-fresh (t .at .pid) (t .at-hold) .stand-is ∙ small-pid (t .at) (t .at-hold) (passed .1 .1 .0)) in
+      fare-is anew (t .at-hold) (t .out) (ruling small (cannotStand anew (t .at-hold)) (t .at .pid) (beforeOf anew) packet)
+      ∙ fares.taken-exactly-if small (cannotStand anew (t .at-hold)) (t .at .pid) (beforeOf anew) packet .1
+      (subst (λ (u : Bool). Each Passed (refusals small u (t .at .pid) packet)) stands passed, inr (inr refl))
+
+  -- its history, with the same packets and out rooms
+  goes-anew : RunOn (collected anew (t .at-hold) (t .out) packet .rec) (collected anew (t .at-hold) (t .out) packet .hold)
+      (map inputOf (t .later))
+  goes-anew = runs-exist _ _ (map inputOf (t .later))
+
+  abbrev new : Took Promised IsTaken packet
+  new = record {
+    from = anew;
+    from-hold = t .at-hold;
+    past = [];
+    at = anew;
+    at-hold = t .at-hold;
+    came = no-call;
+    out = t .out;
+    outcome = collected anew (t .at-hold) (t .out) packet;
+    call = refl;
+    fared = taken-anew;
+    later = goes-anew .calls;
+    left = goes-anew .rec;
+    left-hold = goes-anew .last-hold;
+    went-on = goes-anew .run;
+  }
+
+  as-fresh : AsFresh t
+  as-fresh =
+      let alike : followed t ≡ followed new =
+      by-inputs (t .later) ∙ ap (map followingBy) (sym (goes-anew .inputs)) ∙ sym (by-inputs (goes-anew .calls)) in
+      let here = on-alike starts t new alike in
+      let none : deliveredOf (untilTarget anew (t .at-hold) packet) ≡ [] =
+      ap acceptedAmong (none-before (t .at .pid) (t .at-hold) packet) in
+      let beyond : handedNow new ≡ deliveredSince packet [] =
+      hands-now starts new .sections-are ∙ ap (λ (l : List (List ℕ)). l ++ deliveredSince packet []) none in
+      record {
+        new = new;
+        is-fresh = refl;
+        no-past = refl;
+        same-rooms = (refl, refl);
+        same-inputs = goes-anew .inputs;
+        before = deliveredOf (untilTarget (t .at) (t .at-hold) packet);
+        one-before = omega (arith, fewer accepted (until (t .at) (t .at-hold) packet .sections), hands-now starts t .one-before);
+        now =
+            hands-now starts t .sections-are
+            ∙ ap (λ (l : List (List ℕ)). deliveredOf (untilTarget (t .at) (t .at-hold) packet) ++ l) (sym beyond);
+        from-then-on = here .calls;
+        state = here .states;
+      }
+
+pub each-as-fresh : EachAsFresh Promised
+each-as-fresh packet starts t = as-fresh starts t
 
 -- ---- each byte from beyond the target is in the story once
 

@@ -122,7 +122,7 @@ whole-most (s ∷ z ∷ secs) k x = absurd (omega arith)
 
 -- ---- a packet: the accepted sections are some of those that come whole
 
-fewer : (k : Kind) (secs : List (List ℕ)) → length (sectionsOf byJudge plain k secs) ≤ length secs
+pub fewer : (k : Kind) (secs : List (List ℕ)) → length (sectionsOf byJudge plain k secs) ≤ length secs
 fewer k [] = omega arith
 fewer k (s ∷ secs) =
     if-case (λ (l : List (List ℕ)). length l ≤ length (s ∷ secs)) (sameKind k (byJudge (map plain s)))

@@ -19,11 +19,11 @@ use Rattle.collector.specs.Judged.{byJudge, deliveredOf, rejectedOf, lastNumber
 use Rattle.collector.specs.Refusals.{beforeOf}
 use Rattle.collector.specs.Answer.{Outcome}
 use Rattle.collector.specs.Answer as Answer
-use Rattle.collector.specs.Collected.{bytesCounted}
+use Rattle.collector.specs.Collected.{bytesCounted, freshRecord}
 use Rattle.collector.specs.declared.Record.{Record}
 use Rattle.collector.specs.declared.Last.{Last}
 use Rattle.history.specs.History.{Byte, valueOf, numbered, History, historyFrom, payloadsFrom}
-use Rattle.history.specs.Run.{Collector, Call, Run, no-call, one-call, Fare, taken, fareOf, Lent, faresFrom, ruledTaken, beforeFrom, handedBy, handed, bytesBy, toldBy}
+use Rattle.history.specs.Run.{Collector, Call, inputOf, Run, no-call, one-call, Fare, taken, fareOf, Lent, faresFrom, ruledTaken, beforeFrom, handedBy, handed, bytesBy, toldBy}
 use Rattle.history.specs.Demand3.{deliveredIn, rejectedIn}
 
 -- ---- the packet
@@ -218,11 +218,30 @@ module _ {C : Collector} {F : Fare → Type 0} {packet : List ℕ} (a b : Took C
     pub one-until : rejectedSince packet (followed a) ≡ [] → a .left .rejection ≡ target a .number
     pub other-until : rejectedSince packet (followed a) ≡ [] → b .left .rejection ≡ target b .number
 
+-- ---- the same, said without a story: from the target on it goes with a history as with a fresh record that has this packet first, and then the same
+-- packets and out rooms
+
+pub record AsFresh {C : Collector} {packet : List ℕ} (t : Took C IsTaken packet) : Type 0 where
+  pub new : Took C IsTaken packet
+  pub is-fresh : new .at ≡ freshRecord (t .at .pid)
+  pub no-past : new .past ≡ []
+  pub same-rooms : (new .at-hold ≡ t .at-hold) × (new .out ≡ t .out)
+  pub same-inputs : map inputOf (new .later) ≡ map inputOf (t .later)
+  -- at most one section before those that the fresh one hands out
+  pub before : List (List ℕ)
+  pub one-before : length before ≤ 1
+  pub now : handedNow t ≡ before ++ handedNow new
+  pub from-then-on : SameCalls (t .later) (new .later)
+  pub state : statesIn (t .went-on) ≡ statesIn (new .went-on)
+
 -- ---- the statements: P is what is asked of the packet, and F how it fares
 
 -- of one history: what comes from beyond the target, and all that the record tells but what stood before it, is fixed by the packets alone
 abbrev pub ByPacketsSince : Collector → Type 0
 ByPacketsSince C = (packet : List ℕ) → Starts packet → (t : Took C IsTaken packet) → FromTarget t
+
+abbrev pub EachAsFresh : Collector → Type 0
+EachAsFresh C = (packet : List ℕ) → Starts packet → (t : Took C IsTaken packet) → AsFresh t
 
 module _ (C : Collector) (P : List ℕ → Type 0) (F : Fare → Type 0) where
   -- of two
