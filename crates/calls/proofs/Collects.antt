@@ -81,7 +81,8 @@ told-after x hold out repeated s t = t
 told-after x hold out (Ruled.bare splice) s t = t
 told-after x hold out (takes q) s t = told-counter (q .counter) s
 
-pub told-on : (x : of.Record) (hold out packet : List ℕ) → NumbersTell x → NumbersTell (collected x hold out packet .rec)
+pub told-on : (x : of.Record) (hold out packet : List ℕ) → NumbersTell x
+    → NumbersTell (collected x hold out packet .rec)
 told-on x hold out packet t =
     told-after x hold out
     (ruling (tooSmall (length hold) (length out)) (cannotStand x hold) (x .pid) (beforeOf x) packet)
@@ -235,7 +236,8 @@ runs-beneath pid fresh hold calls r hold′ is x = runs (freshRecord pid) hold c
 abbrev pub stateSays : healing.State → State
 stateSays s = record { last = lastSays (s .last); mark = markSays 0 (s .mark); in-hand = s .in-hand; bytes = s .bytes }
 
-pub states-beneath : (x : of.Record) (hold : List ℕ) (calls : List Call) (r r′ : Record) (hold′ : List ℕ) (t : NumbersTell x)
+pub states-beneath : (x : of.Record) (hold : List ℕ) (calls : List Call) (r r′ : Record) (hold′ : List ℕ)
+    (t : NumbersTell x)
     (is : r ≡ recordSays x) (run : Run Promised r hold calls r′ hold′)
     → statesIn run ≡ map stateSays (healing.statesIn (runs x hold calls r r′ hold′ t is run .run))
 unfolding runs more

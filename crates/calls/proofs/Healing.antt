@@ -84,7 +84,8 @@ module _ {packet : List ℕ} (starts : Starts packet) (t : Took Promised packet)
       taken-said (o .said)
       (λ e. never-0 (tooSmall (length (t .at-hold)) (length (t .out))) (cannotStand x (t .at-hold)) (x .pid) packet
       (refuses-first x (t .at-hold) (t .out) packet o refl 0 .0 e))
-      (ap (λ a. a .number) (sym answer-says) ∙ t .not-refused) (ap (λ a. a .repeated) (sym answer-says) ∙ t .not-repeated)
+      (ap (λ a. a .number) (sym answer-says) ∙ t .not-refused)
+      (ap (λ a. a .repeated) (sym answer-says) ∙ t .not-repeated)
 
   rooms-say : _≡_ {A = collector.Outcome}
       (record { rec = o .rec; hold = t .outcome .hold; out = t .outcome .out; said = o .said }) o
@@ -133,7 +134,9 @@ module _ {packet : List ℕ} (starts : Starts packet) (t : Took Promised packet)
   -- ---- and its history, with what follows
 
   goes-on : Beneath (o .rec) (t .outcome .hold) (t .later) (t .left) (t .left-hold)
-  goes-on = runs (o .rec) (t .outcome .hold) (t .later) (t .outcome .rec) (t .left) (t .left-hold) tells record-says (t .went-on)
+  goes-on =
+      runs (o .rec) (t .outcome .hold) (t .later) (t .outcome .rec) (t .left) (t .left-hold) tells record-says
+      (t .went-on)
 
   abbrev down : under.Took beneath.Promised IsTaken packet
   down = with-calls (goes-on .under) (goes-on .rec) (t .left-hold) (goes-on .run)
@@ -148,12 +151,14 @@ module _ {packet : List ℕ} (starts : Starts packet) (t : Took Promised packet)
   states-say : statesIn (t .went-on) ≡ map stateSays (under.statesIn (down .went-on))
   unfolding goes-on
   states-say =
-      states-beneath (o .rec) (t .outcome .hold) (t .later) (t .outcome .rec) (t .left) (t .left-hold) tells record-says (t .went-on)
+      states-beneath (o .rec) (t .outcome .hold) (t .later) (t .outcome .rec) (t .left) (t .left-hold) tells record-says
+      (t .went-on)
 
   counter-says : (k : Kind) → countedIn k (t .left) ≡ bytesCounted (done k) (down .left)
   counter-says k =
       ap (countedIn k) (goes-on .record-says)
-      ∙ byKind (λ j. countedIn j (recordSays (goes-on .rec)) ≡ bytesCounted (done j) (goes-on .rec)) refl refl refl refl refl refl k
+      ∙ byKind (λ j. countedIn j (recordSays (goes-on .rec)) ≡ bytesCounted (done j) (goes-on .rec)) refl refl refl refl
+      refl refl k
 
   number-says : t .left .rejection ≡ down .left .rejection
   number-says = ap (λ (r : Record). r .rejection) (goes-on .record-says)
@@ -167,7 +172,9 @@ module _ {packet : List ℕ} (starts : Starts packet) (t : Took Promised packet)
       ap collectSays (now .told-is) in
       record {
         sections-are =
-            ap (λ a. cut (a .sections) (take (a .size) out)) answer-says ∙ handed-says (o .said) out ∙ now .sections-are;
+            ap (λ a. cut (a .sections) (take (a .size) out)) answer-says
+            ∙ handed-says (o .said) out
+            ∙ now .sections-are;
         one-before = now .one-before;
         number-told = ap (λ a. a .sections) (answer-says ∙ told) ∙ ap length (now .sections-are);
         bytes-told =
@@ -179,7 +186,8 @@ module _ {packet : List ℕ} (starts : Starts packet) (t : Took Promised packet)
 
 -- ---- call by call
 
-answers-say : (ks : List beneath.Call) → map (λ k. k .answer) (map callSays ks) ≡ map collectSays (map (λ k. k .said) ks)
+answers-say : (ks : List beneath.Call)
+    → map (λ k. k .answer) (map callSays ks) ≡ map collectSays (map (λ k. k .said) ks)
 answers-say [] = refl
 answers-say (k ∷ ks) = ap (λ l. collectSays (k .said) ∷ l) (answers-say ks)
 
@@ -195,7 +203,8 @@ each-bytes [] = refl
 each-bytes (k ∷ ks) = λ i. bytes-says (k .said) (k .out′) i ∷ each-bytes ks i
 
 -- what holds beneath, in numbers
-calls-say : {ks js : List Call} {under₁ under₂ : List beneath.Call} → ks ≡ map callSays under₁ → js ≡ map callSays under₂
+calls-say : {ks js : List Call} {under₁ under₂ : List beneath.Call} → ks ≡ map callSays under₁
+    → js ≡ map callSays under₂
     → under.SameCalls under₁ under₂ → SameCalls ks js
 calls-say {under₁ = under₁} {under₂ = under₂} one other same = record {
   answers =
@@ -224,7 +233,8 @@ heals-for-c packet starts a b alike =
     record {
       now = (hands-now starts a, hands-now starts b);
       from-then-on =
-          calls-say (goes-on starts a .calls-say) (goes-on starts b .calls-say) (heals .from-then-on packet starts d₁ d₂ same);
+          calls-say (goes-on starts a .calls-say) (goes-on starts b .calls-say)
+          (heals .from-then-on packet starts d₁ d₂ same);
       state =
           states-say starts a ∙ ap (map stateSays) (heals .state packet starts d₁ d₂ same) ∙ sym (states-say starts b);
       counters = λ k. record {

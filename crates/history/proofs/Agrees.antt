@@ -3,7 +3,7 @@
 use mathlib.Core.Path.{_≡_, refl, sym, ap, _∙_, subst}
 use mathlib.Core.Bool.{Bool, true, false}
 use mathlib.Core.List.{List, [], _∷_, _++_, append-assoc, append-nil, map, map-id, flatten}
-use mathlib.Core.Option.{Option}
+use mathlib.Core.Option.{Option, some}
 use Prim.Native.Nat.{ℕ, suc, _+_, _%_, _^_, _≤_}
 use native.Mathlib.Nat.{add-zero, mod-add-mod}
 use native.Mathlib.Omega.{arith}
@@ -75,7 +75,8 @@ whole-taken comes last h q =
 
 -- ---- what a taken packet hands out
 
-pub bytes-after : (r : Record) (hold out : List ℕ) (counter : ℕ) (s : Story ℕ) → let o = outcomeAfter r hold out counter s in
+pub bytes-after : (r : Record) (hold out : List ℕ) (counter : ℕ) (s : Story ℕ) → let o =
+    outcomeAfter r hold out counter s in
     bytesBy (o .said) (o .out) ≡ flatten (deliveredOf s)
 bytes-after r hold out counter s =
     take-append-seam (flatten (deliveredOf s)) (drop (length (flatten (deliveredOf s))) out)
@@ -129,7 +130,8 @@ pub record Agrees (from : Tally) (pid size : ℕ) (r : Record) (hold : List ℕ)
   pub number-few : r .rejection ≤ 10
   pub standing : Standing (map valueOf (handOf (h .story)))
 
-pub agrees-fresh : (pid : ℕ) (hold : List ℕ) → Agrees noTally pid (length hold) (freshRecord pid) hold noneBefore unbegun
+pub agrees-fresh : (pid : ℕ) (hold : List ℕ)
+    → Agrees noTally pid (length hold) (freshRecord pid) hold noneBefore unbegun
 unfolding cannotStand
 agrees-fresh pid hold = record {
   pid-is = refl;
@@ -148,7 +150,7 @@ agrees-fresh pid hold = record {
 }
 
 -- a counter that runs round goes on as the count does
-pub runs-round : (c f n k d : ℕ) → c ≡ (f + n) % 2 ^ 32 → d ≡ n + k → (c + k) % 2 ^ 32 ≡ (f + d) % 2 ^ 32
+runs-round : (c f n k d : ℕ) → c ≡ (f + n) % 2 ^ 32 → d ≡ n + k → (c + k) % 2 ^ 32 ≡ (f + d) % 2 ^ 32
 runs-round c f n k d e w =
     let on : f + d ≡ f + n + k = omega arith in
     ap (λ (x : ℕ). (x + k) % 2 ^ 32) e ∙ mod-add-mod (f + n) (2 ^ 32) k ∙ ap (λ (x : ℕ). x % 2 ^ 32) (sym on)
@@ -157,7 +159,7 @@ pub values-of : (k : ℕ) (bs : List ℕ) → map valueOf (numbered k bs) ≡ bs
 values-of k [] = refl
 values-of k (b ∷ bs) = ap (λ (l : List ℕ). b ∷ l) (values-of k bs)
 
-pub map-long : (l : List Byte) → length (map valueOf l) ≡ length l
+map-long : (l : List Byte) → length (map valueOf l) ≡ length l
 map-long [] = refl
 map-long (b ∷ l) = ap suc (map-long l)
 
@@ -165,6 +167,52 @@ map-long (b ∷ l) = ap suc (map-long l)
 stand-marked : (splice : Bool) (r : Record) (hold : List ℕ) → cannotStand (markedBy splice r) hold ≡ cannotStand r hold
 unfolding cannotStand
 stand-marked splice r hold = refl
+
+-- a packet that is taken with payload, after a record r: its own story s tells what the history h has come to
+pub record LeftBy (from : Tally) (r : Record) (counter : ℕ) (s : Story ℕ) (h : History) : Type 0 where
+  pub last : some counter ≡ h .last
+  pub hand : handOf s ≡ map valueOf (handOf (h .story))
+  pub counts : (k : Kind) → (bytesCounted (done k) r + countOf (done k) (s .marks)) % 2 ^ 32
+      ≡ (from .counted k + countOf (done k) (h .story .marks)) % 2 ^ 32
+  pub number : lastNumber (r .rejection) (rejectedOf s)
+      ≡ lastNumber (from .number) (map (map valueOf) (rejectedIn (h .story)))
+  pub stands : Standing (handOf s)
+
+-- then what it leaves agrees with that history
+pub agrees-left : {from : Tally} {pid size counter : ℕ} {h : History} (r : Record) (hold : List ℕ) (s : Story ℕ)
+    → r .pid ≡ pid → length hold ≡ size → 4096 ≤ size → counter ≤ 15 → r .rejection ≤ 10 → LeftBy from r counter s h
+    → Agrees from pid size (recordAfter r counter s) (over (handOf s) hold) (record { last = some counter; mark = false }) h
+agrees-left {counter = counter} {h = h} r hold s pid long big small few x =
+    let number-few = last-limit (r .rejection) (rejectedOf s) few in
+    record {
+      pid-is = pid;
+      size-is =
+          omega (
+            arith,
+            length-append (handOf s) (drop (length (handOf s)) hold),
+            length-drop (length (handOf s)) hold,
+            few-standing (handOf s) (x .stands),
+            long,
+            big,
+          );
+      before-is = refl;
+      last-is = x .last;
+      stand-is =
+          stands-after (recordAfter r counter s) counter refl small (handOf s) (x .stands) refl number-few
+          (drop (length (handOf s)) hold)
+          ∙ ap (ltb 8191) pid;
+      told = record {
+        counters-are = λ k.
+            counts-with (r .pid) (Counter counter) false (lastNumber (r .rejection) (rejectedOf s)) (length (handOf s))
+            (λ j. (bytesCounted (done j) r + countOf (done j) (s .marks)) % 2 ^ 32) k
+            ∙ x .counts k;
+        in-hand-is = ap length (x .hand) ∙ map-long (handOf (h .story));
+        hold-is = take-append-seam (handOf s) (drop (length (handOf s)) hold) ∙ x .hand;
+        number-is = x .number;
+      };
+      number-few = number-few;
+      standing = subst Standing (x .hand) (x .stands);
+    }
 
 module _ {from : Tally} {pid size : ℕ} {r : Record} {hold : List ℕ} {before : Before} {h : History}
     (g : Agrees from pid size r hold before h) where
@@ -227,41 +275,19 @@ module _ {from : Tally} {pid size : ℕ} {r : Record} {hold : List ℕ} {before 
         ∙ ap (lastNumber (from .number)) (sym (sections-taken rejected))
 
     agrees-taken : (q .counter ≤ 15) × (4096 ≤ size)
-        → Agrees from pid size (recordAfter r (q .counter) s) (over (handOf s) hold) (handsOn q) (historyAfter comes h q)
+        → Agrees from pid size (recordAfter r (q .counter) s) (over (handOf s) hold) (handsOn q)
+        (historyAfter comes h q)
     agrees-taken x =
         let b = beside-after in
-        let few = few-standing (handOf s) standing-after in
-        let number-few = last-limit (r .rejection) (rejectedOf s) (g .number-few) in
-        record {
-          pid-is = g .pid-is;
-          size-is =
-              omega (
-                arith,
-                length-append (handOf s) (drop (length (handOf s)) hold),
-                length-drop (length (handOf s)) hold,
-                g .size-is,
-                x .1,
-              );
-          before-is = refl;
-          last-is = refl;
-          stand-is =
-              stands-after (recordAfter r (q .counter) s) (q .counter) refl (x .0) (handOf s) standing-after refl
-              number-few (drop (length (handOf s)) hold)
-              ∙ ap (ltb 8191) (g .pid-is);
-          told = record {
-            counters-are = λ k.
-                counts-with (r .pid) (Counter (q .counter)) false (lastNumber (r .rejection) (rejectedOf s))
-                (length (handOf s))
-                (λ j. (bytesCounted (done j) r + countOf (done j) (s .marks)) % 2 ^ 32) k
-                ∙ runs-round (bytesCounted (done k) r) (from .counted k) (base (done k)) (countOf (done k) (s .marks)) _
-                (g .told .counters-are k) (b .counts (done k) refl);
-            in-hand-is = ap length (sym (b .hand)) ∙ map-long (handOf (historyAfter comes h q .story));
-            hold-is = take-append-seam (handOf s) (drop (length (handOf s)) hold) ∙ sym (b .hand);
-            number-is = number-after;
-          };
-          number-few = number-few;
-          standing = subst Standing (sym (b .hand)) standing-after;
-        }
+        agrees-left r hold s (g .pid-is) (g .size-is) (x .1) (x .0) (g .number-few) (record {
+          last = refl;
+          hand = sym (b .hand);
+          counts = λ k.
+              runs-round (bytesCounted (done k) r) (from .counted k) (base (done k)) (countOf (done k) (s .marks)) _
+              (g .told .counters-are k) (b .counts (done k) refl);
+          number = number-after;
+          stands = standing-after;
+        })
 
   -- a packet without payload changes the mark alone
   agrees-bare : (splice : Bool)

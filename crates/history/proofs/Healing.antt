@@ -3,252 +3,44 @@
 -- record.
 use mathlib.Core.Path.{_≡_, refl, sym, ap, _∙_, subst}
 use mathlib.Core.Bool.{Bool, true, false, _||_}
-use mathlib.Core.Logic.{inr, ⊎-elim}
-use mathlib.Core.List.{List, [], _∷_, _++_, append-nil, map, map-id, flatten}
-use Prim.Native.Nat.{ℕ, suc, _+_, _%_, _^_, _≤_, _<_}
-use native.Mathlib.Nat.{add-zero}
+use mathlib.Core.Logic.{inr}
+use mathlib.Core.List.{List, [], _∷_, _++_, map, flatten}
+use Prim.Native.Nat.{ℕ, _+_, _%_, _^_, _≤_}
 use native.Mathlib.Omega.{arith}
-use lib.ListN.{length, take, drop, length-append, length-drop}
-use lib.Seq.{take-append-seam, drop-cons, drop-drop}
+use lib.ListN.{length, take, drop}
 use lib.Dec.{ltb}
-use borrow.Author.Tests.{eqb-true, not-false, le-ltb, ne-eqb}
+use borrow.Author.Tests.{le-ltb}
 use Rattle.wire.specs.If.{if_then_else_}
 use Rattle.wire.specs.Each.{Each}
 use Rattle.wire.specs.Sections.{WholeSection}
 use Rattle.wire.proofs.EachLaws.{each-of}
-use Rattle.copy.specs.Laid.{over}
-use Rattle.packet.specs.Header.{startFlag, pidOf, control, counterOf, discontinuity, payloadFrom, pointerOf}
-use Rattle.packet.specs.Refusals.{refusals, has-payload, judgedBy, judged}
-use Rattle.packet.specs.Refusals as Refusals
-use Rattle.packet.specs.Ruling.{Before, markWith, joins, repeats, Carried, Ruling, repeated, takes, ruledBy, ruling}
-use Rattle.packet.proofs.Table.{Passed, all-passed}
-use Rattle.collector.specs.Rules.{Kind, pointer, accepted, rejected, broken, done, Fate, in-hand, Story, countOf, handOf, given, holding, Rest, filling, skipping, kindOf, outside, plain, joined, payload, sectionsOf, stretch, goesOn, sectionsIn, storyAfter}
-use Rattle.collector.specs.Judged.{byJudge, acceptedAmong, deliveredOf, rejectedOf, lastNumber}
+use Rattle.packet.specs.Header.{pidOf, counterOf, discontinuity, payloadFrom, pointerOf}
+use Rattle.packet.specs.Refusals.{refusals}
+use Rattle.packet.specs.Ruling.{Before, markWith, joins, Carried, Ruling, ruling}
+use Rattle.packet.proofs.Table.{Passed}
+use Rattle.collector.specs.Rules.{Kind, pointer, accepted, rejected, done, in-hand, Story, countOf, given, holding, Rest, filling, skipping, kindOf, outside, plain, joined, stretch, goesOn}
+use Rattle.collector.specs.Judged.{byJudge, acceptedAmong, deliveredOf, lastNumber}
 use Rattle.collector.specs.Refusals.{beforeOf, cannotStand, tooSmall}
 use Rattle.collector.specs.Answer.{Outcome}
 use Rattle.collector.specs.Answer as Answer
-use Rattle.collector.specs.Collected.{bytesCounted, freshRecord, recordAfter, outcomeAfter, outcomeOf, collected}
+use Rattle.collector.specs.Collected.{freshRecord, outcomeAfter, outcomeOf, collected}
 use Rattle.collector.specs.declared.Record.{Record}
-use Rattle.collector.specs.declared.Last.the-variants.{Counter}
-use Rattle.collector.proofs.Counters.{counts-with}
-use Rattle.collector.proofs.MarkLaws.{settled-hand}
 use Rattle.collector.proofs.Invariants.{keep-sections}
-use Rattle.collector.proofs.Simulation.{Beside, beside-sections}
-use Rattle.collector.proofs.StoryLaws.{Any, Kept, keeps-kept, kept-holding, sections-more, sections-values}
-use Rattle.collector.proofs.Parted.{last-more, last-limit}
-use Rattle.collector.proofs.Fits.{fit-of, small-pid, few-number}
+use Rattle.collector.proofs.StoryLaws.{Any, Kept, keeps-kept, kept-holding}
+use Rattle.collector.proofs.Fits.{small-pid}
 use Rattle.history.specs.History.{Byte, valueOf, numbered, History, historyFrom}
 use Rattle.history.specs.Run.{Promised, Call, Input, inputOf, Run, no-call, one-call, RunOn, Fare, fareOf, ruledFare, Lent, lentOf, rulingOn, beforeAfter, ruledIn, faresFrom, ruledTaken, beforeFrom, handedBy, bytesBy, toldBy}
-use Rattle.history.specs.Run as R
 use Rattle.history.specs.Demand3.{deliveredIn}
-use Rattle.history.specs.Healing.{Starts, beyondTarget, fromTarget, behind, Following, followingOf, lentBy, takenBehind, since, deliveredSince, rejectedSince, OnceSince, untilTarget, Tally, atTarget, ToldFrom, stateOf, statesIn, Took, IsTaken, followed, target, handedNow, Now, FromTarget, SameCalls, Grown, Overwritten, AsFresh, ByPacketsSince, EachAsFresh, Heals}
-use Rattle.history.proofs.LeftInHand.{Standing, few-standing, stands-sections, stands-after}
-use Rattle.history.proofs.Agrees.{whole-taken, bytes-after, handed-after, Agrees, agrees-fresh, values-of, map-long, Went, went, Ran, ran}
-use Rattle.history.proofs.FaresByTable.{fareNumber, here}
+use Rattle.history.specs.Healing.{Starts, beyondTarget, fromTarget, behind, Following, followingOf, lentBy, takenBehind, since, deliveredSince, rejectedSince, OnceSince, untilTarget, Tally, ToldFrom, stateOf, statesIn, Took, IsTaken, followed, target, handedNow, Now, FromTarget, SameCalls, Grown, Overwritten, AsFresh, ByPacketsSince, EachAsFresh, Heals}
+use Rattle.history.proofs.Agrees.{whole-taken, bytes-after, handed-after, Agrees, agrees-fresh, Went, went, Ran, ran}
+use Rattle.history.proofs.Target.{parted-behind, TakenHere, taken-here, story, story-is, behind-until, one-until, agrees-behind}
+use Rattle.history.proofs.FaresByTable.{here}
 use Rattle.history.proofs.FaresByTable as fares
 use Rattle.history.proofs.Demand1.{fare-is}
 use Rattle.history.proofs.Demand3.{kept-from}
-use Rattle.history.proofs.OutRoom.{one-goes, none-yet, fewer}
+use Rattle.history.proofs.OutRoom.{fewer}
 use Rattle.history.proofs.Promise.{runs-exist}
 use Rattle.history.proofs.Fixed.{lastIn, last-in, cancel, same-told}
-
--- ---- beyond the target, behind what came before it
-
--- a story behind another, whose bytes in hand are broken off
-record Behind (before now : Story ℕ) (s : Story Byte) : Type 0 where
-  hand : handOf now ≡ map valueOf (handOf s)
-  sections : now .sections ≡ before .sections ++ map (map valueOf) (s .sections)
-  counts : (k : Kind) → countOf (done k) (now .marks) ≡ countOf (done k) (before .marks) + countOf (done k) (s .marks)
-
-plain-all : (secs : List (List ℕ)) → map (map plain) secs ≡ secs
-plain-all [] = refl
-plain-all (s ∷ secs) = λ i. map-id s i ∷ plain-all secs i
-
-module _ (before : Story ℕ) (none : handOf before ≡ []) (bytes : List ℕ) where
-  -- the bytes by themselves
-  abbrev alone : Story ℕ
-  alone = sectionsIn byJudge plain (holding []) bytes
-
-  abbrev base : Fate → ℕ
-  base f = countOf f (before .marks)
-
-  abbrev secs : List (List ℕ)
-  secs = map (map plain) (before .sections)
-
-  beside-before : Beside plain base secs alone (sectionsIn byJudge plain before bytes)
-  beside-before =
-      subst (λ (l : List ℕ). Beside plain base secs (sectionsIn byJudge plain (holding []) l) (sectionsIn byJudge plain before bytes))
-      (map-id bytes)
-      (beside-sections byJudge plain base secs (holding []) before bytes (record {
-        hand = ap (map plain) none;
-        sections = sym (append-nil secs);
-        counts = λ f e. sym (add-zero (base f));
-      }))
-
-  beside-numbered : Beside valueOf (λ f. 0) [] alone (sectionsIn byJudge valueOf (holding []) (numbered 0 bytes))
-  beside-numbered =
-      subst
-      (λ (l : List ℕ). Beside valueOf (λ f. 0) [] (sectionsIn byJudge plain (holding []) l)
-      (sectionsIn byJudge valueOf (holding []) (numbered 0 bytes)))
-      (values-of 0 bytes)
-      (beside-sections byJudge valueOf (λ f. 0) [] (holding []) (holding []) (numbered 0 bytes)
-      (record { hand = refl; sections = refl; counts = λ f e. refl }))
-
-  stands-behind : Behind before (sectionsIn byJudge plain before bytes) (sectionsIn byJudge valueOf (holding []) (numbered 0 bytes))
-  stands-behind =
-      let x = beside-before in
-      let y = beside-numbered in
-      record {
-        hand = sym (map-id _) ∙ x .hand ∙ sym (y .hand);
-        sections =
-            sym (plain-all _) ∙ x .sections
-            ∙ (λ i. plain-all (before .sections) i ++ sym (y .sections) i);
-        counts = λ k. omega (arith, x .counts (done k) refl, y .counts (done k) refl);
-      }
-
--- the sections of a kind
-parted-behind : {before now : Story ℕ} {s : Story Byte} → Behind before now s → (k : Kind)
-    → sectionsOf byJudge plain k (now .sections)
-    ≡ sectionsOf byJudge plain k (before .sections) ++ map (map valueOf) (sectionsOf byJudge valueOf k (s .sections))
-parted-behind {before} {s = s} x k =
-    ap (sectionsOf byJudge plain k) (x .sections)
-    ∙ sections-more byJudge plain k (before .sections) (map (map valueOf) (s .sections))
-    ∙ ap (λ (l : List (List ℕ)). sectionsOf byJudge plain k (before .sections) ++ l)
-    (sym (sections-values byJudge valueOf k (s .sections)))
-
--- ---- the packet that is taken
-
--- what is known of it, and of the record and the hold that took it
-record TakenHere (r : Record) (hold out packet : List ℕ) : Type 0 where
-  passed : Each Passed (refusals (tooSmall (length hold) (length out)) (cannotStand r hold) (r .pid) packet)
-  pid-is : pidOf packet ≡ r .pid
-  hold-big : 4096 ≤ length hold
-  number-few : r .rejection ≤ 10
-  ruled : ruling (tooSmall (length hold) (length out)) (cannotStand r hold) (r .pid) (beforeOf r) packet
-      ≡ takes (here (beforeOf r) packet)
-  within : payloadFrom packet < length packet
-
-not-bare : {packet : List ℕ} → Starts packet → control packet ≡ 2 → ⊥
-not-bare x e = ⊎-elim (λ w. omega arith) (λ w. omega arith) (x .payload)
-
-with-payload : (small unfit : Bool) (pid : ℕ) (p : List ℕ) → Each Passed (refusals small unfit pid p)
-    → (control p ≡ 2 → ⊥)
-    → judged small unfit pid p ≡ has-payload (payloadFrom p) (startFlag p) (counterOf p) (discontinuity p)
-unfolding judged
-with-payload small unfit pid p x n =
-    ap (λ o. judgedBy o p) (all-passed (refusals small unfit pid p) x)
-    ∙ ap (λ (t : Bool). if t then Refusals.bare (discontinuity p)
-    else has-payload (payloadFrom p) (startFlag p) (counterOf p) (discontinuity p)) (ne-eqb (control p) 2 n)
-
-new-takes : (q : Carried ℕ) (t : Bool) → ruledFare (if t then repeated else takes q) ≡ R.taken
-    → (if t then repeated else takes q) ≡ takes q
-new-takes q true e = let z : _≡_ {A = ℕ} 1 2 = ap fareNumber e in absurd (omega arith)
-new-takes q false e = refl
-
-taken-here : (r : Record) (hold out packet : List ℕ) (o : Outcome) → Promised r hold out packet o → Starts packet
-    → fareOf (o .said) ≡ R.taken → TakenHere r hold out packet
-taken-here r hold out packet o is starts e =
-    let small : Bool = tooSmall (length hold) (length out) in
-    let unfit : Bool = cannotStand r hold in
-    let before : Before = beforeOf r in
-    let z : Ruling = ruling small unfit (r .pid) before packet in
-    let fare : ruledFare z ≡ R.taken = sym (fare-is r hold out z) ∙ ap (λ (y : Outcome). fareOf (y .said)) (sym is) ∙ e in
-    let passed = fares.taken-exactly-if small unfit (r .pid) before packet .0 fare .0 in
-    let has = with-payload small unfit (r .pid) packet passed (not-bare starts) in
-    let fit = fit-of r hold out packet (payloadFrom packet) (startFlag packet) (counterOf packet) (discontinuity packet) has in
-    let same : z ≡ ruledBy before packet (has-payload (payloadFrom packet) (startFlag packet) (counterOf packet) (discontinuity packet)) =
-    ap (ruledBy before packet) has in
-    record {
-      passed = passed;
-      pid-is = eqb-true _ _ (not-false _ (passed .1 .1 .1 .1 .1 .0));
-      hold-big = fit .hold-big;
-      number-few = few-number r hold (passed .1 .1 .0);
-      ruled =
-          same
-          ∙ new-takes (here before packet) (repeats (before .last) (markWith before (discontinuity packet)) (counterOf packet))
-          (ap ruledFare (sym same) ∙ fare);
-      within = omega (arith, fit .from-within, fit .long);
-    }
-
-module _ (r : Record) (hold packet : List ℕ) where
-  abbrev until : Story ℕ
-  until = untilTarget r hold packet
-
-  -- what the packet adds to what is in hand
-  abbrev story : Story ℕ
-  story = sectionsIn byJudge plain until (beyondTarget packet)
-
-  -- what is in hand, as the packet finds it, and how it goes on up to the target
-  abbrev first : Story ℕ
-  first =
-      joined (joins (beforeOf r .last) (markWith (beforeOf r) (discontinuity packet)) (counterOf packet))
-      (holding (take (r .in_hand) hold))
-
-  abbrev gone : Story ℕ
-  gone =
-      goesOn byJudge plain (given (done pointer) (pointerOf packet) first)
-      (take (pointerOf packet) (drop (payloadFrom packet + 1) packet))
-
-  until-broken : handOf until ≡ []
-  until-broken = settled-hand (done broken) refl (gone .marks)
-
-  story-is : Starts packet → payloadFrom packet < length packet
-      → storyAfter byJudge plain (beforeOf r .last) (holding (take (r .in_hand) hold)) (here (beforeOf r) packet) ≡ story
-  story-is starts within =
-      let one-on : suc (payloadFrom packet) ≡ payloadFrom packet + 1 = omega arith in
-      let bytes : drop (payloadFrom packet) packet ≡ pointerOf packet ∷ drop (payloadFrom packet + 1) packet =
-      drop-cons packet (payloadFrom packet) 0 within ∙ ap (λ (n : ℕ). pointerOf packet ∷ drop n packet) one-on in
-      (λ i. payload byJudge plain (starts .start i) first (bytes i))
-      ∙ ap (sectionsIn byJudge plain until) (drop-drop (pointerOf packet) (payloadFrom packet + 1) packet)
-
-  behind-until : Behind until story (since packet [])
-  behind-until = stands-behind until until-broken (beyondTarget packet)
-
-  one-until : length (until .sections) ≤ 1
-  one-until =
-      one-goes byJudge (given (done pointer) (pointerOf packet) first)
-      (take (pointerOf packet) (drop (payloadFrom packet + 1) packet))
-      (none-yet (joins (beforeOf r .last) (markWith (beforeOf r) (discontinuity packet)) (counterOf packet))
-      (take (r .in_hand) hold))
-
-  -- what it leaves agrees with the history that begins at the target
-  agrees-behind : pidOf packet ≡ r .pid → 4096 ≤ length hold → r .rejection ≤ 10
-      → Agrees (atTarget r hold packet) (pidOf packet) (length hold) (recordAfter r (counterOf packet) story)
-      (over (handOf story) hold) (behind packet) (fromTarget packet)
-  agrees-behind pid big few =
-      let x = behind-until in
-      let stands : Standing (handOf story) = stands-sections byJudge until (beyondTarget packet) until-broken in
-      let number : lastNumber (r .rejection) (rejectedOf story) ≤ 10 = last-limit (r .rejection) (rejectedOf story) few in
-      record {
-        pid-is = sym pid;
-        size-is =
-            omega (
-              arith,
-              length-append (handOf story) (drop (length (handOf story)) hold),
-              length-drop (length (handOf story)) hold,
-              few-standing (handOf story) stands,
-              big,
-            );
-        before-is = refl;
-        last-is = refl;
-        stand-is =
-            stands-after (recordAfter r (counterOf packet) story) (counterOf packet) refl (omega arith) (handOf story) stands
-            refl number (drop (length (handOf story)) hold)
-            ∙ ap (ltb 8191) (sym pid);
-        told = record {
-          counters-are = λ k.
-              counts-with (r .pid) (Counter (counterOf packet)) false (lastNumber (r .rejection) (rejectedOf story))
-              (length (handOf story)) (λ j. (bytesCounted (done j) r + countOf (done j) (story .marks)) % 2 ^ 32) k
-              ∙ ap (λ (n : ℕ). n % 2 ^ 32) (omega (arith, x .counts k));
-          in-hand-is = ap length (x .hand) ∙ map-long (handOf (since packet []));
-          hold-is = take-append-seam (handOf story) (drop (length (handOf story)) hold) ∙ x .hand;
-          number-is =
-              ap (lastNumber (r .rejection)) (parted-behind x rejected)
-              ∙ last-more (r .rejection) (rejectedOf until) (rejectedSince packet []);
-        };
-        number-few = number;
-        standing = subst Standing (x .hand) stands;
-      }
 
 -- ---- packets that follow alike fare alike, whatever the rooms' sizes
 
@@ -305,7 +97,8 @@ module _ {packet : List ℕ} (starts : Starts packet) (t : Took Promised IsTaken
       ∙ ap (outcomeAfter (t .at) (t .at-hold) (t .out) (counterOf packet))
       (story-is (t .at) (t .at-hold) packet starts (here-taken .within))
 
-  agrees-now : Agrees (target t) (pidOf packet) (length (t .at-hold)) (t .outcome .rec) (t .outcome .hold) (behind packet)
+  agrees-now : Agrees (target t) (pidOf packet) (length (t .at-hold)) (t .outcome .rec) (t .outcome .hold)
+      (behind packet)
       (fromTarget packet)
   agrees-now =
       subst
@@ -322,7 +115,8 @@ module _ {packet : List ℕ} (starts : Starts packet) (t : Took Promised IsTaken
   after-whole =
       subst (λ (s : Story ℕ). Each WholeSection (s .sections))
       (story-is (t .at) (t .at-hold) packet starts (here-taken .within))
-      (whole-taken byJudge (beforeOf (t .at) .last) (take (t .at .in_hand) (t .at-hold)) (here (beforeOf (t .at)) packet))
+      (whole-taken byJudge (beforeOf (t .at) .last) (take (t .at .in_hand) (t .at-hold))
+      (here (beforeOf (t .at)) packet))
 
   hands-now : Now t
   hands-now =
@@ -349,7 +143,8 @@ module _ {packet : List ℕ} (starts : Starts packet) (t : Took Promised IsTaken
         now = hands-now;
         fares-are = x .fares ∙ w .fares-are;
         sections-are =
-            ap (λ (qs : List (Carried ℕ)). map (map valueOf) (deliveredIn (historyFrom byJudge (fromTarget packet) qs .story)))
+            ap (λ (qs : List (Carried ℕ)). map (map valueOf)
+            (deliveredIn (historyFrom byJudge (fromTarget packet) qs .story)))
             (sym (w .taken-are))
             ∙ x .sections;
         bytes-are = x .bytes;
@@ -369,8 +164,10 @@ by-packets-since packet starts t = from-target starts t
 -- ---- two histories
 
 -- records that agree with one history are in the same state
-state-alike : {f₁ f₂ : Tally} {pid₁ pid₂ size₁ size₂ : ℕ} {r₁ r₂ : Record} {hold₁ hold₂ : List ℕ} {before : Before} {h : History}
-    → Agrees f₁ pid₁ size₁ r₁ hold₁ before h → Agrees f₂ pid₂ size₂ r₂ hold₂ before h → stateOf r₁ hold₁ ≡ stateOf r₂ hold₂
+state-alike : {f₁ f₂ : Tally} {pid₁ pid₂ size₁ size₂ : ℕ} {r₁ r₂ : Record} {hold₁ hold₂ : List ℕ} {before : Before}
+    {h : History}
+    → Agrees f₁ pid₁ size₁ r₁ hold₁ before h → Agrees f₂ pid₂ size₂ r₂ hold₂ before h
+    → stateOf r₁ hold₁ ≡ stateOf r₂ hold₂
 state-alike {r₁ = r₁} {r₂ = r₂} g₁ g₂ =
     let same : beforeOf r₁ ≡ beforeOf r₂ = g₁ .before-is ∙ sym (g₂ .before-is) in
     let last : r₁ .last ≡ r₂ .last =
@@ -428,10 +225,12 @@ overwritten : (n m : ℕ) (secs : List (List ℕ)) → (secs ≡ [] → ⊥) →
 overwritten n m [] x = absurd (x refl)
 overwritten n m (s ∷ secs) x = refl
 
-module _ {packet : List ℕ} (starts : Starts packet) (a b : Took Promised IsTaken packet) (alike : followed a ≡ followed b) where
+module _ {packet : List ℕ} (starts : Starts packet) (a b : Took Promised IsTaken packet)
+    (alike : followed a ≡ followed b) where
   on-alike : AlikeOn (a .went-on) (b .went-on)
   on-alike =
-      calls-alike (here-taken starts a .hold-big) (here-taken starts b .hold-big) (a .went-on) (b .went-on) (behind packet)
+      calls-alike (here-taken starts a .hold-big) (here-taken starts b .hold-big) (a .went-on) (b .went-on)
+      (behind packet)
       (fromTarget packet) (agrees-now starts a) (agrees-now starts b) alike
 
   grown-alike : (k : Kind) → Grown a b k
@@ -446,7 +245,8 @@ module _ {packet : List ℕ} (starts : Starts packet) (a b : Took Promised IsTak
   overwrites : Overwritten a b
   overwrites =
       let rejected : List (List ℕ) = rejectedSince packet (followed a) in
-      let one : a .left .rejection ≡ lastNumber (target a .number) rejected = from-target starts a .told-from .number-is in
+      let one : a .left .rejection ≡ lastNumber (target a .number) rejected =
+      from-target starts a .told-from .number-is in
       let other : b .left .rejection ≡ lastNumber (target b .number) rejected =
       from-target starts b .told-from .number-is
       ∙ ap (λ l. lastNumber (target b .number) (rejectedSince packet l)) (sym alike) in
@@ -469,12 +269,14 @@ heals = record {
 
 -- where no section is in hand none ends before the target
 none-ends : (s : Story ℕ) (rest : Rest) (bs : List ℕ)
-    → stretch byJudge plain (outside filling) (record { mode = outside rest; story = s }) bs .story .sections ≡ s .sections
+    → stretch byJudge plain (outside filling) (record { mode = outside rest; story = s }) bs .story .sections
+    ≡ s .sections
 none-ends s rest [] = refl
 none-ends s rest (b ∷ bs) = none-ends (given (done (kindOf rest)) b s) rest bs
 
 none-before : (pid : ℕ) (hold packet : List ℕ) → untilTarget (freshRecord pid) hold packet .sections ≡ []
-none-before pid hold packet = none (joins (freshBefore .last) (markWith freshBefore (discontinuity packet)) (counterOf packet))
+none-before pid hold packet =
+    none (joins (freshBefore .last) (markWith freshBefore (discontinuity packet)) (counterOf packet))
   where
     freshBefore : Before
     freshBefore = beforeOf (freshRecord pid)
@@ -507,12 +309,14 @@ module _ {packet : List ℕ} (starts : Starts packet) (t : Took Promised IsTaken
       let stands : cannotStand (t .at) (t .at-hold) ≡ cannotStand anew (t .at-hold) =
       passed .1 .1 .0
       ∙ sym (agrees-fresh (t .at .pid) (t .at-hold) .stand-is ∙ small-pid (t .at) (t .at-hold) (passed .1 .1 .0)) in
-      fare-is anew (t .at-hold) (t .out) (ruling small (cannotStand anew (t .at-hold)) (t .at .pid) (beforeOf anew) packet)
+      fare-is anew (t .at-hold) (t .out)
+      (ruling small (cannotStand anew (t .at-hold)) (t .at .pid) (beforeOf anew) packet)
       ∙ fares.taken-exactly-if small (cannotStand anew (t .at-hold)) (t .at .pid) (beforeOf anew) packet .1
       (subst (λ (u : Bool). Each Passed (refusals small u (t .at .pid) packet)) stands passed, inr (inr refl))
 
   -- its history, with the same packets and out rooms
-  goes-anew : RunOn (collected anew (t .at-hold) (t .out) packet .rec) (collected anew (t .at-hold) (t .out) packet .hold)
+  goes-anew : RunOn (collected anew (t .at-hold) (t .out) packet .rec)
+      (collected anew (t .at-hold) (t .out) packet .hold)
       (map inputOf (t .later))
   goes-anew = runs-exist _ _ (map inputOf (t .later))
 
@@ -550,7 +354,8 @@ module _ {packet : List ℕ} (starts : Starts packet) (t : Took Promised IsTaken
         same-rooms = (refl, refl);
         same-inputs = goes-anew .inputs;
         before = deliveredOf (untilTarget (t .at) (t .at-hold) packet);
-        one-before = omega (arith, fewer accepted (until (t .at) (t .at-hold) packet .sections), hands-now starts t .one-before);
+        one-before =
+            omega (arith, fewer accepted (untilTarget (t .at) (t .at-hold) packet .sections), hands-now starts t .one-before);
         now =
             hands-now starts t .sections-are
             ∙ ap (λ (l : List (List ℕ)). deliveredOf (untilTarget (t .at) (t .at-hold) packet) ++ l) (sym beyond);

@@ -19,5 +19,6 @@ pub mod FullSections
 pub mod OutRoom
 pub mod Judging
 pub mod Splits
+pub mod Target
 pub mod Healing
 pub mod Tied
