@@ -30,11 +30,11 @@ unfolding judged sizeOf joins repeats cannotStand flatten verdict read opening _
     wrongSyntax lengthOutside sizeDiffers crcFails aboveLast inside plain
 premises-met = record {
   starts-11 = record { payload = inr refl; start = refl };
-  from-fresh = record { takes-it = refl; hands-now = refl; hands-later = refl };
-  from-halfway = record { takes-it = refl; hands-now = refl; hands-later = refl };
-  from-marked = record { takes-it = refl; hands-now = refl; hands-later = refl };
-  from-busy = record { takes-it = refl; hands-now = refl; hands-later = refl };
-  from-hand = record { takes-it = refl; hands-now = refl; hands-later = refl };
+  from-fresh = record { takes-it = refl; follow = refl; hands-now = refl; hands-later = refl };
+  from-halfway = record { takes-it = refl; follow = refl; hands-now = refl; hands-later = refl };
+  from-marked = record { takes-it = refl; follow = refl; hands-now = refl; hands-later = refl };
+  from-busy = record { takes-it = refl; follow = refl; hands-now = refl; hands-later = refl };
+  from-hand = record { takes-it = refl; follow = refl; hands-now = refl; hands-later = refl };
   since-now = refl;
   since-later = refl;
   since-rejected = refl;

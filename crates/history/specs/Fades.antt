@@ -20,7 +20,7 @@ use Rattle.collector.specs.declared.Last.{Last}
 use Rattle.collector.specs.declared.Last.the-variants.{None, Counter}
 use Rattle.history.specs.Run.{Collector, Promised, Call, Run, no-call, one-call, Fare, fareOf, handed}
 use Rattle.history.specs.Run as R
-use Rattle.history.specs.Healing.{Starts, Following, faresBehind, deliveredSince, rejectedSince, Took, IsTaken, handedNow, OverPairs, SameNow, SameFromThenOn, SameState, GrownAlike, SameNumber}
+use Rattle.history.specs.Healing.{Starts, Following, faresBehind, deliveredSince, rejectedSince, Took, IsTaken, followed, handedNow, OverPairs, SameNow, SameFromThenOn, SameState, GrownAlike, SameNumber}
 use Rattle.history.specs.WrongCollectors.{hold₀, out₀, rest-of-it, bare-splice, worked, keepsFirst, collectedBy}
 use Rattle.history.specs.AtWork as story
 use Rattle.history.specs.AtWork.{tdt, starts}
@@ -140,9 +140,10 @@ byHand = record { rec = recordWith 20 (Counter 4) true 7 2 (λ k. 4294967295); h
 abbrev pub Takes : Found → List (List ℕ) → List ℕ → Type 0
 Takes f past packet = IsTaken (fareOf (made collected (leftWith collected f past) packet .said))
 
--- the packet is taken, with these sections, and those behind it hand out one
+-- the packet is taken, with these sections, the same packets follow, and hand out one
 pub record Shows (f : Found) (past now : List (List ℕ)) : Type 0 where
   pub takes-it : Takes f past common
+  pub follow : followed (tale collected {F = IsTaken} f past common behind-it takes-it) ≡ map following behind-it
   pub hands-now : handedNow (tale collected {F = IsTaken} f past common behind-it takes-it) ≡ now
   pub hands-later : handed (tale collected {F = IsTaken} f past common behind-it takes-it .later) ≡ tdt ∷ []
 
