@@ -23,6 +23,8 @@ use Rattle.history.specs.Run.{cut, handedBy, bytesBy}
 use Rattle.history.specs.Demand1.{First}
 use Rattle.history.specs.Healing.{Starts, Following, rejectedSince, IsTaken}
 use Rattle.history.specs.Healing as under
+use Rattle.history.specs.WrongCollectors.{hold₀}
+use Rattle.history.specs.Fades.{common}
 use Rattle.history.proofs.FaresByTable.{Never, never-first}
 use Rattle.history.proofs.Demand1.{refuses-first}
 use Rattle.history.proofs.Healing.{by-packets-since, heals}
@@ -30,7 +32,7 @@ use Rattle.cabinet.specs.Collect.{lastIn, lastSays, markSays, numbersWith, coun
 use Rattle.cabinet.specs.declared.collect.Record.{Record}
 use Rattle.cabinet.proofs.Outcomes.{last-kept}
 use Rattle.calls.specs.Collects.{Promised, Call, callSays, Beneath}
-use Rattle.calls.specs.Healing.{followingOf, statesIn, Took, followed, Now, SameCalls, Heals, PremisesMet}
+use Rattle.calls.specs.Healing.{followingOf, State, statesIn, Took, followed, Now, SameCalls, Heals, HistoriesBelow, alone, fresh, byHand, PremisesMet, markSurvives, ShutOut}
 use Rattle.calls.proofs.Collects.{NumbersTell, told-on, runs, stateSays, states-beneath, handed-says}
 
 -- ---- the packet is taken
@@ -250,12 +252,36 @@ heals-for-c packet starts a b alike =
       };
     }
 
+pub histories-below : HistoriesBelow
+histories-below packet starts t = record {
+  under = down starts t;
+  at-is = refl;
+  rooms-are = (refl, refl, refl);
+  answer-says = answer-says starts t;
+  later-say = goes-on starts t .calls-say;
+  left-says = goes-on starts t .record-says;
+  left-hold-is = refl;
+}
+
 pub premises-met : PremisesMet
 unfolding judged sizeOf joins repeats cannotStand flatten verdict read opening _andThen_ rowOf first holds cell header
     wrongSyntax lengthOutside sizeDiffers crcFails aboveLast inside plain collecting
 premises-met = record {
-  starts = record { payload = inr refl; start = refl };
-  fresh = record { not-refused = refl; not-repeated = refl; sections = refl; mark = refl };
-  by-hand = record { not-refused = refl; not-repeated = refl; sections = refl; mark = refl };
-  counters-differ = (refl, refl);
+  starts = record { payload = inr refl; flag = refl };
+  from-fresh = record { not-refused = refl; not-repeated = refl; as-many = refl; mark = refl; behind = refl };
+  from-halfway = record { not-refused = refl; not-repeated = refl; as-many = refl; mark = refl; behind = refl };
+  from-hand = record { not-refused = refl; not-repeated = refl; as-many = refl; mark = refl; behind = refl };
 }
+
+abbrev markFirst : List State → ℕ
+markFirst [] = 0
+markFirst (s ∷ more) = s .mark
+
+pub shut-out : ShutOut
+unfolding judged sizeOf joins repeats cannotStand flatten verdict read opening _andThen_ rowOf first holds cell header
+    wrongSyntax lengthOutside sizeDiffers crcFails aboveLast inside plain collecting
+shut-out h =
+    let a = alone markSurvives fresh hold₀ common refl refl in
+    let b = alone markSurvives byHand (0x70 ∷ 0x70 ∷ hold₀) common refl refl in
+    let z : _≡_ {A = ℕ} 0 7 = ap markFirst (h common (record { payload = inr refl; flag = refl }) a b refl .state) in
+    omega arith

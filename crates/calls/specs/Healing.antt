@@ -1,6 +1,6 @@
--- Request (xii) for C, "a fade on the dish heals at the next section start": over runs of `lohitunga_collect` from any numbers, fresh or made by hand.
--- What comes from beyond the target is what it is for the collector, by the packets alone.
-use mathlib.Core.Path.{_≡_}
+-- Request (xii) for C, "a fade on the dish heals at the next section start": over histories of `lohitunga_collect` from any numbers, fresh or made by
+-- hand. What comes from beyond the target is told by the packets alone, as it is for the collector.
+use mathlib.Core.Path.{_≡_, refl}
 use mathlib.Core.List.{List, [], _∷_, _++_, map, flatten}
 use Prim.Native.Nat.{ℕ, _+_, _%_, _^_, _≤_}
 use lib.ListN.{length, take}
@@ -8,13 +8,16 @@ use lib.Dec.{ltb}
 use Rattle.collector.specs.Rules.{Kind, Story}
 use Rattle.collector.specs.Judged.{deliveredOf}
 use Rattle.collector.specs.Collected.{freshRecord}
+use Rattle.collector.specs.Answer.{refusedWith, repeated, taken}
+use Rattle.history.specs.Run as runs
 use Rattle.history.specs.Run.{cut}
+use Rattle.history.specs.Healing as beneath
 use Rattle.history.specs.Healing.{Starts, Following, deliveredSince, rejectedSince, untilTarget, Tally, atTarget}
 use Rattle.history.specs.WrongCollectors.{hold₀, out₀}
-use Rattle.history.specs.Fades.{common}
-use Rattle.cabinet.specs.Collect.{countedIn, numbersWith, recordIn, recordSays, Outcome, collecting}
+use Rattle.history.specs.Fades.{common, behind-it}
+use Rattle.cabinet.specs.Collect.{countedIn, numbersWith, recordIn, recordSays, collectSays, Outcome, leaves, collecting}
 use Rattle.cabinet.specs.declared.collect.Record.{Record}
-use Rattle.calls.specs.Collects.{Collector, Call, Run, no-call, one-call}
+use Rattle.calls.specs.Collects.{Collector, Promised, Call, Run, no-call, one-call, callSays}
 
 -- "packets that follow alike": of each call behind it, the packet, and whether the out room is too small
 abbrev pub followingOf : Call → Following
@@ -105,22 +108,92 @@ module _ {C : Collector} {packet : List ℕ} (a b : Took C packet) where
 abbrev pub Heals : Collector → Type 0
 Heals C = (packet : List ℕ) → Starts packet → (a b : Took C packet) → followed a ≡ followed b → Healed a b
 
--- ---- the premises can be met: by fresh numbers, and by numbers made by hand, whose mark is set by another number than 1
+-- ---- from the packet on it is, in numbers, a history of the collector, so that what `history/Healing` says of one history holds of it
+
+pub record Below {packet : List ℕ} (t : Took Promised packet) : Type 0 where
+  pub under : beneath.Took runs.Promised beneath.IsTaken packet
+  pub at-is : under .at ≡ recordIn (t .at)
+  pub rooms-are : (under .at-hold ≡ t .at-hold) × (under .out ≡ t .out) × (under .outcome .out ≡ t .outcome .out)
+  pub answer-says : t .outcome .answer ≡ collectSays (under .outcome .said)
+  pub later-say : t .later ≡ map callSays (under .later)
+  pub left-says : t .left ≡ recordSays (under .left)
+  pub left-hold-is : under .left-hold ≡ t .left-hold
+
+abbrev pub HistoriesBelow : Type 0
+HistoriesBelow = (packet : List ℕ) → Starts packet → (t : Took Promised packet) → Below t
+
+-- ---- histories of a call that makes one outcome, all with the least out rooms
+
+abbrev pub Making : Type 0
+Making = Record → List ℕ → List ℕ → List ℕ → Outcome
+
+abbrev pub Makes : Making → Collector
+Makes make r hold out packet o = o ≡ make r hold out packet
+
+module _ (make : Making) where
+  abbrev pub callsWith : Record → List ℕ → List (List ℕ) → List Call
+  callsWith r hold [] = []
+  callsWith r hold (p ∷ ps) =
+      record { packet = p; out = out₀; out′ = make r hold out₀ p .out; answer = make r hold out₀ p .answer }
+      ∷ callsWith (make r hold out₀ p .rec) (make r hold out₀ p .hold) ps
+
+  -- no past and no later calls
+  abbrev pub alone : (r : Record) (hold packet : List ℕ) → make r hold out₀ packet .answer .number ≡ 0
+      → make r hold out₀ packet .answer .repeated ≡ 0 → Took (Makes make) packet
+  alone r hold packet not-refused not-repeated = record {
+    from = r;
+    from-hold = hold;
+    past = [];
+    at = r;
+    at-hold = hold;
+    came = no-call;
+    out = out₀;
+    outcome = make r hold out₀ packet;
+    call = refl;
+    not-refused = not-refused;
+    not-repeated = not-repeated;
+    later = [];
+    left = make r hold out₀ packet .rec;
+    left-hold = make r hold out₀ packet .hold;
+    went-on = no-call;
+  }
+
+-- ---- the premises can be met: by fresh numbers, by numbers with the first byte of a section in hand, and by numbers made by hand, whose mark is set by
+-- another number than 1 and whose counters are about to run round
+
+abbrev pub fresh : Record
+fresh = recordSays (freshRecord 20)
+
+abbrev pub halfway : Record
+halfway = numbersWith 20 4 0 0 1 (λ k. 0)
 
 abbrev pub byHand : Record
 byHand = numbersWith 20 4 7 7 2 (λ k. 4294967295)
 
--- the packet is taken, with one section, and its mark is 0 then
-pub record Takes (r : Record) (hold : List ℕ) : Type 0 where
+-- the packet is taken, with so many sections, the record's mark is 0 then, and the packets behind it are answered so
+pub record Takes (r : Record) (hold : List ℕ) (sections : ℕ) : Type 0 where
   pub not-refused : collecting r hold out₀ common .answer .number ≡ 0
   pub not-repeated : collecting r hold out₀ common .answer .repeated ≡ 0
-  pub sections : collecting r hold out₀ common .answer .sections ≡ 1
+  pub as-many : collecting r hold out₀ common .answer .sections ≡ sections
   pub mark : collecting r hold out₀ common .rec .mark ≡ 0
+  pub behind : map (λ k. k .answer)
+      (callsWith collecting (collecting r hold out₀ common .rec) (collecting r hold out₀ common .hold) behind-it)
+      ≡ map collectSays (taken 1 8 ∷ repeated ∷ refusedWith 46 ∷ taken 0 0 ∷ taken 0 0 ∷ taken 0 0 ∷ [])
 
 pub record PremisesMet : Type 0 where
   pub starts : Starts common
-  pub fresh : Takes (recordSays (freshRecord 20)) hold₀
-  pub by-hand : Takes byHand (0x70 ∷ 0x70 ∷ hold₀)
-  -- the counters differ before it, and after it
-  pub counters-differ : (collecting (recordSays (freshRecord 20)) hold₀ out₀ common .rec .accepted ≡ 8)
-      × (collecting byHand (0x70 ∷ 0x70 ∷ hold₀) out₀ common .rec .accepted ≡ 7)
+  pub from-fresh : Takes fresh hold₀ 1
+  -- it alone delivers a section before the target
+  pub from-halfway : Takes halfway (0x70 ∷ hold₀) 2
+  pub from-hand : Takes byHand (0x70 ∷ 0x70 ∷ hold₀) 1
+
+-- ---- a wrong one that the statement shuts out: the mark survives
+
+abbrev pub markSurvives : Making
+markSurvives r hold out packet =
+    let o = collecting r hold out packet in
+    leaves (numbersWith (o .rec .pid) (o .rec .last) (r .mark) (o .rec .rejection) (o .rec .in_hand) (λ k. countedIn k (o .rec)))
+    (o .hold) (o .out) (o .answer)
+
+abbrev pub ShutOut : Type 0
+ShutOut = Heals (Makes markSurvives) → ⊥

@@ -38,7 +38,7 @@ use Rattle.packet.proofs.Table.{or-false, payload-of}
 use Rattle.history.specs.History.{Byte, valueOf, numbered, History, unbegun, numberedIn, historyAfter, historyFrom}
 use Rattle.history.specs.Run.{Promised, Call, Run, no-call, one-call, fareOf, ruledFare, lentOf, rulingOn, beforeAfter, ruledIn, faresFrom, ruledTaken, beforeFrom, cut, handedBy, handed, bytesBy, toldBy}
 use Rattle.history.specs.Demand3.{deliveredIn, rejectedIn}
-use Rattle.history.specs.Healing.{Tally, noTally, ToldFrom}
+use Rattle.history.specs.Healing.{Tally, ToldFrom}
 use Rattle.history.proofs.TestLaws.{or-none}
 use Rattle.history.proofs.LeftInHand.{Standing, standing-none, stands-taken, few-standing, stands-after}
 
@@ -129,6 +129,10 @@ pub record Agrees (from : Tally) (pid size : ℕ) (r : Record) (hold : List ℕ)
   pub told : ToldFrom from r hold (h .story)
   pub number-few : r .rejection ≤ 10
   pub standing : Standing (map valueOf (handOf (h .story)))
+
+-- nothing told before
+abbrev pub noTally : Tally
+noTally = record { counted = λ k. 0; number = 0 }
 
 pub agrees-fresh : (pid : ℕ) (hold : List ℕ)
     → Agrees noTally pid (length hold) (freshRecord pid) hold noneBefore unbegun

@@ -28,8 +28,7 @@ use Rattle.history.specs.History.{Byte, valueOf, numbered, History, unbe
 use Rattle.history.specs.Run.{Promised, Call, Run, Fare, taken, fareOf, saidTaken, splicesFrom, lentOf, rulingOn, beforeAfter, faresFrom, NotRefused, NotRepeated}
 use Rattle.history.specs.Demand1.{First}
 use Rattle.history.specs.Demand3.{TakenCallByCall, RefusedIf, takenByRule, storyBy, Counted, deliveredIn, MadeUnbroken, RefusedExactlyIf, TakenExactlyIf, ByPacketsAlone, NeverUnfit, OneFateEach, CountersAreFates, CountersMakeUp, DeliveredInOrder, NoSectionSpans, RejectedSpanNothing, KeptNumber}
-use Rattle.history.specs.Healing.{noTally}
-use Rattle.history.proofs.Agrees.{Ran, ran, agrees-fresh}
+use Rattle.history.proofs.Agrees.{noTally, Ran, ran, agrees-fresh}
 use Rattle.history.proofs.FaresByTable.{Never, never-first, fares-cut, taken-alike}
 use Rattle.history.proofs.FaresByTable as fares
 use Rattle.history.proofs.Demand1.{said-refused}

@@ -19,17 +19,17 @@ use Rattle.collector.specs.Rules.{accepted, byKind, done}
 use Rattle.collector.specs.Collected.{bytesCounted, collected}
 use Rattle.collector.specs.declared.Last.{Last}
 use Rattle.collector.specs.declared.Last.the-variants.{None, Counter}
-use Rattle.history.specs.Healing.{Starts, rejectedSince, State, IsTaken}
+use Rattle.history.specs.Healing.{Starts, rejectedSince, State, IsTaken, IsRepeated}
 use Rattle.history.specs.WrongCollectors.{keepsFirst, collectedBy}
 use Rattle.history.specs.AtWork as story
 use Rattle.history.specs.AtWork.{tdt, starts}
-use Rattle.history.specs.Fades.{tale, common, behind-it, begins, with-2, fresh, halfway, marked, busy, byHand, PremisesMet, LossOfSixteen, NotRefused, Stronger, forgetsToBreak, counterStays, firstByteStays, markSurvives, countersStop, fallsSilent, ShutOut}
+use Rattle.history.specs.Fades.{tale, common, behind-it, begins, with-2, fresh, halfway, marked, busy, byHand, PremisesMet, LossOfSixteen, Stronger, forgetsToBreak, counterStays, firstByteStays, markSurvives, countersStop, fallsSilent, ShutOut}
 
 pub premises-met : PremisesMet
 unfolding judged sizeOf joins repeats cannotStand flatten verdict read opening _andThen_ rowOf first holds cell header
     wrongSyntax lengthOutside sizeDiffers crcFails aboveLast inside plain
 premises-met = record {
-  starts-11 = record { payload = inr refl; start = refl };
+  starts-11 = record { payload = inr refl; flag = refl };
   from-fresh = record { takes-it = refl; follow = refl; hands-now = refl; hands-later = refl };
   from-halfway = record { takes-it = refl; follow = refl; hands-now = refl; hands-later = refl };
   from-marked = record { takes-it = refl; follow = refl; hands-now = refl; hands-later = refl };
@@ -39,14 +39,21 @@ premises-met = record {
   since-later = refl;
   since-rejected = refl;
   fares = refl;
-  starts-01 = record { payload = inl refl; start = refl };
+  starts-01 = record { payload = inl refl; flag = refl };
   takes-01 = (refl, refl);
 }
 
 pub loss-of-sixteen : LossOfSixteen
 unfolding judged sizeOf joins repeats cannotStand flatten verdict read opening _andThen_ rowOf first holds cell header
     wrongSyntax lengthOutside sizeDiffers crcFails aboveLast inside plain
-loss-of-sixteen = record { as-many = refl; sent = refl; joined-over = refl; seen = refl; both-take = (refl, refl) }
+loss-of-sixteen = record {
+  as-many = refl;
+  sent = refl;
+  lost-sixteen = refl;
+  lost-fifteen = refl;
+  lost-seventeen = refl;
+  each-takes = (refl, refl);
+}
 
 -- ---- what of a list of states is looked at: of the first, the bytes in hand, the first of them, the counter, the mark
 
@@ -77,7 +84,7 @@ sectionsIn calls = length (flatten calls)
 -- ---- stronger statements
 
 with-11 : (packet : List ℕ) → control packet ≡ 3 → startFlag packet ≡ true → Starts packet
-with-11 packet control start = record { payload = inr control; start = start }
+with-11 packet control flag = record { payload = inr control; flag = flag }
 
 -- a packet that goes on, between two; one without payload that has the flag
 abbrev going-on : List ℕ
@@ -145,15 +152,15 @@ stronger = record {
   );
   needs-taken = (
     λ h.
-        let a = tale collected {F = NotRefused} fresh only-filler (begins 5) [] (inr refl) in
-        let b = tale collected {F = NotRefused} fresh [] (begins 5) [] (inl refl) in
-        let z : _≡_ {A = ℕ} 0 1 = ap heldFirst (h (begins 5) (with-11 (begins 5) refl refl) a b refl) in
+        let a = tale collected {F = IsTaken} fresh [] (begins 5) [] refl in
+        let b = tale collected {F = IsRepeated} fresh only-filler (begins 5) [] refl in
+        let z : _≡_ {A = ℕ} 1 0 = ap heldFirst (h (begins 5) (with-11 (begins 5) refl refl) a b refl) in
         omega arith,
     λ h.
         let rest : List (List ℕ) = story.goesOn 6 (drop 1 tdt) ∷ [] in
-        let a = tale collected {F = NotRefused} fresh only-filler (begins 5) rest (inr refl) in
-        let b = tale collected {F = NotRefused} fresh [] (begins 5) rest (inl refl) in
-        let z : _≡_ {A = ℕ} 0 1 = ap sectionsIn (h (begins 5) (with-11 (begins 5) refl refl) a b refl .sections) in
+        let a = tale collected {F = IsTaken} fresh [] (begins 5) rest refl in
+        let b = tale collected {F = IsRepeated} fresh only-filler (begins 5) rest refl in
+        let z : _≡_ {A = ℕ} 1 0 = ap sectionsIn (h (begins 5) (with-11 (begins 5) refl refl) a b refl .sections) in
         omega arith,
   );
 }

@@ -193,7 +193,7 @@ module _ (r : Record) (hold packet : List ℕ) where
       let one-on : suc (payloadFrom packet) ≡ payloadFrom packet + 1 = omega arith in
       let bytes : drop (payloadFrom packet) packet ≡ pointerOf packet ∷ drop (payloadFrom packet + 1) packet =
       drop-cons packet (payloadFrom packet) 0 within ∙ ap (λ (n : ℕ). pointerOf packet ∷ drop n packet) one-on in
-      (λ i. payload byJudge plain (starts .start i) first (bytes i))
+      (λ i. payload byJudge plain (starts .flag i) first (bytes i))
       ∙ ap (sectionsIn byJudge plain until) (drop-drop (pointerOf packet) (payloadFrom packet + 1) packet)
 
   pub behind-until : Behind until story (since packet [])

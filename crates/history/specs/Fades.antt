@@ -2,25 +2,24 @@
 -- its premises is needed, for what would be stronger is false; and that each statement shuts out a wrong collector.
 use mathlib.Core.Path.{_≡_, refl}
 use mathlib.Core.Bool.{Bool, true, false, _||_}
-use mathlib.Core.Logic.{_⊎_}
 use mathlib.Core.List.{List, [], _∷_, _++_, map}
 use Prim.Native.Nat.{ℕ, _+_}
 use lib.ListN.{length, take, drop, replicate}
 use lib.Dec.{ltb}
 use Rattle.wire.specs.If.{if_then_else_}
-use Rattle.packet.specs.Header.{startFlag, control}
 use Rattle.packet.specs.Ruling.{joins, Ruling, refuses, repeated, bare, takes, ruling}
 use Rattle.collector.specs.Rules.{Kind, pointer, done, Story, given, holding, plain, joined, goesOn, sectionsIn}
 use Rattle.collector.specs.Judged.{byJudge}
 use Rattle.collector.specs.Refusals.{beforeOf, cannotStand, tooSmall}
-use Rattle.collector.specs.Answer.{Outcome, taken}
+use Rattle.collector.specs.Answer.{Reply, refusedWith, taken, Outcome}
+use Rattle.collector.specs.Answer as Answer
 use Rattle.collector.specs.Collected.{bytesCounted, recordWith, freshRecord, outcomeAfter, outcomeOf, collected}
 use Rattle.collector.specs.declared.Record.{Record}
 use Rattle.collector.specs.declared.Last.{Last}
 use Rattle.collector.specs.declared.Last.the-variants.{None, Counter}
 use Rattle.history.specs.Run.{Collector, Promised, Call, Run, no-call, one-call, Fare, fareOf, handed}
 use Rattle.history.specs.Run as R
-use Rattle.history.specs.Healing.{Starts, Following, faresBehind, deliveredSince, rejectedSince, Took, IsTaken, followed, handedNow, OverPairs, SameNow, SameFromThenOn, SameState, GrownAlike, SameNumber}
+use Rattle.history.specs.Healing.{HasPayload, HasFlag, Starts, Following, faresBehind, deliveredSince, rejectedSince, Took, IsTaken, IsRepeated, followed, handedNow, OverPairs, SameNow, SameFromThenOn, SameState, GrownAlike, SameNumber}
 use Rattle.history.specs.WrongCollectors.{hold₀, out₀, rest-of-it, bare-splice, worked, keepsFirst, collectedBy}
 use Rattle.history.specs.AtWork as story
 use Rattle.history.specs.AtWork.{tdt, starts}
@@ -98,7 +97,7 @@ behind-it =
     ∷ story.goesOn 8 (1 ∷ 2 ∷ [])
     ∷ []
 
--- a call with the least rooms that will do
+-- with an out room that is not too small
 abbrev pub following : List ℕ → Following
 following packet = record { packet = packet; small = false }
 
@@ -167,62 +166,65 @@ pub record PremisesMet : Type 0 where
 
 -- ---- what a loss can spoil up to there: "A loss of 16 packets shows no break; the CRC is left to catch it."
 
--- behind a packet with the counter 4 the rest of its TDT, and fifteen packets more
-abbrev pub sixteen : List (List ℕ)
-sixteen =
-    story.goesOn 5 (drop 1 tdt)
-    ∷ map (λ c. story.goesOn c (1 ∷ [])) (6 ∷ 7 ∷ 8 ∷ 9 ∷ 10 ∷ 11 ∷ 12 ∷ 13 ∷ 14 ∷ 15 ∷ 0 ∷ 1 ∷ 2 ∷ 3 ∷ 4 ∷ [])
+-- the TDT of a day and an hour later, and the two cut in front of their time of day
+abbrev pub day-later : List ℕ
+day-later = 0x70 ∷ 0x70 ∷ 0x05 ∷ 0xC0 ∷ 0x7A ∷ 0x13 ∷ 0x45 ∷ 0x00 ∷ []
 
--- all packets came; those sixteen did not, and the next goes on as if they had not been
+abbrev pub heads : List ℕ → List ℕ
+heads s = starts 4 (0 ∷ take 5 s)
+
+abbrev pub tails : List ℕ → List ℕ
+tails s = story.goesOn 5 (drop 5 s)
+
+-- what comes between the head of the one and that of the other
+abbrev pub fifteen : List (List ℕ)
+fifteen = tails tdt ∷ map (λ c. story.goesOn c (1 ∷ [])) (6 ∷ 7 ∷ 8 ∷ 9 ∷ 10 ∷ 11 ∷ 12 ∷ 13 ∷ 14 ∷ 15 ∷ 0 ∷ 1 ∷ 2 ∷ 3 ∷ [])
+
 abbrev pub complete : List (List ℕ)
-complete = begins 4 ∷ sixteen ++ (story.goesOn 5 rest-of-it ∷ [])
+complete = heads tdt ∷ fifteen ++ (heads day-later ∷ tails day-later ∷ [])
 
+-- sixteen are lost: those and the head behind them
 abbrev pub faded : List (List ℕ)
-faded = begins 4 ∷ story.goesOn 5 rest-of-it ∷ []
+faded = heads tdt ∷ tails day-later ∷ []
+
+-- a TDT that nobody sent, for it has no CRC_32: the day of the one, the time of the other
+abbrev pub joined-up : List ℕ
+joined-up = 0x70 ∷ 0x70 ∷ 0x05 ∷ 0xC0 ∷ 0x79 ∷ 0x13 ∷ 0x45 ∷ 0x00 ∷ []
 
 pub record LossOfSixteen : Type 0 where
-  pub as-many : length sixteen ≡ 16
-  pub sent : handed (callsWith collected fresh complete) ≡ tdt ∷ []
-  -- a section comes out that nobody sent: a TDT has no CRC_32
-  pub joined-over : handed (callsWith collected fresh faded) ≡ (0x70 ∷ rest-of-it) ∷ []
-  -- with one more lost the break is seen
-  pub seen : handed (callsWith collected fresh (begins 4 ∷ story.goesOn 6 rest-of-it ∷ [])) ≡ []
-  -- the next start is taken in both, and heals
-  pub both-take : Takes fresh complete (begins 6) × Takes fresh faded (begins 6)
+  pub as-many : length fifteen ≡ 15
+  pub sent : handed (callsWith collected fresh complete) ≡ tdt ∷ day-later ∷ []
+  pub lost-sixteen : handed (callsWith collected fresh faded) ≡ joined-up ∷ []
+  -- of fifteen no more is seen: the packet behind them has the counter of the last one, and is called repeated
+  pub lost-fifteen : handed (callsWith collected fresh (heads tdt ∷ heads day-later ∷ tails day-later ∷ [])) ≡ joined-up ∷ []
+  -- with seventeen lost there is a break
+  pub lost-seventeen : handed (callsWith collected fresh (heads tdt ∷ story.goesOn 6 (drop 5 day-later) ∷ [])) ≡ []
+  -- the next start is taken in each, and heals
+  pub each-takes : Takes fresh complete (begins 6) × Takes fresh faded (begins 6)
 
 -- ---- stronger statements, which are false
 
 module _ (C : Collector) where
   -- that a counter is the same
   abbrev pub CounterSame : Kind → Type 0
-  CounterSame k = OverPairs C Starts IsTaken (λ packet a b. bytesCounted (done k) (a .left) ≡ bytesCounted (done k) (b .left))
+  CounterSame k = OverPairs C Starts IsTaken IsTaken (λ packet a b. bytesCounted (done k) (a .left) ≡ bytesCounted (done k) (b .left))
 
   -- that the last rejected number is the same at once
   abbrev pub NumberSame : Type 0
-  NumberSame = OverPairs C Starts IsTaken (λ packet a b. a .left .rejection ≡ b .left .rejection)
+  NumberSame = OverPairs C Starts IsTaken IsTaken (λ packet a b. a .left .rejection ≡ b .left .rejection)
 
   -- that what is delivered before the target is the same
   abbrev pub HandedSame : Type 0
-  HandedSame = OverPairs C Starts IsTaken (λ packet a b. handedNow a ≡ handedNow b)
-
--- packets with payload that need not have the start flag; with the flag that need not have payload
-abbrev pub HasPayload : List ℕ → Type 0
-HasPayload packet = (control packet ≡ 1) ⊎ (control packet ≡ 3)
-
-abbrev pub HasFlag : List ℕ → Type 0
-HasFlag packet = startFlag packet ≡ true
-
--- packets that are taken or called repeated
-abbrev pub NotRefused : Fare → Type 0
-NotRefused f = (f ≡ R.taken) ⊎ (f ≡ R.repeated)
+  HandedSame = OverPairs C Starts IsTaken IsTaken (λ packet a b. handedNow a ≡ handedNow b)
 
 pub record Stronger : Type 0 where
   pub counters-may-differ : (k : Kind) → CounterSame Promised k → ⊥
   pub number-may-differ : NumberSame Promised → ⊥
   pub before-target-may-differ : HandedSame Promised → ⊥
-  pub needs-start-flag : (SameState Promised HasPayload IsTaken → ⊥) × (SameFromThenOn Promised HasPayload IsTaken → ⊥)
-  pub needs-payload : (SameState Promised HasFlag IsTaken → ⊥) × (SameFromThenOn Promised HasFlag IsTaken → ⊥)
-  pub needs-taken : (SameState Promised Starts NotRefused → ⊥) × (SameFromThenOn Promised Starts NotRefused → ⊥)
+  -- without the flag, without payload, and where one history calls the packet repeated
+  pub needs-start-flag : (SameState Promised HasPayload IsTaken IsTaken → ⊥) × (SameFromThenOn Promised HasPayload IsTaken IsTaken → ⊥)
+  pub needs-payload : (SameState Promised HasFlag IsTaken IsTaken → ⊥) × (SameFromThenOn Promised HasFlag IsTaken IsTaken → ⊥)
+  pub needs-taken : (SameState Promised Starts IsTaken IsRepeated → ⊥) × (SameFromThenOn Promised Starts IsTaken IsRepeated → ⊥)
 
 -- ---- wrong collectors
 
@@ -293,19 +295,22 @@ countersStop r hold out packet =
     o
 
 -- one that hands out nothing once a section was rejected
-abbrev pub silenced : Bool → List ℕ → Outcome → Outcome
-silenced true out o = record { rec = o .rec; hold = o .hold; out = out; said = taken 0 0 }
-silenced false out o = o
+abbrev pub silent : Reply → Reply
+silent (refusedWith n) = refusedWith n
+silent Answer.repeated = Answer.repeated
+silent (taken sections bytes) = taken 0 0
 
 abbrev pub fallsSilent : Making
-fallsSilent r hold out packet = silenced (ltb 0 (r .rejection)) out (collected r hold out packet)
+fallsSilent r hold out packet =
+    let o = collected r hold out packet in
+    if ltb 0 (r .rejection) then record { rec = o .rec; hold = o .hold; out = out; said = silent (o .said) } else o
 
 pub record ShutOut : Type 0 where
-  pub forgets-to-break : SameState (Makes forgetsToBreak) Starts IsTaken → ⊥
-  pub counter-stays : SameState (Makes counterStays) Starts IsTaken → ⊥
-  pub first-byte-stays : SameState (Makes firstByteStays) Starts IsTaken → ⊥
-  pub mark-survives : SameState (Makes markSurvives) Starts IsTaken → ⊥
+  pub forgets-to-break : SameState (Makes forgetsToBreak) Starts IsTaken IsTaken → ⊥
+  pub counter-stays : SameState (Makes counterStays) Starts IsTaken IsTaken → ⊥
+  pub first-byte-stays : SameState (Makes firstByteStays) Starts IsTaken IsTaken → ⊥
+  pub mark-survives : SameState (Makes markSurvives) Starts IsTaken IsTaken → ⊥
   -- the number is the first one for ever
-  pub remembers-rejection : SameNumber (Makes (collectedBy keepsFirst)) Starts IsTaken → ⊥
-  pub counters-stop : GrownAlike (Makes countersStop) Starts IsTaken → ⊥
-  pub falls-silent : (SameNow (Makes fallsSilent) Starts IsTaken → ⊥) × (SameFromThenOn (Makes fallsSilent) Starts IsTaken → ⊥)
+  pub remembers-rejection : SameNumber (Makes (collectedBy keepsFirst)) Starts IsTaken IsTaken → ⊥
+  pub counters-stop : GrownAlike (Makes countersStop) Starts IsTaken IsTaken → ⊥
+  pub falls-silent : (SameNow (Makes fallsSilent) Starts IsTaken IsTaken → ⊥) × (SameFromThenOn (Makes fallsSilent) Starts IsTaken IsTaken → ⊥)

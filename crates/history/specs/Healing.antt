@@ -23,15 +23,22 @@ use Rattle.collector.specs.Collected.{bytesCounted, freshRecord}
 use Rattle.collector.specs.declared.Record.{Record}
 use Rattle.collector.specs.declared.Last.{Last}
 use Rattle.history.specs.History.{Byte, valueOf, numbered, History, historyFrom, payloadsFrom}
-use Rattle.history.specs.Run.{Collector, Call, inputOf, Run, no-call, one-call, Fare, taken, fareOf, Lent, faresFrom, ruledTaken, beforeFrom, handedBy, handed, bytesBy, toldBy}
+use Rattle.history.specs.Run.{Collector, Call, inputOf, Run, no-call, one-call, Fare, repeated, taken, fareOf, Lent, faresFrom, ruledTaken, beforeFrom, handedBy, handed, bytesBy, toldBy}
 use Rattle.history.specs.Demand3.{deliveredIn, rejectedIn}
 
 -- ---- the packet
 
--- "the same packet with payload and the start flag": adaptation control 01 or 11
+-- "with payload": adaptation control 01 or 11
+abbrev pub HasPayload : List ℕ → Type 0
+HasPayload packet = (control packet ≡ 1) ⊎ (control packet ≡ 3)
+
+abbrev pub HasFlag : List ℕ → Type 0
+HasFlag packet = startFlag packet ≡ true
+
+-- "the same packet with payload and the start flag"
 pub record Starts (packet : List ℕ) : Type 0 where
-  pub payload : (control packet ≡ 1) ⊎ (control packet ≡ 3)
-  pub start : startFlag packet ≡ true
+  pub payload : HasPayload packet
+  pub flag : HasFlag packet
 
 -- "beyond its pointer's target": from as many bytes behind the pointer on as it says
 abbrev pub beyondTarget : List ℕ → List ℕ
@@ -63,7 +70,7 @@ followingOf k = record { packet = k .packet; small = ltb (length (k .out)) 4280 
 abbrev pub lentBy : Following → Lent
 lentBy x = record { packet = x .packet; room = if x .small then 0 else 4280 }
 
--- the PID is the packet's own, and the hold, which took a packet, suffices
+-- the PID is the packet's own, and the hold, with which it was taken, suffices
 abbrev pub faresBehind : List ℕ → List Following → List Fare
 faresBehind packet later = faresFrom (pidOf packet) 4096 (behind packet) (map lentBy later)
 
@@ -107,9 +114,6 @@ pub record Tally : Type 0 where
   pub counted : Kind → ℕ
   pub number : ℕ
 
-abbrev pub noTally : Tally
-noTally = record { counted = λ k. 0; number = 0 }
-
 -- as they stand at the target
 abbrev pub atTarget : Record → List ℕ → List ℕ → Tally
 atTarget r hold packet = record {
@@ -140,8 +144,8 @@ abbrev pub statesIn : {C : Collector} {r r′ : Record} {hold hold′ : List ℕ
 statesIn {r = r} {hold = hold} no-call = stateOf r hold ∷ []
 statesIn {r = r} {hold = hold} (one-call c rest) = stateOf r hold ∷ statesIn rest
 
--- ---- a history, from any record and any hold, fresh or made by hand: any calls; then one with the packet, which fares so; then later ones, of
--- which the last may be any
+-- ---- a history, from any record and any hold, fresh or made by hand: any calls; then one with the packet, which fares so; then later ones, after
+-- any of which it may stop
 
 module _ (C : Collector) (F : Fare → Type 0) where
   pub record Took (packet : List ℕ) : Type 0 where
@@ -163,6 +167,9 @@ module _ (C : Collector) (F : Fare → Type 0) where
 -- "if both then take"
 abbrev pub IsTaken : Fare → Type 0
 IsTaken f = f ≡ taken
+
+abbrev pub IsRepeated : Fare → Type 0
+IsRepeated f = f ≡ repeated
 
 module _ {C : Collector} {F : Fare → Type 0} {packet : List ℕ} (t : Took C F packet) where
   abbrev pub followed : List Following
@@ -205,7 +212,7 @@ pub record SameCalls (ks js : List Call) : Type 0 where
   pub sections : map (λ k. handedBy (k .said) (k .out′)) ks ≡ map (λ k. handedBy (k .said) (k .out′)) js
   pub bytes : map (λ k. bytesBy (k .said) (k .out′)) ks ≡ map (λ k. bytesBy (k .said) (k .out′)) js
 
-module _ {C : Collector} {F : Fare → Type 0} {packet : List ℕ} (a b : Took C F packet) where
+module _ {C : Collector} {F G : Fare → Type 0} {packet : List ℕ} (a : Took C F packet) (b : Took C G packet) where
   -- a counter has grown by as many bytes in both from the target on, modulo 2^32
   pub record Grown (k : Kind) : Type 0 where
     pub more : ℕ
@@ -218,8 +225,8 @@ module _ {C : Collector} {F : Fare → Type 0} {packet : List ℕ} (a b : Took C
     pub one-until : rejectedSince packet (followed a) ≡ [] → a .left .rejection ≡ target a .number
     pub other-until : rejectedSince packet (followed a) ≡ [] → b .left .rejection ≡ target b .number
 
--- ---- the same, said without a story: from the target on it goes with a history as with a fresh record that has this packet first, and then the same
--- packets and out rooms
+-- ---- what is delivered, and the state, said once more without a story: from the target on it goes with a history as with a fresh record that has
+-- this packet first, and then the same packets and out rooms
 
 pub record AsFresh {C : Collector} {packet : List ℕ} (t : Took C IsTaken packet) : Type 0 where
   pub new : Took C IsTaken packet
@@ -234,7 +241,7 @@ pub record AsFresh {C : Collector} {packet : List ℕ} (t : Took C IsTaken packe
   pub from-then-on : SameCalls (t .later) (new .later)
   pub state : statesIn (t .went-on) ≡ statesIn (new .went-on)
 
--- ---- the statements: P is what is asked of the packet, and F how it fares
+-- ---- the statements
 
 -- of one history: what comes from beyond the target, and all that the record tells but what stood before it, is fixed by the packets alone
 abbrev pub ByPacketsSince : Collector → Type 0
@@ -243,10 +250,10 @@ ByPacketsSince C = (packet : List ℕ) → Starts packet → (t : Took C IsTaken
 abbrev pub EachAsFresh : Collector → Type 0
 EachAsFresh C = (packet : List ℕ) → Starts packet → (t : Took C IsTaken packet) → AsFresh t
 
-module _ (C : Collector) (P : List ℕ → Type 0) (F : Fare → Type 0) where
-  -- of two
-  abbrev pub OverPairs : ((packet : List ℕ) → Took C F packet → Took C F packet → Type 0) → Type 0
-  OverPairs Q = (packet : List ℕ) → P packet → (a b : Took C F packet) → followed a ≡ followed b → Q packet a b
+-- of two: P is what is asked of the packet, F how it fares in the one, and G in the other
+module _ (C : Collector) (P : List ℕ → Type 0) (F G : Fare → Type 0) where
+  abbrev pub OverPairs : ((packet : List ℕ) → Took C F packet → Took C G packet → Type 0) → Type 0
+  OverPairs Q = (packet : List ℕ) → P packet → (a : Took C F packet) (b : Took C G packet) → followed a ≡ followed b → Q packet a b
 
   -- "everything delivered from beyond its pointer's target is the same, now"
   abbrev pub SameNow : Type 0
@@ -270,8 +277,8 @@ module _ (C : Collector) (P : List ℕ → Type 0) (F : Fare → Type 0) where
 
 -- the sentence
 pub record Heals (C : Collector) : Type 0 where
-  pub now : SameNow C Starts IsTaken
-  pub from-then-on : SameFromThenOn C Starts IsTaken
-  pub state : SameState C Starts IsTaken
-  pub counters : GrownAlike C Starts IsTaken
-  pub number : SameNumber C Starts IsTaken
+  pub now : SameNow C Starts IsTaken IsTaken
+  pub from-then-on : SameFromThenOn C Starts IsTaken IsTaken
+  pub state : SameState C Starts IsTaken IsTaken
+  pub counters : GrownAlike C Starts IsTaken IsTaken
+  pub number : SameNumber C Starts IsTaken IsTaken

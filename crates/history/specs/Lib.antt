@@ -1,4 +1,4 @@
--- The statements of demands 1 and 3 about a collector, with those of requests (viii) and (ix), that they leave one, the
+-- The statements of demands 1 and 3 about a collector, with those of requests (viii), (ix) and (xii), that they leave one, the
 -- wrong ones that they shut out, and stories of packets.
 pub mod History
 pub mod Run
