@@ -1,6 +1,7 @@
 """What an edit holds: one wrong program or several, each of another function.
 
     # a comment
+    # by: proofs/File.antt          where definitions alone are altered: the one file that must fail, and no other
     wrong: LABEL of FUNCTION        the wrong program's name, and the function whose proof must fail: as the source has it, without
                                     the crate, `parts::after`; of a constant the functions that name it, `row_at, row_of`; where
                                     definitions alone are altered there is no such line, and the name is the file's
@@ -42,6 +43,13 @@ def read(path):
             elif word == 'new':
                 found[-1].pairs.append((name, old, key, rest))
     return [wrong for wrong in found if wrong.functions or wrong.pairs]
+
+
+def by(path):
+    """The file that an edit of definitions names as the one that must fail, or None."""
+    with open(path, encoding='utf-8') as f:
+        named = re.search(r'^# by: (\S+)$', f.read(), re.M)
+    return named and named.group(1)
 
 
 def paths(crate='*'):

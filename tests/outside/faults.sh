@@ -6,8 +6,8 @@ tests/outside/second/build stand_in
 tried=target/second/stand_in.log
 target/second/stand_in 1 20000 >"$tried" || { cat "$tried"; exit 1; }
 # Kind and fault. What 63 to 65 tell is tried twice: by the second implementation, and by the caller's bytes, the kind digits. So are faults of judging
-# what is collected: in histories of packets, and in the packets that were written. The kind fades has no second implementation to ask: it sees what
-# two histories leave in the answers from a section start on, the mark and the number that stay among them.
+# what is collected: in histories of packets, and in the packets that were written. The kind fades asks no second
+# implementation: it holds two histories against each other from a section start on.
 all="bytes:1 bytes:6 sections:2 sections:3 sections:4 sections:5 sections:23 sections:24 sections:25 sections:26
     packets:7 packets:8 packets:9 packets:10 packets:27 descriptors:11 descriptors:12 descriptors:13 times:14 times:15
     rolls:16 rolls:17 rolls:18 sheets:19 sheets:20 sheets:21 sheets:22
