@@ -88,11 +88,13 @@ pub record SameCalls (ks js : List Call) : Type 0 where
   pub bytes : map (λ k. take (k .answer .size) (k .out′)) ks ≡ map (λ k. take (k .answer .size) (k .out′)) js
 
 module _ {C : Collector} {packet : List ℕ} (a b : Took C packet) where
+  -- a counter has grown by as many bytes in both from the target on, modulo 2^32
   pub record Grown (k : Kind) : Type 0 where
     pub more : ℕ
     pub one : countedIn k (a .left) ≡ (target a .counted k + more) % 2 ^ 32
     pub other : countedIn k (b .left) ≡ (target b .counted k + more) % 2 ^ 32
 
+  -- the number is the same once a section from beyond the target was rejected, and until then it is what it was at the target
   pub record Overwritten : Type 0 where
     pub since-then : (rejectedSince packet (followed a) ≡ [] → ⊥) → a .left .rejection ≡ b .left .rejection
     pub one-until : rejectedSince packet (followed a) ≡ [] → a .left .rejection ≡ target a .number
@@ -105,6 +107,7 @@ module _ {C : Collector} {packet : List ℕ} (a b : Took C packet) where
     pub counters : (k : Kind) → Grown k
     pub number : Overwritten
 
+-- the sentence
 abbrev pub Heals : Collector → Type 0
 Heals C = (packet : List ℕ) → Starts packet → (a b : Took C packet) → followed a ≡ followed b → Healed a b
 

@@ -247,6 +247,7 @@ pub record AsFresh {C : Collector} {packet : List ℕ} (t : Took C IsTaken packe
 abbrev pub ByPacketsSince : Collector → Type 0
 ByPacketsSince C = (packet : List ℕ) → Starts packet → (t : Took C IsTaken packet) → FromTarget t
 
+-- and a fresh record takes what any other took, and goes on alike
 abbrev pub EachAsFresh : Collector → Type 0
 EachAsFresh C = (packet : List ℕ) → Starts packet → (t : Took C IsTaken packet) → AsFresh t
 
