@@ -87,6 +87,11 @@ module _ (id e t n : ℕ) where
   unfolding idsThatCount
   counted-eit q = rw (eit-not-sdt id q, q) (refl, refl)
 
+-- what is compared is of the table that is kept
+pub compared-table : (k : SubTable) → compared k .«table_id» ≡ k .«table_id»
+unfolding compared
+compared-table k = counted-table (k .«table_id») (k .extension) (k .«transport_stream_id») (k .«original_network_id»)
+
 counted-same : (id e t n e' t' n' : ℕ) → e ≡ e' → (isSdt id ≡ true → n ≡ n') → (isEit id ≡ true → (t ≡ t') × (n ≡ n'))
     → idsThatCount id e t n ≡ idsThatCount id e' t' n'
 unfolding idsThatCount

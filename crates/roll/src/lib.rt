@@ -6,11 +6,25 @@ use head::SubTable;
 use verdict::Verdict;
 
 mod marking;
-mod stepping;
+pub mod segments;
+pub mod stepping;
 
-// Which section numbers have come. Only the functions of `marking` look inside.
+// segment_last_section_number of a segment. 255 is the end of the last one, so that "unknown" is a case of its own.
+pub enum End {
+    Unknown,
+    At(u8),
+}
+
+// Eight section numbers: which of them have come, and where a schedule's segment ends.
+pub struct Segment {
+    // Of tables other than schedules it means nothing.
+    pub end: End,
+    pub came: [bool; 8],
+}
+
+// "thirty-two segments of eight sections": segment k has the numbers from 8k to 8k + 7.
 pub struct Marks {
-    pub came: [bool; 256],
+    pub segments: [Segment; 32],
 }
 
 pub struct Roll {
@@ -19,14 +33,15 @@ pub struct Roll {
     pub sub_table: SubTable,
     pub version: u8,
     pub last: u8,
-    // Those above the last number mean nothing.
+    // Those above the last number mean nothing; of a schedule, nor do those of a segment whose end is unknown, or lies
+    // outside it or above the last number.
     pub marks: Marks,
 }
 
 pub enum Answer {
     // The smallest number that has not come.
     Missing(u8),
-    // All numbers from 0 to the last have come.
+    // All numbers from 0 to the last have come; of a schedule, all up to the end of each segment.
     Complete,
     // 1 to 10: the judge's refusal.
     Refused(Verdict),
@@ -36,6 +51,15 @@ pub enum Answer {
     AnotherSubTable,
     // 83: TDT, TOT.
     NoSubTable,
+    // 84: segment_last_section_number below section_number, above last_section_number or in another segment.
+    SegmentEnd,
+}
+
+// What a section does to a roll: a refusal, or it is taken.
+pub enum Course {
+    Refused(Answer),
+    // Whether it goes on with what has come, or starts afresh.
+    Taken(bool),
 }
 
 // The roll after a section, and its answer.
@@ -69,21 +93,25 @@ pub fn ask(roll: Roll) -> Answer
 {
     if roll.begun {
         let marks = roll.marks;
-        return marking::missing(marks, roll.last);
+        let schedule = segments::is_schedule(roll.sub_table.table_id);
+        return segments::missing(marks, roll.last, schedule);
     }
     Answer::Missing(0)
 }
 
-// "It takes a section; refuses 1 to 10, then 83 .., 82 .., 81 .., itself unchanged."
+// "It takes a section; refuses 1 to 10, then 83 .., 82 .., 81 .., itself unchanged"; "84, after 81".
 pub fn take(roll: Roll, section: &[u8]) -> Step
     ensures { λ r. ⌜ heard r ≡ taking roll (now (section .entry)) ⌝ }
 {
-    let verdict = section::judge::judge(section);
-    if verdict::is_accepted(verdict) {
-        return stepping::take_accepted(roll, section);
-    }
-    Step {
-        roll,
-        answer: Answer::Refused(verdict),
+    let sub_table = roll.sub_table;
+    let course = stepping::course_of(roll.begun, sub_table, roll.version, roll.last, section);
+    match course {
+        Course::Refused(answer) => Step { roll, answer },
+        Course::Taken(on) => {
+            if on {
+                return stepping::answered_by(stepping::with_section(roll, section));
+            }
+            stepping::answered_by(stepping::begun_with(section))
+        }
     }
 }

@@ -1,40 +1,55 @@
-// The marks of a roll. Nothing else looks inside them.
+// One segment of a roll's marks.
 ghost use mathlib.Core.Path.{_≡_};
-ghost use Rattle.roll.specs.Answer.{toldAnswer};
-ghost use Rattle.roll.specs.Marks.{unmarked, marked, smallestMissing};
-use crate::Answer;
+ghost use Rattle.roll.specs.Marks.{blank, unmarked, withMark};
+ghost use Rattle.roll.specs.Segments.{endingAt};
+use crate::End;
 use crate::Marks;
+use crate::Segment;
+
+// A segment with this end, of which nothing has come.
+fn blank_until(end: End) -> Segment
+    ensures { λ r. ⌜ r ≡ blank end ⌝ }
+{
+    Segment {
+        end,
+        came: [false; 8],
+    }
+}
 
 // No number has come.
 pub fn no_marks() -> Marks
     ensures { λ r. ⌜ r ≡ unmarked ⌝ }
 {
-    Marks { came: [false; 256] }
+    let none = blank_until(End::Unknown);
+    Marks {
+        segments: [none; 32],
+    }
 }
 
-// The same, and this number has come.
-pub fn mark(marks: Marks, number: u8) -> Marks
-    ensures { λ r. ⌜ r ≡ marked marks number ⌝ }
+// The same segment, and this number of it has come.
+pub fn with_mark(segment: Segment, number: u8) -> Segment
+    ensures { λ r. ⌜ r ≡ withMark segment number ⌝ }
 {
-    let at = number as usize;
-    let mut after = marks;
-    after.came[at] = true;
-    after
+    let at = (number % 8) as usize;
+    let mut came = segment.came;
+    came[at] = true;
+    let end = segment.end;
+    Segment { end, came }
 }
 
-// "the smallest number missing, or complete: all from 0 to last"
-pub fn missing(marks: Marks, last: u8) -> Answer
-    ensures { λ r. ⌜ toldAnswer r ≡ smallestMissing marks last ⌝ }
+// "A segment end that changes within one version empties that segment"
+pub fn ending_at(segment: Segment, end: u8) -> Segment
+    ensures { λ r. ⌜ r ≡ endingAt segment end ⌝ }
 {
-    let came = marks.came;
-    let end = last as usize;
-    let mut n: usize = 0;
-    while n <= end {
-        if came[n] {
-            n += 1;
-        } else {
-            return Answer::Missing(n as u8);
+    let kept = segment.end;
+    match kept {
+        End::Unknown => blank_until(End::At(end)),
+        End::At(e) => {
+            if e == end {
+                segment
+            } else {
+                blank_until(End::At(end))
+            }
         }
     }
-    Answer::Complete
 }

@@ -16,30 +16,24 @@ last-of-requires c κs = search needs
 no-marks-requires : tie.Need-no-marks-requires
 no-marks-requires c κs = search needs
 
-number-of-requires : tie.Need-number-of-requires
-number-of-requires c κs = search needs
-
-mark-requires : tie.Need-mark-requires
-mark-requires c κs = search needs
+marked-by-requires : tie.Need-marked-by-requires
+marked-by-requires c κs = search needs
 
 returns : tie.Need-returns
 unfolding begunWith
 returns c =
-    let number = c .before in
-    let marks = number .before in
+    let marks = c .before in
     let last = marks .before in
     let version = last .before in
     rw (
       version .before .sub-table-of .ensures,
       version .version-of .ensures,
       last .last-of .ensures,
-      c .mark .ensures,
+      c .marked-by .ensures,
       marks .no-marks .ensures,
-      number .number-of .ensures,
     )
 
 pub begun-with-spec : {M : Type 1} → statement M
 begun-with-spec =
     tie.close
-    (tie.spec sub-table-of-requires version-of-requires last-of-requires no-marks-requires number-of-requires
-    mark-requires returns)
+    (tie.spec sub-table-of-requires version-of-requires last-of-requires no-marks-requires marked-by-requires returns)

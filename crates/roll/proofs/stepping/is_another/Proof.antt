@@ -2,7 +2,6 @@
 use mathlib.Core.Path.{ap, ap₂, _∙_}
 use mathlib.Core.Bool.{not}
 use Rattle.head.specs.SubTable.{sameIds}
-use Rattle.roll.specs.Roll.{another}
 use borrow.Author.Needs.{needs}
 use Rattle.roll.proofs.stepping.is_another.Statement.{statement}
 use Rattle.roll.proofs.stepping.is_another.Tie as tie
@@ -17,14 +16,12 @@ same-ids-requires : tie.Need-same-ids-requires
 same-ids-requires c κs = search needs
 
 returns : tie.Need-returns
-unfolding another
 returns c =
     let kept = c .before .before in
-    rw (kept .before .before .if1 .taken)
+    rw (kept .before .if1 .taken)
     (ap not (c .same-ids .ensures ∙ ap₂ sameIds (kept .as-compared .ensures) (c .before .sub-table-of .ensures)))
 
 returns-2 : tie.Need-returns-2
-unfolding another
 returns-2 c = rw (c .if1 .left)
 
 pub is-another-spec : {M : Type 1} → statement M

@@ -2,7 +2,6 @@
 use native.Mathlib.Omega.{arith}
 use mathlib.Core.Path.{_≡_, ap}
 use Rattle.head.specs.Head.{versionIn}
-use Rattle.roll.specs.Roll.{startsAfresh}
 use Prim.Native.Nat.{ℕ}
 use mathlib.Core.Bool.{not}
 use lib.Dec.{eqb}
@@ -15,32 +14,24 @@ version-of-requires : tie.Need-version-of-requires
 version-of-requires c κs = search needs
 
 returns : tie.Need-returns
-unfolding startsAfresh
 returns c =
-    let version = c .before .before in
-    let begun = version .before in
-    let args = begun .before .before .args in
-    rw (
-      begun .if1 .taken,
-      ne-eqb (args .roll .version) (versionIn (args .section .now))
-          (λ e. omega (arith, version .version-of .ensures, c .if2 .taken)),
-    )
+    let begun : tie.Then1 = search in
+    let start : tie.Start = search in
+    let args = start .args in
+    rw (begun .if1 .taken, ne-eqb (args .version) (versionIn (args .section .now)) (λ e. omega arith))
 
 last-of-requires : tie.Need-last-of-requires
 last-of-requires c κs = search needs
 
 returns-2 : tie.Need-returns-2
-unfolding startsAfresh
 returns-2 c =
-    let test = c .before .before in
-    let version = test .before .before in
-    let begun = version .before in
-    let args = begun .before .before .args in
-    let same : args .roll .version ≡ versionIn (args .section .now) = omega (arith, version .version-of .ensures, test .if2 .left) in
-    rw (begun .if1 .taken, eq-eqb _ _ same) (ap (λ (n : ℕ). not (eqb (args .roll .last) n)) (c .before .last-of .ensures))
+    let begun : tie.Then1 = search in
+    let start : tie.Start = search in
+    let args = start .args in
+    let same : args .version ≡ versionIn (args .section .now) = omega arith in
+    rw (begun .if1 .taken, eq-eqb _ _ same) (ap (λ (n : ℕ). not (eqb (args .last) n)) (c .last-of .ensures))
 
 returns-3 : tie.Need-returns-3
-unfolding startsAfresh
 returns-3 c = rw (c .if1 .left)
 
 pub starts-afresh-spec : {M : Type 1} → statement M
