@@ -2,6 +2,8 @@
 pub mod MarkLaws
 pub mod TableIds
 pub mod SmallestMissing
+pub mod SegmentAnswers
+pub mod InSegments
 pub mod Exactly
 pub mod Steps
 pub mod WholeSequence

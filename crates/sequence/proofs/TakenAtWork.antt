@@ -1,21 +1,28 @@
 -- What the statements about one section ask can be met: an empty roll and the network information table of version 21,
--- for which there is no refusal, and which is taken.
-use Prim.Native.Nat.{ℕ, zero, suc}
+-- for which there is no refusal, and which is taken; an empty roll and a schedule; and a roll made by hand and a section
+-- that changes the end of a segment.
+use Prim.Native.Nat.{ℕ, zero, suc, _/_}
 use mathlib.Core.Path.{_≡_, refl, sym, ap, _∙_}
 use mathlib.Core.Bool.{Bool, true, _&&_}
+use mathlib.Core.Logic.{_↔_}
 use mathlib.Core.List.{List, [], _∷_}
 use native.Mathlib.Omega.{arith}
 use lib.Dec.{ltb}
+use lib.ListN.{length, getD, getD-replicate}
 use borrow.Author.Tests.{ltb-true}
 use Rattle.wire.specs.Bytes.{Bytes}
 use Rattle.roll.specs.Answer.{Says, missing, complete, refusing}
-use Rattle.roll.specs.Marks.{Whole}
+use Rattle.roll.specs.Marks.{segmentAt, has, Whole}
 use Rattle.roll.specs.Roll.{emptyRoll, taking}
-use Rattle.sequence.specs.Step.{FirstFor, AfterTaking}
+use Rattle.roll.proofs.Ends.{at-once}
+use Rattle.sequence.specs.Step.{Schedule, FirstFor, AfterTaking, AfterTakingInSegments, GoesOn}
 use Rattle.sequence.proofs.MarkLaws.{unmarked-whole}
 use Rattle.head.proofs.Ids.{and-left, and-right}
-use Rattle.sequence.proofs.Exactly.{refuses-exactly-if, takes-else}
-use Rattle.sequence.proofs.AtWork.{at-work, higher}
+use Rattle.sequence.proofs.Exactly.{refuses-exactly-if, takes-else, takes-else-in-segments, change-empties}
+use Rattle.sequence.proofs.AtWork.{at-work, higher, schedule-0, schedule-1-to-2, by-hand}
+use Rattle.roll.specs.declared.Roll.{Roll}
+use Rattle.roll.specs.declared.Segment.{Segment}
+use Rattle.roll.specs.declared.End.the-variants.{At}
 
 -- each element is a byte, by a test
 small : List ℕ → Bool
@@ -28,23 +35,16 @@ small-bytes [] e i = omega arith
 small-bytes (b ∷ l) e zero = ltb-true b 256 (and-left (ltb b 256) (small l) e)
 small-bytes (b ∷ l) e (suc i) = small-bytes l (and-right (ltb b 256) (small l) e) i
 
-higher-bytes : Bytes higher
-unfolding small higher
-higher-bytes = small-bytes higher refl
-
 -- the first answer, if there is one
 first : List Says → Says
 first [] = complete
 first (x ∷ l) = x
 
-answered : taking emptyRoll higher .says ≡ missing 1
-unfolding first
-answered = ap first (at-work .1)
-
-none-refuses : (k p : ℕ) → FirstFor emptyRoll higher k p → ⊥
-none-refuses k p f =
-    let told = refuses-exactly-if emptyRoll higher (taking emptyRoll higher) refl k p .1 f in
-    let e : missing 1 ≡ refusing k p = sym answered ∙ told in
+-- what answers that a number is missing refuses nothing
+none-refuses : (r : Roll) (s : List ℕ) (n : ℕ) → taking r s .says ≡ missing n → (k p : ℕ) → FirstFor r s k p → ⊥
+none-refuses r s n answered k p f =
+    let told = refuses-exactly-if r s (taking r s) refl k p .1 f in
+    let e : missing n ≡ refusing k p = sym answered ∙ told in
     let z : _≡_ {A = ℕ} 0 1 = cc in
     omega arith
 
@@ -52,5 +52,82 @@ empty-whole : Whole (emptyRoll .marks)
 unfolding emptyRoll
 empty-whole = unmarked-whole
 
+-- ---- a table that is no schedule
+
+higher-bytes : Bytes higher
+unfolding small higher
+higher-bytes = small-bytes higher refl
+
+higher-answered : taking emptyRoll higher .says ≡ missing 1
+unfolding first
+higher-answered = ap first (at-work .1)
+
+not-schedule : Schedule (getD higher 0 0) → ⊥
+unfolding higher
+not-schedule (a, b) = omega arith
+
 pub higher-taken : AfterTaking emptyRoll higher (taking emptyRoll higher)
-higher-taken = takes-else emptyRoll higher (taking emptyRoll higher) refl higher-bytes empty-whole none-refuses
+higher-taken =
+    takes-else emptyRoll higher (taking emptyRoll higher) refl higher-bytes empty-whole
+    (none-refuses emptyRoll higher 1 higher-answered) not-schedule
+
+-- ---- a schedule
+
+schedule-bytes : Bytes schedule-0
+unfolding small schedule-0
+schedule-bytes = small-bytes schedule-0 refl
+
+schedule-answered : taking emptyRoll schedule-0 .says ≡ missing 1
+unfolding first
+schedule-answered = ap first (at-work .4)
+
+is-schedule : Schedule (getD schedule-0 0 0)
+unfolding schedule-0
+is-schedule = (omega arith, omega arith)
+
+pub schedule-taken : AfterTakingInSegments emptyRoll schedule-0 (taking emptyRoll schedule-0)
+schedule-taken =
+    takes-else-in-segments emptyRoll schedule-0 (taking emptyRoll schedule-0) refl schedule-bytes empty-whole
+    (none-refuses emptyRoll schedule-0 1 schedule-answered) is-schedule
+
+-- ---- an end that changes, of a roll made by hand
+
+abbrev hand : Roll
+hand = by-hand 0x50 (At 1) 17
+
+hand-whole : Whole (hand .marks)
+unfolding by-hand Whole segmentAt
+hand-whole = (refl, λ k h. ap (λ (g : Segment). length (g .came)) (getD-replicate 32 k _ _ h))
+
+change-bytes : Bytes schedule-1-to-2
+unfolding small schedule-1-to-2
+change-bytes = small-bytes schedule-1-to-2 refl
+
+change-answered : taking hand schedule-1-to-2 .says ≡ missing 0
+unfolding first
+change-answered = ap first (at-work .10)
+
+change-schedule : Schedule (getD schedule-1-to-2 0 0)
+unfolding schedule-1-to-2
+change-schedule = (omega arith, omega arith)
+
+goes-on : GoesOn hand schedule-1-to-2
+unfolding by-hand schedule-1-to-2
+goes-on = record {
+  begun = refl;
+  version = record { reserved = 3; byte = refl; five-bits = omega arith; one-bit = omega arith };
+  last = refl;
+}
+
+changes : segmentAt (hand .marks) (getD schedule-1-to-2 6 0 / 8) .end ≡ At (getD schedule-1-to-2 12 0) → ⊥
+unfolding by-hand schedule-1-to-2 segmentAt
+changes e = let z = at-once e in omega arith
+
+pub change-met :
+    ((n : ℕ) → n / 8 ≡ getD schedule-1-to-2 6 0 / 8
+    → (has (taking hand schedule-1-to-2 .roll .marks) n ≡ true) ↔ (n ≡ getD schedule-1-to-2 6 0))
+    × ((k : ℕ) → (k ≡ getD schedule-1-to-2 6 0 / 8 → ⊥)
+    → segmentAt (taking hand schedule-1-to-2 .roll .marks) k ≡ segmentAt (hand .marks) k)
+change-met =
+    change-empties hand schedule-1-to-2 (taking hand schedule-1-to-2) refl change-bytes hand-whole
+    (none-refuses hand schedule-1-to-2 0 change-answered) change-schedule goes-on changes
