@@ -44,7 +44,7 @@ extern "C" {
 /* The version of the library, and the number of this interface: it goes up when the layout of a struct or the meaning of a call changes. A program that
  * was compiled with this header may use an archive or a shared library for which lohitunga_interface() tells the same number. */
 #define LOHITUNGA_VERSION "0.1"
-#define LOHITUNGA_INTERFACE 5
+#define LOHITUNGA_INTERFACE 6
 
 uint32_t lohitunga_interface(void);
 
@@ -115,6 +115,7 @@ uint32_t lohitunga_interface(void);
 #define LOHITUNGA_REFUSED_NOT_CURRENT 81
 #define LOHITUNGA_REFUSED_OTHER_SUB_TABLE 82
 #define LOHITUNGA_REFUSED_NO_ROLL 83
+#define LOHITUNGA_REFUSED_SEGMENT_END 84
 #define LOHITUNGA_REFUSED_PID_OR_COUNTER 101
 #define LOHITUNGA_REFUSED_SECTIONS 102
 #define LOHITUNGA_REFUSED_PACKETS_ROOM 103
@@ -653,11 +654,16 @@ lohitunga_date_answer lohitunga_read_date(uint16_t mjd);
 
 /* The roll: which sections of a sub-table have come.
  *
+ * The sections of a schedule, the EIT of table_id 0x50 to 0x6F, stand in 32 segments of eight numbers, and a segment may end early. Each of its sections
+ * tells its end, segment_last_section_number: the numbers behind it are left out, and none of them is missing. A section that tells another end than the
+ * one before, within one version, empties its segment: of that it alone has come.
+ *
  * number   given when
  *   1-10   the judge refuses the section, with the judge's place
  *   83     TDT, TOT
  *   82     another sub-table
  *   81     current_next_indicator is 0
+ *   84     segment_last_section_number is below section_number, above last_section_number or in another segment (table_id 0x50 to 0x6F)
  */
 typedef struct lohitunga_roll {
     uint8_t begun; /* 0 for an empty roll, whose other fields mean nothing; any other number for one that is begun */
@@ -668,22 +674,27 @@ typedef struct lohitunga_roll {
     uint8_t version;
     uint8_t last;      /* last_section_number */
     uint8_t came[256]; /* came[n] is not 0: the section of number n has come; those above `last` mean nothing */
+    /* Of a schedule alone; of other tables they mean nothing. Where the end of a segment is not known, its marks in `came` count as unset. */
+    uint8_t known[32]; /* known[k] is not 0: end[k] is the end of segment k, that of the numbers 8k to 8k + 7 */
+    uint8_t end[32];   /* an end outside its segment or above `last` counts as unknown; end[k] means nothing where known[k] is 0 */
 } lohitunga_roll;
 
 typedef struct lohitunga_roll_answer {
-    uint32_t number; /* 0, 1 to 10, 81 to 83 */
-    size_t place;    /* of 8 to 10; else 0 */
-    uint8_t complete; /* 1 where all sections from 0 to the last have come; else 0 */
-    uint8_t missing;  /* the smallest number that has not come; 0 where complete */
+    uint32_t number;  /* 0, 1 to 10, 81 to 84 */
+    size_t place;     /* of 8 to 10; else 0 */
+    uint8_t complete; /* 1 where all sections from 0 to the last have come, of a schedule those of each segment up to its end; else 0 */
+    uint8_t missing;  /* the smallest number that has not come and is not left out; 0 where complete */
 } lohitunga_roll_answer;
 
 /* A roll in which nothing has come. It takes the first section of any sub-table. */
 lohitunga_roll lohitunga_roll_empty(void);
 
-/* The answer without a section; number is 0. */
+/* The answer without a section; number is 0. Of an empty roll 0 is missing, and of a schedule's segment whose end is not known its first number. A schedule is
+ * complete without the section of the number `last` where its segment ends before that. */
 lohitunga_roll_answer lohitunga_roll_ask(const lohitunga_roll *roll);
 
-/* A section. Alters the roll where it is not refused; `begun` and each of `came` are then 0 or 1. The struct has no padding. */
+/* A section. Alters the roll where it is not refused: `begun`, each of `came` and each of `known` are then 0 or 1, and end[k] is 0 where known[k] is.
+ * Another version or last_section_number starts it afresh: nothing has come, and no end is known. The struct has no padding. */
 lohitunga_roll_answer lohitunga_roll_take(lohitunga_roll *roll, const uint8_t *section, size_t size);
 
 #ifdef __cplusplus
@@ -691,11 +702,11 @@ lohitunga_roll_answer lohitunga_roll_take(lohitunga_roll *roll, const uint8_t *s
 #endif
 
 /* The stack that a call needs at most, in bytes below the caller's stack pointer, its return address included and that of memcpy and memset left out:
- *   lohitunga_roll_take            1,112
+ *   lohitunga_roll_take              744
  *   lohitunga_collect                712
  *   lohitunga_to_sheet               408
+ *   lohitunga_roll_ask               384
  *   lohitunga_to_section             360
- *   lohitunga_roll_ask               304
  *   lohitunga_open                   296
  *   lohitunga_search                 232
  *   lohitunga_judge                  200

@@ -65,6 +65,9 @@ static inline const char *lohitunga_text(uint32_t number) {
         return "A section of another sub-table: another table_id or extension; for SDT another original_network_id, "
                "for EIT another transport_stream_id or original_network_id. A version is never 82.";
     case 83: return "TDT or TOT: they are one section each and have no roll.";
+    case 84:
+        return "segment_last_section_number of a schedule (EIT, 50 to 6F) is below section_number, above "
+               "last_section_number or in another segment of eight numbers.";
     case 101: return "The PID is above 8,191 or the counter above 15.";
     case 102:
         return "The sizes do not cut the bytes into sections; or a section has fewer than 3 bytes, is not as long as "

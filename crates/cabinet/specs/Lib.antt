@@ -1,5 +1,6 @@
 -- What the structs that C is given say.
 pub mod Numbers
+pub mod Table
 pub mod Collect
 pub mod Judge
 pub mod Search
@@ -12,3 +13,4 @@ pub mod Delivery
 pub mod Roll
 pub mod Sheets
 pub mod Packets
+pub mod Inner

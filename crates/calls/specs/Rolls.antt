@@ -1,23 +1,27 @@
 -- The roll for C: each call of `lohitunga_roll_take` is, in numbers, one of `roll::take`, and so are whole sequences of
 -- them.
-use Prim.Native.Nat.{ℕ}
+use Prim.Native.Nat.{ℕ, _<_}
 use mathlib.Core.Path.{_≡_}
 use mathlib.Core.Bool.{false}
 use mathlib.Core.Logic.{_↔_}
-use mathlib.Core.List.{List, [], _∷_, map}
-use lib.ListN.{length, getD}
+use mathlib.Core.List.{List, [], _∷_}
+use lib.ListN.{getD}
+use Rattle.wire.specs.If.{if_then_else_}
 use Rattle.wire.specs.Bytes.{Bytes}
 use Rattle.roll.specs.Answer.{Says, missing, complete, refusing}
-use Rattle.roll.specs.Marks.{has}
+use Rattle.roll.specs.Marks.{segmentAt, has}
 use Rattle.roll.specs.Roll as roll
 use Rattle.roll.specs.Roll.{emptyRoll, asked}
 use Rattle.roll.specs.declared.Roll as of
 use Rattle.sequence.specs.Promise as beneath
-use Rattle.sequence.specs.Step.{FirstFor, AfterTaking, Asked}
+use Rattle.sequence.specs.Step.{Schedule, FirstFor, AfterTaking, AfterTakingInSegments, Asked, EachSegment, SmallestPast}
 use Rattle.sequence.specs.Sequence as beneath-runs
-use Rattle.sequence.specs.Sequence.{takenOf, Answered, Next}
+use Rattle.sequence.specs.Sequence.{takenOf, EndOf, ComeInSegments, Answered, Next}
+use Rattle.head.specs.Head.{lastIn}
+use Rattle.roll.specs.declared.End.the-variants.{Unknown, At}
+use Rattle.cabinet.specs.Table.{table}
+use Rattle.cabinet.specs.Roll.{cameIn, rollIn, rollSays, rollAnswer, Outcome, rolling}
 use Rattle.cabinet.specs.Numbers.{bit, isSet}
-use Rattle.cabinet.specs.Roll.{rollIn, rollSays, rollAnswer, Outcome, rolling}
 use Rattle.cabinet.specs.declared.rolls.Roll.{Roll}
 use Rattle.cabinet.specs.declared.rolls.RollAnswer.{RollAnswer}
 
@@ -34,7 +38,10 @@ pub record Stands (r : Roll) (q : of.Roll) : Type 0 where
   pub version : q .version ≡ r .version
   pub last : q .last ≡ r .last
   -- any number but 0 is a mark
-  pub marks : (n : ℕ) → (has (q .marks) n ≡ false) ↔ (getD (r .came) n 0 ≡ 0)
+  pub marks : (n : ℕ) → n < 256 → (has (q .marks) n ≡ false) ↔ (getD (r .came) n 0 ≡ 0)
+  -- any number but 0 says that the end is known, and which it is stands beside it
+  pub unknown : (k : ℕ) → k < 32 → (segmentAt (q .marks) k .end ≡ Unknown) ↔ (getD (r .known) k 0 ≡ 0)
+  pub ends : (k e : ℕ) → k < 32 → segmentAt (q .marks) k .end ≡ At e → getD (r .end) k 0 ≡ e
 
 -- the answer tells what is said, and is 0 elsewhere: the smallest number missing; complete; or a refusal's number and
 -- place
@@ -63,7 +70,8 @@ PromisedAsked r a = a ≡ rollAnswer (asked (rollIn r))
 abbrev pub PromisedEmpty : Roll → Type 0
 PromisedEmpty r = r ≡ rollSays emptyRoll
 
--- the numbers that a call writes for the same roll: 1 for a flag or a mark that is any number but 0
+-- the numbers that a call writes for the same roll: 1 for a flag or a mark that is any number but 0, and 0 for an end that is
+-- not known
 unfoldable pub settled : Roll → Roll
 settled r = record {
   begun = bit (isSet (r .begun));
@@ -73,7 +81,9 @@ settled r = record {
   «original_network_id» = r .«original_network_id»;
   version = r .version;
   last = r .last;
-  came = map (λ n. bit (isSet n)) (r .came);
+  came = table 256 (λ n. bit (cameIn (r .came) n));
+  known = table 32 (λ k. bit (isSet (getD (r .known) k 0)));
+  end = table 32 (λ k. if isSet (getD (r .known) k 0) then getD (r .end) k 0 else 0);
 }
 
 -- the answer of any roll in numbers, without a section
@@ -103,8 +113,8 @@ module _ (take : Roller) where
   RollsBeneath = (given : List (List ℕ)) (r : Roll) → Run take given r
       → beneath-runs.Run beneath.Promised given (rollIn r)
 
-  -- "refuses 1 to 10, then 83 .., 82 .., 81 .., itself unchanged", for any numbers: number and place are those of the
-  -- first refusal
+  -- "refuses 1 to 10, then 83 .., 82 .., 81 .., itself unchanged"; "84, after 81"; for any numbers: number and place are
+  -- those of the first refusal
   abbrev pub RefusesExactlyIf : Type 0
   RefusesExactlyIf = (r : Roll) (s : List ℕ) (o : Outcome) → take r s o → (k p : ℕ) → (k ≡ 0 → ⊥)
       → ((o .answer .number ≡ k) × (o .answer .place ≡ p)) ↔ FirstFor (rollIn r) s k p
@@ -116,9 +126,15 @@ module _ (take : Roller) where
 
   -- every other section is taken
   abbrev pub TakesElse : Type 0
-  TakesElse = (r : Roll) (s : List ℕ) (o : Outcome) → take r s o → Bytes s → length (r .came) ≡ 256
-      → ((k p : ℕ) → FirstFor (rollIn r) s k p → ⊥)
+  TakesElse = (r : Roll) (s : List ℕ) (o : Outcome) → take r s o → Bytes s
+      → ((k p : ℕ) → FirstFor (rollIn r) s k p → ⊥) → (Schedule (getD s 0 0) → ⊥)
       → (x : Says) × Tells x (o .answer) × AfterTaking (rollIn r) s (record { roll = rollIn (o .roll); says = x })
+
+  -- and so is one of a schedule
+  abbrev pub TakesElseInSegments : Type 0
+  TakesElseInSegments = (r : Roll) (s : List ℕ) (o : Outcome) → take r s o → Bytes s
+      → ((k p : ℕ) → FirstFor (rollIn r) s k p → ⊥) → Schedule (getD s 0 0)
+      → (x : Says) × Tells x (o .answer) × AfterTakingInSegments (rollIn r) s (record { roll = rollIn (o .roll); says = x })
 
   -- over whole sequences: each section fares by those taken before it
   abbrev pub EachFares : Type 0
@@ -127,7 +143,20 @@ module _ (take : Roller) where
       → (x : Says) × Tells x (o .answer)
       × Next (takenOf given) (rollIn r) s (record { roll = rollIn (o .roll); says = x })
 
-  -- and the answer is the smallest number missing, or complete
+  -- and the answer is the smallest number missing, or complete; of a schedule, by its segments
   abbrev pub AnswersAre : (Roll → RollAnswer → Type 0) → Type 0
   AnswersAre ask = (given : List (List ℕ)) (r : Roll) → Run take given r → (a : RollAnswer) → ask r a
       → (x : Says) × Tells x a × Answered (takenOf given) x
+
+  -- the two sentences on schedules by themselves, in terms of the sections alone: `complete` is told exactly if each segment
+  -- has come
+  abbrev pub CompleteExactlyIf : (Roll → RollAnswer → Type 0) → Type 0
+  CompleteExactlyIf ask = (given : List (List ℕ)) (r : Roll) → Run take given r → (a : RollAnswer) → ask r a
+      → (s : List ℕ) (t : List (List ℕ)) → takenOf given ≡ s ∷ t → Schedule (getD s 0 0)
+      → (a .complete ≡ 1) ↔ EachSegment (EndOf (s ∷ t)) (ComeInSegments (s ∷ t)) (lastIn s)
+
+  -- and else `missing` is the smallest number that has neither come nor been left out
+  abbrev pub MissingExactlyIf : (Roll → RollAnswer → Type 0) → Type 0
+  MissingExactlyIf ask = (given : List (List ℕ)) (r : Roll) → Run take given r → (a : RollAnswer) → ask r a
+      → (s : List ℕ) (t : List (List ℕ)) → takenOf given ≡ s ∷ t → Schedule (getD s 0 0) → (n : ℕ)
+      → ((a .complete ≡ 0) × (a .missing ≡ n)) ↔ SmallestPast (EndOf (s ∷ t)) (ComeInSegments (s ∷ t)) (lastIn s) n

@@ -23,14 +23,15 @@ no-local-time-offset-requires c κs = search needs
 
 returns : tie.Need-returns
 returns c =
-    let is = c .before .before in
-    rw (← is .before .before .read .ensures, is .item .given .1, c .local-time-offset-of .ensures)
+    let read : tie.After-read = search in
+    let is : tie.After-item = search in
+    rw (← read .read .ensures, is .item .given .1, c .local-time-offset-of .ensures)
 
 returns-2 : tie.Need-returns-2
 returns-2 c =
-    let refused = c .before .before .before in
-    let why = c .before .why-of .ensures in
-    rw (← refused .before .before .read .ensures, refused .refusal .given .1, why, c .no-local-time-offset .ensures)
+    let read : tie.After-read = search in
+    let refused : tie.After-refusal = search in
+    rw (← read .read .ensures, refused .refusal .given .1, c .before .why-of .ensures, c .no-local-time-offset .ensures)
 
 pub lohitunga-read-local-time-offset-spec : {M : Type 1} → statement M
 lohitunga-read-local-time-offset-spec =

@@ -23,14 +23,15 @@ no-parental-rating-requires c κs = search needs
 
 returns : tie.Need-returns
 returns c =
-    let is = c .before .before in
-    rw (← is .before .before .read .ensures, is .item .given .1, c .parental-rating-of .ensures)
+    let read : tie.After-read = search in
+    let is : tie.After-item = search in
+    rw (← read .read .ensures, is .item .given .1, c .parental-rating-of .ensures)
 
 returns-2 : tie.Need-returns-2
 returns-2 c =
-    let refused = c .before .before .before in
-    let number = c .before .of-refusal .ensures in
-    rw (← refused .before .before .read .ensures, refused .why .given .1, number, c .no-parental-rating .ensures)
+    let read : tie.After-read = search in
+    let refused : tie.After-why = search in
+    rw (← read .read .ensures, refused .why .given .1, c .before .of-refusal .ensures, c .no-parental-rating .ensures)
 
 pub lohitunga-read-parental-rating-spec : {M : Type 1} → statement M
 lohitunga-read-parental-rating-spec =

@@ -42,6 +42,12 @@ enum-told-4 c = search needs
 refused-requires-4 : tie.Need-refused-requires-4
 refused-requires-4 c κs = search needs
 
+enum-told-5 : tie.Need-enum-told-5
+enum-told-5 c = search needs
+
+refused-requires-5 : tie.Need-refused-requires-5
+refused-requires-5 c κs = search needs
+
 returns : tie.Need-returns
 returns c = rw (c .before .answer .given .1)
 
@@ -50,9 +56,9 @@ returns-2 c = rw (c .enum-told .given .1)
 
 returns-3 : tie.Need-returns-3
 returns-3 c =
-    let after-number = c .before .before in
-    let answer2 = after-number .before .before .answer2 in
-    rw (answer2 .given .1, c .refused .ensures, after-number .number .ensures, c .before .place .ensures)
+    let verdict : tie.After-answer2 = search in
+    let numbered : tie.After-number = search in
+    rw (verdict .answer2 .given .1, c .refused .ensures, numbered .number .ensures, c .before .place .ensures)
 
 returns-4 : tie.Need-returns-4
 returns-4 c = rw (c .before .enum-told2 .given .1, c .refused2 .ensures)
@@ -62,6 +68,9 @@ returns-5 c = rw (c .before .enum-told3 .given .1, c .refused3 .ensures)
 
 returns-6 : tie.Need-returns-6
 returns-6 c = rw (c .before .enum-told4 .given .1, c .refused4 .ensures)
+
+returns-7 : tie.Need-returns-7
+returns-7 c = rw (c .before .enum-told5 .given .1, c .refused5 .ensures)
 
 pub answer-says-spec : {M : Type 1} → statement M
 answer-says-spec =
@@ -80,9 +89,12 @@ answer-says-spec =
     refused-requires-3
     enum-told-4
     refused-requires-4
+    enum-told-5
+    refused-requires-5
     returns
     returns-2
     returns-3
     returns-4
     returns-5
-    returns-6)
+    returns-6
+    returns-7)

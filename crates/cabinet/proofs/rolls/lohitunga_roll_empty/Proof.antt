@@ -1,16 +1,15 @@
 -- The empty roll in numbers.
-use borrow.Author.Needs.{needs}
+use mathlib.Core.Path.{refl}
+use Rattle.roll.specs.Marks.{blank, segmentAt, has, unmarked}
+use Rattle.roll.specs.Roll.{emptyRoll}
+use Rattle.cabinet.specs.Table.{table}
+use Rattle.cabinet.specs.Roll.{knownSays, endSays, rollSays}
 use Rattle.cabinet.proofs.rolls.lohitunga_roll_empty.Statement.{statement}
 use Rattle.cabinet.proofs.rolls.lohitunga_roll_empty.Tie as tie
 
-empty-requires : tie.Need-empty-requires
-empty-requires c κs = search needs
-
-roll-says-requires : tie.Need-roll-says-requires
-roll-says-requires c κs = search needs
-
 returns : tie.Need-returns
-returns c = rw (c .roll-says .ensures, c .before .empty .ensures)
+unfolding rollSays emptyRoll unmarked blank has segmentAt table knownSays endSays
+returns c = refl
 
 pub lohitunga-roll-empty-spec : {M : Type 1} → statement M
-lohitunga-roll-empty-spec = tie.close (tie.spec empty-requires roll-says-requires returns)
+lohitunga-roll-empty-spec = tie.close (tie.spec returns)

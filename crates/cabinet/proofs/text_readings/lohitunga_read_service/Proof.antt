@@ -23,14 +23,15 @@ no-service-requires c κs = search needs
 
 returns : tie.Need-returns
 returns c =
-    let is = c .before .before in
-    rw (← is .before .before .read .ensures, is .read2 .given .1, c .service-of .ensures)
+    let read : tie.After-read = search in
+    let is : tie.After-read2 = search in
+    rw (← read .read .ensures, is .read2 .given .1, c .service-of .ensures)
 
 returns-2 : tie.Need-returns-2
 returns-2 c =
-    let refused = c .before .before .before in
-    let number = c .before .of-refusal .ensures in
-    rw (← refused .before .before .read .ensures, refused .why .given .1, number, c .no-service .ensures)
+    let read : tie.After-read = search in
+    let refused : tie.After-why = search in
+    rw (← read .read .ensures, refused .why .given .1, c .before .of-refusal .ensures, c .no-service .ensures)
 
 pub lohitunga-read-service-spec : {M : Type 1} → statement M
 lohitunga-read-service-spec =

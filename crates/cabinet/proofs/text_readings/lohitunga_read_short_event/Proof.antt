@@ -23,14 +23,15 @@ no-short-event-requires c κs = search needs
 
 returns : tie.Need-returns
 returns c =
-    let is = c .before .before in
-    rw (← is .before .before .read .ensures, is .read2 .given .1, c .short-event-of .ensures)
+    let read : tie.After-read = search in
+    let is : tie.After-read2 = search in
+    rw (← read .read .ensures, is .read2 .given .1, c .short-event-of .ensures)
 
 returns-2 : tie.Need-returns-2
 returns-2 c =
-    let refused = c .before .before .before in
-    let number = c .before .of-refusal .ensures in
-    rw (← refused .before .before .read .ensures, refused .why .given .1, number, c .no-short-event .ensures)
+    let read : tie.After-read = search in
+    let refused : tie.After-why = search in
+    rw (← read .read .ensures, refused .why .given .1, c .before .of-refusal .ensures, c .no-short-event .ensures)
 
 pub lohitunga-read-short-event-spec : {M : Type 1} → statement M
 lohitunga-read-short-event-spec =
