@@ -11,7 +11,7 @@
 #define FIELD(type, field, place, size) \
     HOLDS(offsetof(type, field) == (place) && SIZE(type, field) == (size), #type "." #field)
 
-IS(LOHITUNGA_INTERFACE, 5);
+IS(LOHITUNGA_INTERFACE, 6);
 IS(sizeof(lohitunga_cable), 12);
 FIELD(lohitunga_cable, frequency, 0, 4);
 FIELD(lohitunga_cable, symbol_rate, 4, 4);
@@ -142,7 +142,7 @@ FIELD(lohitunga_record, broken, 24, 4);
 FIELD(lohitunga_record, filler, 28, 4);
 FIELD(lohitunga_record, skipped, 32, 4);
 FIELD(lohitunga_record, rejected, 36, 4);
-IS(sizeof(lohitunga_roll), 266);
+IS(sizeof(lohitunga_roll), 330);
 FIELD(lohitunga_roll, begun, 0, 1);
 FIELD(lohitunga_roll, table_id, 1, 1);
 FIELD(lohitunga_roll, extension, 2, 2);
@@ -151,6 +151,8 @@ FIELD(lohitunga_roll, original_network_id, 6, 2);
 FIELD(lohitunga_roll, version, 8, 1);
 FIELD(lohitunga_roll, last, 9, 1);
 FIELD(lohitunga_roll, came, 10, 256);
+FIELD(lohitunga_roll, known, 266, 32);
+FIELD(lohitunga_roll, end, 298, 32);
 IS(sizeof(lohitunga_roll_answer), 24);
 FIELD(lohitunga_roll_answer, number, 0, 4);
 FIELD(lohitunga_roll_answer, place, 8, 8);

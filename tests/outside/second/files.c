@@ -244,6 +244,46 @@ int write_lists(uint64_t seed, uint64_t count, const char *name)
     return closed(name);
 }
 
+/*
+ * The word "schedule"; then rounds of schedules with the library's answers: sections 2; of each its version 1, number 1, end 1, last
+ * number 1, its 18 bytes, and behind it complete 1, missing 1. The first has a hole: of the numbers 0, 1, 8, 16 and 17 that its
+ * segments have, 1 never comes.
+ */
+int write_schedules(uint64_t seed, uint64_t count, const char *name)
+{
+    static const struct scheduled hole[] = {{0, 0, 1, 17}, {0, 8, 8, 17}, {0, 16, 17, 17}, {0, 17, 17, 17},
+                                            {0, 0, 1, 17}, {0, 8, 8, 17}, {0, 16, 17, 17}, {0, 17, 17, 17}};
+    static struct scheduled s[SCHEDULE_MOST];
+    if (!opened(name))
+        return 2;
+    fputs("schedule", file);
+    for (uint64_t i = 0; i < count; i++) {
+        struct dice d = dice_of(seed, 106, i);
+        size_t size = i ? make_schedule(&d, s) : sizeof hole / sizeof *hole;
+        lohitunga_roll roll = lohitunga_roll_empty();
+        if (i == 0)
+            memcpy(s, hole, sizeof hole);
+        put(size, 2);
+        for (size_t k = 0; k < size; k++) {
+            uint8_t bytes[SCHEDULED_SIZE];
+            put_scheduled(&s[k], bytes);
+            lohitunga_roll_answer a = lohitunga_roll_take(&roll, bytes, sizeof bytes);
+            if (a.number) {
+                fprintf(stderr, "%s: schedule %" PRIu64 ": a section is refused with %u\n", name, i, a.number);
+                return 1;
+            }
+            put(s[k].version, 1);
+            put(s[k].number, 1);
+            put(s[k].end, 1);
+            put(s[k].last, 1);
+            fwrite(bytes, 1, sizeof bytes, file);
+            put(a.complete, 1);
+            put(a.missing, 1);
+        }
+    }
+    return closed(name);
+}
+
 /* Fields, by the names that tshark has for them */
 
 static void say(const char *name, long long value) { fprintf(file, "%s %lld\n", name, value); }

@@ -6,6 +6,7 @@
  *     harness SEED COUNT --packets FILE      COUNT packets, and what the library hears of discontinuity_indicator
  *     harness SEED COUNT --chains FILE       COUNT damaged streams, and the sections that the library accepts and rejects in them
  *     harness SEED COUNT --lists FILE        COUNT lists of sections, and the library's packets of each
+ *     harness SEED COUNT --schedules FILE    COUNT schedules, round by round, and what the library says is missing behind each section
  *     harness SEED COUNT --fields FILE       COUNT sections with the library's readings of them
  *     harness SEED COUNT --streams FOLDER    COUNT streams of packets, each with its account by the second implementation
  *     harness --muxed FILE                   packets by libavformat, collected and written again
@@ -30,7 +31,8 @@
     KIND(sheets) \
     KIND(digits) \
     KIND(writer) \
-    KIND(fades)
+    KIND(fades) \
+    KIND(schedules)
 
 #define DECLARED(name) extern const struct kind kind_##name;
 #define LISTED(name) &kind_##name,
@@ -41,6 +43,7 @@ int write_sections(uint64_t seed, uint64_t count, const char *name);
 int write_packets(uint64_t seed, uint64_t count, const char *name);
 int write_chains(uint64_t seed, uint64_t count, const char *name);
 int write_lists(uint64_t seed, uint64_t count, const char *name);
+int write_schedules(uint64_t seed, uint64_t count, const char *name);
 int write_fields(uint64_t seed, uint64_t count, const char *name);
 int read_muxed(const char *name);
 int write_streams(uint64_t seed, uint64_t count, const char *folder);
@@ -86,7 +89,7 @@ int main(int argc, char **argv)
         return read_muxed(argv[2]);
     if (argc < 3) {
         fprintf(stderr, "usage: %s SEED COUNT [KIND [FIRST] | --sections FILE | --packets FILE | --chains FILE | --lists FILE |"
-                        " --fields FILE | --streams FOLDER]\n", argv[0]);
+                        " --schedules FILE | --fields FILE | --streams FOLDER]\n", argv[0]);
         return 2;
     }
     uint64_t seed = strtoull(argv[1], NULL, 0), count = strtoull(argv[2], NULL, 0);
@@ -100,6 +103,8 @@ int main(int argc, char **argv)
         return write_chains(seed, count, argv[4]);
     if (argc == 5 && strcmp(only, "--lists") == 0)
         return write_lists(seed, count, argv[4]);
+    if (argc == 5 && strcmp(only, "--schedules") == 0)
+        return write_schedules(seed, count, argv[4]);
     if (argc == 5 && strcmp(only, "--fields") == 0)
         return write_fields(seed, count, argv[4]);
     if (argc == 5 && strcmp(only, "--streams") == 0)

@@ -674,6 +674,63 @@ void make_whole(struct dice *d, struct section *s, int large)
         s->bytes[0] = 0;
 }
 
+/* Schedules */
+
+void put_scheduled(const struct scheduled *p, uint8_t *to) { put_scheduled_of(0x50, p, to); }
+
+void put_scheduled_of(uint8_t table_id, const struct scheduled *p, uint8_t *to)
+{
+    const uint8_t head[SCHEDULED_SIZE - 4] = {table_id, 0xF0, SCHEDULED_SIZE - 3, 0, 1, (uint8_t)(0xC1 | p->version * 2), p->number, p->last,
+                                              0, 2, 0, 3, p->end, table_id};
+    uint32_t crc = second_crc(head, sizeof head);
+    memcpy(to, head, sizeof head);
+    for (int i = 0; i < 4; i++)
+        to[sizeof head + (size_t)i] = (uint8_t)(crc >> (24 - 8 * i));
+}
+
+uint8_t any_end(struct dice *d, unsigned segment, unsigned last)
+{
+    unsigned first = 8 * segment, most = first + 7 < last ? first + 7 : last;
+    return (uint8_t)(most < first ? first : one_in(d, 2) ? most : between(d, first, most));
+}
+
+static uint8_t any_ends(struct dice *d, uint8_t *ends, unsigned last)
+{
+    for (unsigned k = 0; k < SEGMENTS; k++)
+        ends[k] = any_end(d, k, last);
+    return (uint8_t)last;
+}
+
+size_t make_schedule(struct dice *d, struct scheduled *to)
+{
+    uint8_t ends[SEGMENTS], version = (uint8_t)below(d, 32);
+    uint8_t last = any_ends(d, ends, one_in(d, 200) ? 255 : one_in(d, 3) ? below(d, 64) : below(d, 20));
+    unsigned lost = one_in(d, 2) ? 0 : between(d, 4, 40), number = below(d, last + 1u), count = 0, size = 0, changes = !one_in(d, 3);
+    int in_order = !one_in(d, 3);
+    for (unsigned k = 0; k <= last / 8u; k++)
+        size += ends[k] - 8 * k + 1;
+    size = size * between(d, 4, 6) / 2 + 1;
+    while (count < size && count < SCHEDULE_MOST) {
+        if (changes && one_in(d, 60))
+            ends[number / 8] = any_end(d, number / 8, last);
+        if (changes && one_in(d, 90))
+            last = any_ends(d, ends, below(d, 20));
+        if (changes && one_in(d, 90))
+            version = (uint8_t)below(d, 32);
+        number = in_order ? number : below(d, last + 1u);
+        if (number <= last && number > ends[number / 8])
+            number = in_order ? (number / 8 + 1) * 8 : between(d, number / 8 * 8, ends[number / 8]);
+        if (number > last)
+            number = 0;
+        if (lost == 0 || !one_in(d, lost))
+            to[count++] = (struct scheduled){version, (uint8_t)number, ends[number / 8], last};
+        else
+            size--;
+        number = number == 255 ? 0 : number + 1;
+    }
+    return count;
+}
+
 /* Sheets */
 
 /* A sheet made larger than its table's row: more descriptors in its last list, counted. */

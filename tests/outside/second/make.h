@@ -63,6 +63,26 @@ void make_section_case(struct dice *d, struct section *s);
 /* The same, of 3 to 4,096 bytes, as many as its head declares; few of more than 400 unless `large`. It does not begin with 0xFF. */
 void make_whole(struct dice *d, struct section *s, int large);
 
+/* Schedules */
+
+/* A section of a schedule, by its version and the three numbers that say where it stands in it. */
+struct scheduled { uint8_t version, number, end, last; };
+
+enum { SEGMENTS = 32, SCHEDULED_SIZE = 18, SCHEDULE_MOST = 640 };
+
+/* The smallest such section, which has no event: current, of one and the same service; and of table_id 0x50, or any EIT's. */
+void put_scheduled(const struct scheduled *p, uint8_t *to);
+void put_scheduled_of(uint8_t table_id, const struct scheduled *p, uint8_t *to);
+
+/* An end of this segment that 84 does not refuse, if it begins at or below the last number. */
+uint8_t any_end(struct dice *d, unsigned segment, unsigned last);
+
+/*
+ * Sections as a receiver meets them, none of which 84 refuses: two or three rounds of one schedule, from any number on or in any
+ * order, some lost; now and then an end, the last number or the version changes. How many there are.
+ */
+size_t make_schedule(struct dice *d, struct scheduled *to);
+
 /* Sheets */
 
 enum { SHEET_MOST = 24576 };

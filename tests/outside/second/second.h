@@ -1,5 +1,5 @@
 /*
- * A second implementation of document 01, written from document 01, requests (ii), (v), (viii) and (ix) of document 02,
+ * A second implementation of document 01, written from document 01, requests (i), (ii), (v), (viii) and (ix) of document 02,
  * docs/DECISIONS.md and EN 300 468 alone, a byte at a time. It is the judge in the comparison with the library, so it is
  * plain before it is fast. It stands in the files second_*.c. Sentences in quotation marks are document 01's there, or
  * document 02's where it is named; where they leave a choice, docs/DECISIONS.md has what was chosen. Field layouts are
@@ -194,10 +194,13 @@ struct second_terrestrial second_terrestrial(const uint8_t *bytes, size_t size);
 
 /* Roll */
 
+enum { SECOND_SEGMENTS = 32, SECOND_UNKNOWN = -1 };
+
 struct second_roll {
     int empty;
     unsigned table_id, extension, transport_stream_id, original_network_id, version, last;
     uint8_t marks[256];
+    int ends[SECOND_SEGMENTS]; /* segment_last_section_number of each segment, or SECOND_UNKNOWN */
 };
 
 enum { SECOND_MISSING, SECOND_COMPLETE };

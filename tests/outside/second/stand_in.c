@@ -688,12 +688,24 @@ lohitunga_roll lohitunga_roll_empty(void)
     return r;
 }
 
+enum { SEGMENTS = 32 };
+
+static int is_schedule(uint8_t table_id) { return table_id >= 0x50 && table_id <= 0x6F; }
+
+static int present_following(uint8_t table_id) { return table_id == 0x4E || table_id == 0x4F; }
+
+/* The last number of this segment, or of the roll. */
+static int segment_last(const lohitunga_roll *r, int k) { return 8 * k + 7 < r->last ? 8 * k + 7 : r->last; }
+
 static struct second_roll rolled(const lohitunga_roll *r)
 {
     struct second_roll s = {r->begun == 0, r->table_id, r->extension, r->transport_stream_id, r->original_network_id, r->version,
-                            r->last, {0}};
+                            r->last, {0}, {0}};
     for (int i = 0; i < 256; i++)
         s.marks[i] = r->came[i] != 0;
+    /* 91: an end is known by 1 alone */
+    for (int k = 0; k < SEGMENTS; k++)
+        s.ends[k] = (fault(91) ? r->known[k] == 1 : r->known[k] != 0) ? r->end[k] : SECOND_UNKNOWN;
     return s;
 }
 
@@ -704,18 +716,139 @@ static lohitunga_roll_answer told(struct second_taken t)
     return a;
 }
 
+/* The ends as the faults of asking have them. */
+static void misread_ends(const lohitunga_roll *r, struct second_roll *s)
+{
+    for (int k = 0; k <= r->last / 8; k++) {
+        int end = s->ends[k], here = end / 8 == k && end >= 0, whole = segment_last(r, k);
+        /* 83: an end above the last is known; 90: one of another segment; 84: numbers that are left out are missing */
+        if (fault(83) && here && end > r->last)
+            s->ends[k] = whole;
+        if (fault(90) && !here && end >= 0 && end <= r->last) {
+            if (end < 8 * k)
+                memset(s->marks + 8 * k, 1, 8);
+            s->ends[k] = whole;
+        }
+        if (fault(84) && here && end <= r->last)
+            s->ends[k] = whole;
+        /* 85: an unknown segment is complete; 103: marks count without an end */
+        if ((fault(85) || fault(103)) && (!here || end > r->last)) {
+            if (fault(85))
+                memset(s->marks + 8 * k, 1, 8);
+            s->ends[k] = whole;
+        }
+    }
+}
+
+/* 86: segments of sixteen */
+static lohitunga_roll_answer ask_sixteen(const lohitunga_roll *r)
+{
+    lohitunga_roll_answer a = {0, 0, 1, 0};
+    for (int n = r->last; n >= 0; n--) {
+        int end = r->end[n / 16];
+        if (!r->known[n / 16] || end / 16 != n / 16 || end > r->last || (!r->came[n] && n <= end))
+            a.complete = 0, a.missing = (uint8_t)n;
+    }
+    return a;
+}
+
+static void take_sixteen(lohitunga_roll *r, const lohitunga_roll *before, const uint8_t *section)
+{
+    int k = section[6] / 16, afresh = before->begun == 0 || before->version != r->version || before->last != r->last;
+    for (int i = 0; i < SEGMENTS; i++) {
+        r->known[i] = !afresh && before->known[i];
+        r->end[i] = r->known[i] ? before->end[i] : 0;
+    }
+    for (int i = 0; i < 256; i++)
+        r->came[i] = !afresh && before->came[i];
+    if (!r->known[k] || r->end[k] != section[12])
+        memset(r->came + 16 * k, 0, 16);
+    r->known[k] = 1;
+    r->end[k] = section[12];
+    r->came[section[6]] = 1;
+}
+
 lohitunga_roll_answer lohitunga_roll_ask(const lohitunga_roll *roll)
 {
     struct second_roll s = rolled(roll);
-    return told(second_ask(&s));
+    int schedule = is_schedule(roll->table_id);
+    if (roll->begun && schedule)
+        misread_ends(roll, &s);
+    if (fault(86) && roll->begun && schedule)
+        return ask_sixteen(roll);
+    /* 93: present/following are asked as a schedule; 94: schedules of other streams keep the old rule */
+    if (fault(93) && present_following(roll->table_id))
+        s.table_id = 0x50;
+    if (fault(94) && roll->table_id >= 0x60 && schedule)
+        s.table_id = 0x4F;
+    lohitunga_roll_answer a = told(second_ask(&s));
+    /* 92: the section of the last number must have come, left out or not */
+    if (fault(92) && schedule && a.complete && !roll->came[roll->last])
+        a.complete = 0, a.missing = roll->last;
+    return a;
+}
+
+/* Whether the end lies below the number, above the last, in another segment: bits 1, 2, 4. */
+static int end_wrong(const uint8_t *s) { return (s[12] < s[6]) + 2 * (s[12] > s[7]) + 4 * (s[12] / 8 != s[6] / 8); }
+
+/* What a section that 84 refuses does to the roll if its end is no matter. */
+static struct second_taken take_unfit(struct second_roll *s, const uint8_t *section, size_t size)
+{
+    uint8_t fit[4096];
+    memcpy(fit, section, size);
+    fit[12] = fit[6];
+    uint32_t crc = second_crc(fit, size - 4);
+    for (int i = 0; i < 4; i++)
+        fit[size - 4 + (size_t)i] = (uint8_t)(crc >> (24 - 8 * i));
+    struct second_taken t = second_take(s, fit, size);
+    s->ends[section[6] / 8] = section[12];
+    return t;
+}
+
+/* The roll as the faults of taking have it, behind a section of a schedule that is taken. */
+static void misroll(lohitunga_roll *r, const lohitunga_roll *before, const uint8_t *section)
+{
+    int k = section[6] / 8, afresh = before->begun == 0 || before->version != r->version || before->last != r->last;
+    int changed = !afresh && before->known[k] && before->end[k] != section[12];
+    /* 82: an end that changes keeps its marks; 95: it empties every segment; 104: its section too; 105: the old one is kept */
+    for (int i = 8 * k; i < 8 * k + 8; i++)
+        if (fault(82) && changed && before->came[i])
+            r->came[i] = 1;
+    if (fault(95) && changed) {
+        memset(r->came, 0, sizeof r->came);
+        r->came[section[6]] = 1;
+    }
+    if (fault(104) && changed)
+        r->came[section[6]] = 0;
+    if (fault(105) && changed)
+        r->end[k] = before->end[k];
+    /* 88: a fresh start keeps ends; 106: so it does of the one end that is told */
+    for (int i = 0; i < SEGMENTS; i++)
+        if (fault(88) && before->begun && afresh && before->known[i] && i != k) {
+            r->known[i] = 1;
+            r->end[i] = before->end[i];
+        }
+    if (fault(106) && before->begun && afresh && before->known[k])
+        r->end[k] = before->end[k];
+    if (fault(86))
+        take_sixteen(r, before, section);
 }
 
 lohitunga_roll_answer lohitunga_roll_take(lohitunga_roll *roll, const uint8_t *section, size_t size)
 {
     struct second_roll s = rolled(roll);
+    lohitunga_roll before = *roll;
     struct second_taken t = second_take(&s, section, size);
-    /* 16: a new last number does not start it afresh; 17: 81 before 82; 18: alters a roll that refuses */
+    int judged = t.number == 0 || t.number > 10, schedule = judged && is_schedule(section[0]);
+    int wrong = judged && (schedule || present_following(section[0])) ? end_wrong(section) : 0;
+    /* 87: 84 of present/following; 89: 84 before 81; 108: before 82 */
+    if (wrong && (schedule ? (fault(89) && t.number == 81) || (fault(108) && t.number == 82) : fault(87) && t.number == 0))
+        t.number = 84;
+    /* 84 does not look whether the end lies 96: below the number; 97: above the last; 98: in another segment */
+    if (t.number == 84 && schedule && ((fault(96) && wrong == 1) || (fault(97) && wrong == 2) || (fault(98) && wrong == 4)))
+        t = take_unfit(&s, section, size);
     if (t.number == 0) {
+        /* 16: a new last number does not start it afresh */
         int kept = fault(16) && roll->begun && roll->version == s.version && roll->last != s.last;
         roll->begun = 1;
         roll->table_id = (uint8_t)s.table_id;
@@ -726,12 +859,31 @@ lohitunga_roll_answer lohitunga_roll_take(lohitunga_roll *roll, const uint8_t *s
         roll->last = (uint8_t)s.last;
         for (int i = 0; i < 256; i++)
             roll->came[i] = kept ? roll->came[i] != 0 : s.marks[i];
+        /* 101: `end` of an unknown segment stays; 102: so does `known` of 2 or more */
+        for (int k = 0; k < SEGMENTS; k++) {
+            int known = s.ends[k] != SECOND_UNKNOWN;
+            roll->end[k] = known ? (uint8_t)s.ends[k] : fault(101) ? roll->end[k] : 0;
+            roll->known[k] = fault(102) && known && roll->known[k] ? roll->known[k] : (uint8_t)known;
+        }
+        /* 100: present/following set the end too */
+        if (fault(100) && present_following(section[0])) {
+            roll->known[section[6] / 8] = 1;
+            roll->end[section[6] / 8] = section[12];
+        }
+        if (schedule)
+            misroll(roll, &before, section);
+        return lohitunga_roll_ask(roll);
     }
     lohitunga_roll_answer a = told(t);
+    /* 17: 81 before 82; 18: 81 alters the roll; 107: 84 does; 99: 84 has the place of the end */
     if (fault(17) && t.number == 82 && section[5] % 2 == 0)
         a.number = 81;
     if (fault(18) && t.number == 81)
         roll->came[255] ^= 1;
+    if (fault(107) && t.number == 84)
+        roll->end[section[6] / 8] = section[12];
+    if (fault(99) && t.number == 84)
+        a.place = 12;
     return a;
 }
 

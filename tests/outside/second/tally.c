@@ -90,6 +90,7 @@ static void ends(void)
 /* Whose values are compared. */
 struct sides { const char *both, *left, *right; };
 static const struct sides implementations = {"the library and the second implementation", "library", "second"};
+static const struct sides definitions = {"the library and the definition", "library", "definition"};
 static const struct sides histories = {"two histories", "one", "other"};
 
 static void compare(const struct sides *s, const char *names, const long long *left, const long long *right, unsigned count)
@@ -133,6 +134,11 @@ void same(const char *names, const long long *library, const long long *second, 
 void same_bytes(const char *name, const uint8_t *library, const uint8_t *second, size_t size)
 {
     compare_bytes(&implementations, name, library, second, size);
+}
+
+void as_defined(const char *names, const long long *library, const long long *definition, unsigned count)
+{
+    compare(&definitions, names, library, definition, count);
 }
 
 void alike(const char *names, const long long *one, const long long *other, unsigned count)
@@ -211,7 +217,7 @@ void watch(void)
 
 /* How often */
 
-enum { CALLS = 96, ANSWERS = 24 };
+enum { CALLS = 128, ANSWERS = 24 };
 
 static struct {
     const char *call;

@@ -21,6 +21,9 @@ void call_number(const char *name, long long number);
 void same(const char *names, const long long *library, const long long *second, unsigned count);
 void same_bytes(const char *name, const uint8_t *library, const uint8_t *second, size_t size);
 
+/* The same, where a definition stands in the second implementation's place. */
+void as_defined(const char *names, const long long *library, const long long *definition, unsigned count);
+
 /* The same, of what the library makes of two histories. */
 void alike(const char *names, const long long *one, const long long *other, unsigned count);
 void alike_bytes(const char *name, const uint8_t *one, const uint8_t *other, size_t size);

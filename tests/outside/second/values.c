@@ -425,6 +425,68 @@ static void ids(void)
     }
 }
 
+/* Schedules: document 02, request (i) */
+
+/* A section without events to a roll, and its answer: number; 1000 where complete, else what is missing. */
+static void scheduled(const char *what, lohitunga_roll *roll, unsigned id, unsigned number, unsigned end, unsigned last, unsigned refused, unsigned told)
+{
+    uint8_t eit[18] = {(uint8_t)id, 0xF0, 0, 0, 1, 0xC1, (uint8_t)number, (uint8_t)last, 0, 2, 0x04, 0xB5, (uint8_t)end, (uint8_t)id};
+    size_t size = closed(eit, 14);
+    lohitunga_roll_answer a = lohitunga_roll_take(roll, eit, size), asked = lohitunga_roll_ask(roll);
+    is(what, a.number, refused);
+    is(what, (long long)a.place, 0);
+    is(what, a.complete * 1000 + a.missing, refused ? 0 : told);
+    is(what, asked.number, 0);
+    is(what, asked.complete * 1000 + asked.missing, told);
+}
+
+static void worked_schedule(void)
+{
+    enum { COMPLETE = 1000 };
+    const char *what = "document 02: every number from a segment's first to its own segment_last_section_number";
+    lohitunga_roll roll = lohitunga_roll_empty();
+    scheduled(what, &roll, 0x50, 0, 1, 17, 0, 1);
+    scheduled(what, &roll, 0x50, 1, 1, 17, 0, 8);
+    scheduled(what, &roll, 0x50, 8, 8, 17, 0, 16);
+    scheduled(what, &roll, 0x50, 16, 17, 17, 0, 17);
+
+    lohitunga_roll before = roll;
+    what = "document 02: 84: segment_last_section_number below section_number, above last_section_number, in another segment";
+    scheduled(what, &roll, 0x50, 17, 16, 17, 84, 17);
+    scheduled(what, &roll, 0x50, 17, 18, 17, 84, 17);
+    scheduled(what, &roll, 0x50, 1, 8, 17, 84, 17);
+    is("a roll that refuses stays", memcmp(&roll, &before, sizeof roll), 0);
+
+    what = "document 02: complete, where a segment ends early";
+    scheduled(what, &roll, 0x50, 17, 17, 17, 0, COMPLETE);
+    what = "document 02: a segment end that changes within one version empties that segment";
+    scheduled(what, &roll, 0x50, 1, 2, 17, 0, 0);
+    scheduled(what, &roll, 0x50, 0, 2, 17, 0, 2);
+    scheduled(what, &roll, 0x50, 2, 2, 17, 0, COMPLETE);
+    scheduled("the end that stood before: empty again", &roll, 0x50, 0, 1, 17, 0, 1);
+    scheduled("another last number starts it afresh, no end is known", &roll, 0x50, 16, 16, 16, 0, 0);
+    scheduled("another last number starts it afresh, no end is known", &roll, 0x50, 0, 0, 16, 0, 8);
+    scheduled("complete without the section of the last number, which its segment leaves out", &roll, 0x50, 0, 0, 5, 0, COMPLETE);
+
+    what = "document 02: one above the last number or outside its segment counts as unknown, its marks as unset";
+    roll = before;
+    roll.last = 16;
+    is(what, lohitunga_roll_ask(&roll).missing, 16);
+    roll.last = 17;
+    roll.end[0] = 200;
+    is(what, lohitunga_roll_ask(&roll).missing, 0);
+
+    what = "document 02: 0x6F is a schedule";
+    roll = lohitunga_roll_empty();
+    scheduled(what, &roll, 0x6F, 0, 0, 1, 0, COMPLETE);
+    for (unsigned id = 0x4E; id < 0x50; id++) {
+        what = "document 02: other tables keep the old rule, present/following among them";
+        roll = lohitunga_roll_empty();
+        scheduled(what, &roll, id, 0, 0, 1, 0, 1);
+        scheduled(what, &roll, id, 1, 0, 1, 0, COMPLETE);
+    }
+}
+
 /* The worked packet */
 
 static void worked_packet(void)
@@ -497,6 +559,7 @@ int main(void)
     worked_sections();
     crc();
     ids();
+    worked_schedule();
     worked_packet();
     worked_rejections();
     printf("values: %u comparisons with what the documents print: all as printed\n", compared);
