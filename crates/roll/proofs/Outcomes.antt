@@ -1,5 +1,5 @@
 -- A step by what a section does to a roll, and the marks after a section by its segment.
-use Prim.Native.Nat.{ℕ, zero, suc, _+_, _/_, _%_}
+use Prim.Native.Nat.{ℕ, zero, suc, _+_, _/_}
 use mathlib.Core.Path.{_≡_, refl, ap, _∙_}
 use mathlib.Core.Bool.{Bool, true, false, false≢true}
 use mathlib.Core.List.{List}
@@ -149,5 +149,5 @@ pub segment-after-long : (g : Segment) (s : List ℕ) → length (g .came) ≡ 8
 unfolding segmentAfter withMark
 segment-after-long g s h =
     if-case (λ (x : Segment). length (x .came) ≡ 8) (isSchedule (getD s 0 0))
-    (λ _. length-set (endingAt g (segmentEndIn s) .came) (numberIn s % 8) true ∙ ending-long (g .end) g (segmentEndIn s) h)
-    (λ _. length-set (g .came) (numberIn s % 8) true ∙ h)
+    (λ _. length-set (endingAt g (segmentEndIn s) .came) _ true ∙ ending-long (g .end) g (segmentEndIn s) h)
+    (λ _. length-set (g .came) _ true ∙ h)

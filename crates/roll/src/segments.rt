@@ -39,8 +39,8 @@ fn counting_end(end: End, segment: u8, last: u8) -> End
     }
 }
 
-// How many numbers of a segment must come, from its first on: those up to the last number, and of a schedule those up to
-// the segment's end; 0 where that is unknown.
+// How many numbers of a segment must come, from its first on: of a schedule those up to the segment's end, and 0 where that
+// is unknown; else those up to the last number, where it stands in this segment.
 fn wanted(end: End, segment: u8, last: u8, schedule: bool) -> u8
     ensures { λ r. ⌜ r ≡ wantedOf schedule last segment end ⌝ }
 {
