@@ -8,6 +8,7 @@
     file: src/..                    what is altered: pairs of an 'old:' and a 'new:' line
     old: ..                         a text that stands once there ('each:' in its place, of twins: wherever it stands)
     new: ..
+    and: ..                         of twins: a line behind the new one
 
 Wrong programs of different functions are tried together: a function is proved by its own text and by what others promise, so that
 what is wrong with one of them is no matter of another's proof. `refused` holds the log of such a try to each of them.
@@ -42,6 +43,9 @@ def read(path):
                 old, key = rest, word
             elif word == 'new':
                 found[-1].pairs.append((name, old, key, rest))
+            elif word == 'and':
+                name, old, key, new = found[-1].pairs.pop()
+                found[-1].pairs.append((name, old, key, new + '\n' + rest))
     return [wrong for wrong in found if wrong.functions or wrong.pairs]
 
 
