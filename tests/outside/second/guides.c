@@ -17,6 +17,8 @@
 #include <dvbpsi/demux.h>
 #include <dvbpsi/eit.h>
 
+#include "reader.h"
+
 enum { MOST = 4096, SIZE = 18, PACKET = 188, PID = 0x12, TABLE_ID = 0x50, SERVICE_ID = 1 };
 
 /* A section by its numbers and bytes, and what the library says behind it. */
@@ -27,26 +29,10 @@ static size_t count;
 
 /* Reading the file */
 
-static FILE *file;
-
-static unsigned get(int bytes)
-{
-    unsigned value = 0;
-    for (int i = 0; i < bytes; i++) {
-        int c = getc(file);
-        if (c == EOF)
-            exit(2);
-        value |= (unsigned)c << 8 * i;
-    }
-    return value;
-}
-
 static int next(void)
 {
-    int first = getc(file);
-    if (first == EOF)
+    if (!goes_on())
         return 0;
-    ungetc(first, file);
     count = get(2);
     if (count > MOST)
         exit(2);

@@ -20,6 +20,8 @@
 #include <stdlib.h>
 #include <string.h>
 
+#include "reader.h"
+
 enum { BYTES_MOST = 1 << 16, SECTIONS_MOST = 1 << 14 };
 
 /* Sections end to end. */
@@ -39,26 +41,10 @@ struct listed {
 
 /* Reading the file */
 
-static FILE *file;
-
-static unsigned get(int bytes)
-{
-    unsigned value = 0;
-    for (int i = 0; i < bytes; i++) {
-        int c = getc(file);
-        if (c == EOF)
-            exit(2);
-        value |= (unsigned)c << 8 * i;
-    }
-    return value;
-}
-
 static int next(struct listed *l)
 {
-    int first = getc(file);
-    if (first == EOF)
+    if (!goes_on())
         return 0;
-    ungetc(first, file);
     l->real = get(1);
     l->pid = get(2);
     l->counter = get(1);
