@@ -21,6 +21,7 @@ use Rattle.head.specs.SubTable.{idsThatCount, networkIn, subTableOf, compared, 
 use Rattle.head.specs.Head.{versionIn, isCurrent, hasNoSubTable}
 use Rattle.roll.specs.Roll.{another, startsAfresh, endUnfit, markedBy, begunWith, continued, rollAfter, answered, asked, takingCurrent, takingAccepted, taking, emptyRoll}
 use Rattle.sequence.specs.Alike.{answersTo}
+use Rattle.sequence.specs.Sequence.{unrefused, takenOf}
 use Rattle.roll.specs.declared.Roll.{Roll}
 use Rattle.roll.specs.declared.End.{End}
 use Rattle.roll.specs.declared.End.the-variants.{Unknown, At}
@@ -130,25 +131,25 @@ schedule-0 =
     ∷ 0x01 ∷ 0x50 ∷ 0xB5 ∷ 0xB6 ∷ 0xBE ∷ 0x26 ∷ []
 
 -- section 1
-pub schedule-1 : List ℕ
+unfoldable pub schedule-1 : List ℕ
 schedule-1 =
     0x50 ∷ 0xF0 ∷ 0x0F ∷ 0x00 ∷ 0x01 ∷ 0xCB ∷ 0x01 ∷ 0x11 ∷ 0x00 ∷ 0x01 ∷ 0x00 ∷ 0x01
     ∷ 0x01 ∷ 0x50 ∷ 0xEE ∷ 0x17 ∷ 0x62 ∷ 0xEC ∷ []
 
 -- section 8, whose segment has no other
-pub schedule-8 : List ℕ
+unfoldable pub schedule-8 : List ℕ
 schedule-8 =
     0x50 ∷ 0xF0 ∷ 0x0F ∷ 0x00 ∷ 0x01 ∷ 0xCB ∷ 0x08 ∷ 0x11 ∷ 0x00 ∷ 0x01 ∷ 0x00 ∷ 0x01
     ∷ 0x08 ∷ 0x50 ∷ 0x39 ∷ 0x6B ∷ 0xE1 ∷ 0x96 ∷ []
 
 -- section 16, whose segment ends at 17
-pub schedule-16 : List ℕ
+unfoldable pub schedule-16 : List ℕ
 schedule-16 =
     0x50 ∷ 0xF0 ∷ 0x0F ∷ 0x00 ∷ 0x01 ∷ 0xCB ∷ 0x10 ∷ 0x11 ∷ 0x00 ∷ 0x01 ∷ 0x00 ∷ 0x01
     ∷ 0x11 ∷ 0x50 ∷ 0x08 ∷ 0x3F ∷ 0x82 ∷ 0xFE ∷ []
 
 -- section 17
-pub schedule-17 : List ℕ
+unfoldable pub schedule-17 : List ℕ
 schedule-17 =
     0x50 ∷ 0xF0 ∷ 0x0F ∷ 0x00 ∷ 0x01 ∷ 0xCB ∷ 0x11 ∷ 0x11 ∷ 0x00 ∷ 0x01 ∷ 0x00 ∷ 0x01
     ∷ 0x11 ∷ 0x50 ∷ 0x53 ∷ 0x9E ∷ 0x5E ∷ 0x34 ∷ []
@@ -219,6 +220,18 @@ events-unfit =
     0x4F ∷ 0xF0 ∷ 0x0F ∷ 0x00 ∷ 0x01 ∷ 0xCB ∷ 0x01 ∷ 0x01 ∷ 0x00 ∷ 0x01 ∷ 0x00 ∷ 0x01
     ∷ 0x00 ∷ 0x4F ∷ 0x27 ∷ 0x60 ∷ 0x90 ∷ 0x6B ∷ []
 
+-- those of a schedule but the last number's, and all of them; the last one first
+abbrev pub without-17 : List (List ℕ)
+without-17 = schedule-16 ∷ schedule-8 ∷ schedule-1 ∷ schedule-0 ∷ []
+
+abbrev pub schedule : List (List ℕ)
+schedule = schedule-17 ∷ without-17
+
+-- the empty roll after these
+abbrev pub rollBehind : List (List ℕ) → Roll
+rollBehind [] = emptyRoll
+rollBehind (s ∷ given) = taking (rollBehind given) s .roll
+
 -- a roll made by hand, of version 5: each mark set, and this end in each segment
 unfoldable pub by-hand : ℕ → End → ℕ → Roll
 by-hand table end last = record {
@@ -263,15 +276,18 @@ pub at-work :
     -- the end that is kept changes; the ends of the other segments do not count
     × (answersTo (by-hand 0x50 (At 1) 17) (schedule-1-to-2 ∷ schedule-0-to-2 ∷ schedule-2-to-2 ∷ schedule-8 ∷ [])
     ≡ missing 0 ∷ missing 2 ∷ missing 8 ∷ missing 16 ∷ [])
+    -- the schedule of three segments once more, as a whole sequence: all are taken
+    × ((takenOf without-17 ≡ without-17) × (asked (rollBehind without-17) ≡ missing 17)
+    × (takenOf schedule ≡ schedule) × (asked (rollBehind schedule) ≡ complete))
 unfolding by-hand tdt coming second other opening lower higher longer services services-elsewhere services-of-another
     services-other services-on events events-of-another events-elsewhere events-on
     schedule-0 schedule-1 schedule-8 schedule-16 schedule-17 schedule-1-to-2 schedule-2-to-2 schedule-0-to-2
     schedule-shorter schedule-below schedule-above schedule-elsewhere schedule-coming schedule-left-out
     schedule-last-id events-unfit
-    emptyRoll taking takingAccepted takingCurrent endUnfit markedBy answered asked
+    takenOf unrefused emptyRoll taking takingAccepted takingCurrent endUnfit markedBy answered asked
     isSchedule counting endAt cameBy leftOutBy comeOrLeftOut smallestInSegments endingBy markedUntil blank segmentAt withMark
     rollAfter continued begunWith startsAfresh another hasNoSubTable isCurrent versionIn sameIds compared subTableOf
     numberAt networkIn idsThatCount smallestMissing smallest marked unmarked has judged read opened header wrongSyntax
     lengthOutside sizeDiffers crcFails aboveLast inside topped plain twoLoops secondLoop leavesRoom fills _andThen_
     entries descriptors run trail cell holds first rowOf crc feedBytes feedBits feed
-at-work = (refl, refl, refl, refl, refl, refl, refl, refl, refl, (refl, refl, refl, refl, refl), refl)
+at-work = (refl, refl, refl, refl, refl, refl, refl, refl, refl, (refl, refl, refl, refl, refl), refl, (refl, refl, refl, refl))

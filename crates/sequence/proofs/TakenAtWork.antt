@@ -1,6 +1,6 @@
--- What the statements about one section ask can be met: an empty roll and the network information table of version 21,
--- for which there is no refusal, and which is taken; an empty roll and a schedule; and a roll made by hand and a section
--- that changes the end of a segment.
+-- What the statements ask can be met. Of one section: an empty roll and the network information table of version 21, for
+-- which there is no refusal, and which is taken; an empty roll and a schedule; and a roll made by hand and a section that
+-- changes the end of a segment. Of whole sequences: a schedule that is complete, and the same without its last section.
 use Prim.Native.Nat.{ℕ, zero, suc, _/_}
 use mathlib.Core.Path.{_≡_, refl, sym, ap, _∙_}
 use mathlib.Core.Bool.{Bool, true, _&&_}
@@ -15,11 +15,15 @@ use Rattle.roll.specs.Answer.{Says, missing, complete, refusing}
 use Rattle.roll.specs.Marks.{segmentAt, has, Whole}
 use Rattle.roll.specs.Roll.{emptyRoll, taking}
 use Rattle.roll.proofs.Ends.{at-once}
-use Rattle.sequence.specs.Step.{Schedule, FirstFor, AfterTaking, AfterTakingInSegments, GoesOn}
+use Rattle.sequence.specs.Promise.{Promised}
+use Rattle.sequence.specs.Step.{Schedule, FirstFor, AfterTaking, AfterTakingInSegments, GoesOn, EachSegment, SmallestPast}
+use Rattle.sequence.specs.Sequence.{EndOf, ComeInSegments, AllBytes, none, more, Run, start, step}
 use Rattle.sequence.proofs.MarkLaws.{unmarked-whole}
+use Rattle.head.specs.Head.{lastIn}
 use Rattle.head.proofs.Ids.{and-left, and-right}
 use Rattle.sequence.proofs.Exactly.{refuses-exactly-if, takes-else, takes-else-in-segments, change-empties}
-use Rattle.sequence.proofs.AtWork.{at-work, higher, schedule-0, schedule-1-to-2, by-hand}
+use Rattle.sequence.proofs.AtWork.{at-work, higher, schedule-0, schedule-1, schedule-8, schedule-16, schedule-17, without-17, schedule, rollBehind, schedule-1-to-2, by-hand}
+use Rattle.sequence.proofs.WholeSequence.{complete-exactly-if, missing-exactly-if}
 use Rattle.roll.specs.declared.Roll.{Roll}
 use Rattle.roll.specs.declared.Segment.{Segment}
 use Rattle.roll.specs.declared.End.the-variants.{At}
@@ -131,3 +135,40 @@ pub change-met :
 change-met =
     change-empties hand schedule-1-to-2 (taking hand schedule-1-to-2) refl change-bytes hand-whole
     (none-refuses hand schedule-1-to-2 0 change-answered) change-schedule goes-on changes
+
+-- ---- whole sequences, of a schedule
+
+without-17-bytes : AllBytes without-17
+unfolding small schedule-0 schedule-1 schedule-8 schedule-16
+without-17-bytes =
+    more schedule-16 (small-bytes schedule-16 refl) (more schedule-8 (small-bytes schedule-8 refl)
+    (more schedule-1 (small-bytes schedule-1 refl) (more schedule-0 (small-bytes schedule-0 refl) none)))
+
+bytes-17 : Bytes schedule-17
+unfolding small schedule-17
+bytes-17 = small-bytes schedule-17 refl
+
+run-behind : {given : List (List ℕ)} → AllBytes given → Run Promised given (rollBehind given)
+unfolding emptyRoll
+run-behind none = start emptyRoll refl
+run-behind (more s {given} b g) = step (run-behind g) s b (taking (rollBehind given) s) refl
+
+is-schedule-16 : Schedule (getD schedule-16 0 0)
+unfolding schedule-16
+is-schedule-16 = (omega arith, omega arith)
+
+is-schedule-17 : Schedule (getD schedule-17 0 0)
+unfolding schedule-17
+is-schedule-17 = (omega arith, omega arith)
+
+-- "every number from its first to its own segment_last_section_number has come"
+pub each-segment-met : EachSegment (EndOf schedule) (ComeInSegments schedule) (lastIn schedule-17)
+each-segment-met =
+    complete-exactly-if schedule (rollBehind schedule) (run-behind (more schedule-17 bytes-17 without-17-bytes)) complete
+    (sym (at-work .11 .3)) schedule-17 without-17 (at-work .11 .2) is-schedule-17 .0 refl
+
+-- and without the last of them 17 is the smallest missing
+pub smallest-past-met : SmallestPast (EndOf without-17) (ComeInSegments without-17) (lastIn schedule-16) 17
+smallest-past-met =
+    missing-exactly-if without-17 (rollBehind without-17) (run-behind without-17-bytes) (missing 17) (sym (at-work .11 .1))
+    schedule-16 (schedule-8 ∷ schedule-1 ∷ schedule-0 ∷ []) (at-work .11 .0) is-schedule-16 17 .0 refl
