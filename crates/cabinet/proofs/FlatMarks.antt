@@ -6,7 +6,7 @@ use mathlib.Core.List.{List, [], _++_}
 use native.Mathlib.Omega.{arith}
 use lib.Dec.{eqb, ltb}
 use lib.ListN.{length, take, drop, getD, set, length-set, List·getD-append}
-use lib.Seq.{paste, length-paste, length-paste-head, getD-append-add, getD-take, getD-drop, length-take-le, getD-set-same, getD-set-other}
+use lib.Seq.{paste, length-paste-head, getD-append-add, getD-take, getD-drop, length-take-le, getD-set-same, getD-set-other}
 use borrow.Author.Tests.{eqb-true, eqb-false, ltb-true, ltb-false}
 use Rattle.wire.specs.If.{if_then_else_}
 use Rattle.roll.specs.Marks.{blank, segmentAt, has, unmarked, Whole}
@@ -99,9 +99,6 @@ module _ (flags eight : List Bool) (k : ℕ) (long : length flags ≡ 256) (size
 
   first-long : length (take (k * 8) flags) ≡ k * 8
   first-long = length-take-le (k * 8) flags (omega (arith, long))
-
-  pub eight-long : length after ≡ 256
-  eight-long = length-paste flags (k * 8) eight 8 (omega (arith, long)) (omega (arith, size)) ∙ long
 
   before-eight : (n : ℕ) → n < k * 8 → getD after n false ≡ getD flags n false
   before-eight n h =

@@ -39,7 +39,7 @@ use Rattle.history.specs.History.{Byte, valueOf, numbered, History, unbe
 use Rattle.history.specs.Run.{Promised, Call, Run, no-call, one-call, fareOf, ruledFare, lentOf, rulingOn, beforeAfter, ruledIn, faresFrom, ruledTaken, beforeFrom, cut, handedBy, handed, bytesBy, toldBy}
 use Rattle.history.specs.Demand3.{deliveredIn, rejectedIn}
 use Rattle.history.specs.Healing.{Tally, ToldFrom}
-use Rattle.history.proofs.TestLaws.{or-none}
+use Rattle.wire.proofs.TestLaws.{or-none}
 use Rattle.history.proofs.LeftInHand.{Standing, standing-none, stands-taken, few-standing, stands-after}
 
 -- ---- sections cut by their own headers

@@ -20,7 +20,7 @@ use Rattle.collector.specs.declared.Last.{Last}
 use Rattle.collector.specs.declared.Last.the-variants.{Counter}
 use Rattle.collector.proofs.MarkLaws.{bytesOf-more, bytesOf-marked, settled-hand}
 use Rattle.collector.proofs.ByteRuns.{lt-or-ge, total-prefix}
-use Rattle.history.proofs.TestLaws.{or-none}
+use Rattle.wire.proofs.TestLaws.{or-none}
 
 -- what may be in hand: an unfinished section, whose first byte is not 0xFF
 pub record Standing (h : List ℕ) : Type 0 where

@@ -1,6 +1,5 @@
 -- That the promise of `collector::collect` gives each statement, that the statements fix the collector, and that each
 -- wrong collector breaks one.
-pub mod TestLaws
 pub mod LeftInHand
 pub mod Agrees
 pub mod NoSpan

@@ -18,7 +18,7 @@ use Rattle.packet.specs.Refusals.{refusals, firstOf, judgedBy, judged}
 use Rattle.collector.specs.Refusals.{tooSmall}
 use Rattle.history.specs.Run as R
 use Rattle.history.specs.Run.{Call, Fare, fareOf, ruledFare, ifSaidTaken, ifSpliced, splicesFrom, Lent, lentOf, rulingOn, beforeAfter, ruledIn, faresFrom, ruledTaken}
-use Rattle.history.proofs.TestLaws.{or-exactly}
+use Rattle.wire.proofs.TestLaws.{or-exactly}
 use Rattle.history.proofs.FaresByTable.{here, again, fares-cut, ruled-alike}
 use Rattle.history.proofs.NoSpan.{splicedAt}
 

@@ -19,7 +19,7 @@ use Rattle.collector.proofs.MarkLaws.{bytesOf-more, settled-hand}
 use Rattle.collector.proofs.ByteRuns.{lt-or-ge}
 use Rattle.wire.proofs.EachLaws.{each-append, each-map}
 use Rattle.collector.proofs.Invariants.{Keeps, keep-payload}
-use Rattle.history.proofs.TestLaws.{and-none}
+use Rattle.wire.proofs.TestLaws.{and-none}
 use Rattle.history.specs.History.{Byte, valueOf, numbered, History, unbegun, historyAfter, historyFrom, historyOf, counterAt, BreakAfter, Spans, Unbroken, Unmarked}
 
 -- is packet number k behind a mark; beyond the packets that came, it counts as behind one

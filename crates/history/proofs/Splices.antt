@@ -32,7 +32,7 @@ use Rattle.collector.proofs.PayloadLaws.{same-hand, more-sections}
 use Rattle.history.specs.Run.{Promised, fareOf}
 use Rattle.history.specs.Run as R
 use Rattle.history.specs.Splices.{HasBit, NotRefused, Marked, anew, breakingOff, BareSetsTheMark, MarkedIsTaken, MarkedBreaksOff, PayloadClears, RepeatedUnaltered, PremisesMet}
-use Rattle.history.proofs.TestLaws.{and-true, or-exactly}
+use Rattle.wire.proofs.TestLaws.{and-true, or-exactly}
 use Rattle.history.proofs.Demand1.{not-taken}
 use Rattle.history.proofs.FaresByTable.{fareNumber, here, again, passedOn}
 

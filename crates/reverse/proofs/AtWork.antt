@@ -17,7 +17,7 @@ use Rattle.collector.specs.declared.Record.{Record}
 use Rattle.collector.specs.declared.Last.the-variants.{None, Counter}
 use Rattle.collector.proofs.Counters.{counts-with}
 use Rattle.history.specs.WrongCollectors.{hold₀}
-use Rattle.history.proofs.TestLaws.{or-none}
+use Rattle.wire.proofs.TestLaws.{or-none}
 use Rattle.writer.specs.Cut.{fit}
 use Rattle.writer.specs.Layout.{turnsFrom}
 use Rattle.reverse.specs.AtWork.{SizesAtWork, PacketsAtWork, CallsAtWork, unmarked, marked, numbered, RecordsReady, mixed, MixedJudged, MixedBack}

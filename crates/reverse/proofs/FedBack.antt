@@ -19,7 +19,7 @@ use Rattle.collector.proofs.SectionLoop.{byJudge-apart}
 use Rattle.collector.proofs.StoryLaws.{sections-more}
 use Rattle.history.specs.Run.{Promised, Call, Input, inputOf, Run, no-call, one-call}
 use Rattle.history.proofs.Promise.{runs-exist}
-use Rattle.history.proofs.TestLaws.{or-none}
+use Rattle.wire.proofs.TestLaws.{or-none}
 use Rattle.writer.specs.Layout.{bytesAhead, Turn, turnOf, turnsFrom, payloadOf, laidOut}
 use Rattle.writer.specs.Packets.{packetOf, packetsFrom, packetsOf}
 use Rattle.writer.proofs.TurnLaws.{turns-stop, turns-on, turn-takes}

@@ -32,7 +32,7 @@ use Rattle.collector.proofs.StoryLaws.{Kept, ended-in, sections-each}
 use Rattle.collector.proofs.Parted.{parted, accepted-by-end, rejected-by-end, last-limit}
 use Rattle.collector.proofs.Outcomes.{kept-payload}
 use Rattle.history.specs.Run.{taken, fareOf, cut, handedBy}
-use Rattle.history.proofs.TestLaws.{and-none}
+use Rattle.wire.proofs.TestLaws.{and-none}
 use Rattle.history.proofs.LeftInHand.{Standing, stands-after}
 use Rattle.history.proofs.Agrees.{cut-whole, whole-taken}
 use Rattle.writer.specs.Packets.{headerOf}

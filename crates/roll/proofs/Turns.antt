@@ -2,13 +2,14 @@
 -- rest is left out, or lies above the last number; and where none must come, the end is unknown and the first is missing.
 use Prim.Native.Nat.{ℕ, _+_, _-_, _*_, _/_, _%_, _<_, _≤_}
 use mathlib.Core.Path.{_≡_, refl, sym, _∙_, subst}
-use mathlib.Core.Bool.{Bool, true, false, _||_}
-use mathlib.Core.Logic.{⊎-elim}
+use mathlib.Core.Bool.{Bool, true, false}
+use mathlib.Core.Logic.{inr, ⊎-elim}
 use native.Mathlib.Omega.{arith}
 use lib.Dec.{eqb, ltb}
 use lib.ListN.{getD}
 use borrow.Author.Tests.{eqb-true, eqb-false, ltb-true, ltb-false, lt-ltb, le-ltb}
 use Rattle.wire.specs.If.{if_then_else_}
+use Rattle.wire.proofs.TestLaws.{or-none, or-exactly}
 use Rattle.roll.specs.Answer.{Says, missing}
 use Rattle.roll.specs.Marks.{segmentOf, segmentAt, has, smallest, smallestMissing}
 use Rattle.roll.specs.Segments.{counting, endAt, cameBy, leftOutBy, comeOrLeftOut, smallestInSegments}
@@ -32,14 +33,6 @@ has-in m k i h =
     let d : (k * 8 + i) / 8 ≡ k = omega arith in
     let r : (k * 8 + i) % 8 ≡ i = omega arith in
     rw (d, r)
-
-or-false : (b : Bool) → (b || false) ≡ b
-or-false true = refl
-or-false false = refl
-
-or-true : (b : Bool) → (b || true) ≡ true
-or-true true = refl
-or-true false = refl
 
 -- what w numbers that must come of segment k mean
 record Turn (schedule : Bool) (m : Marks) (last k w : ℕ) : Type 0 where
@@ -96,8 +89,8 @@ module _ (m : Marks) (last k : ℕ) (reached : k * 8 ≤ last) where
             few = (omega arith, omega arith);
             by-mark = λ i h.
                 let below : i < 8 = omega arith in
-                rw (at i below, e, le-ltb end (k * 8 + i) (omega arith)) (or-false (has m (k * 8 + i)) ∙ has-in m k i below);
-            rest = λ z i h g r. rw (at i g, e, lt-ltb end (k * 8 + i) (omega arith)) (or-true (has m (k * 8 + i)));
+                rw (at i below, e, le-ltb end (k * 8 + i) (omega arith)) (or-none (has m (k * 8 + i)) ∙ has-in m k i below);
+            rest = λ z i h g r. rw (at i g, e, lt-ltb end (k * 8 + i) (omega arith)) (or-exactly (has m (k * 8 + i)) true .1 (inr refl));
             unknown = λ z. absurd (omega arith);
           }
 

@@ -84,10 +84,6 @@ put-whole m k s w l = (length-set (m .segments) k s ∙ w .0, each)
 
 -- ---- a segment with one mark more
 
-with-mark-long : (s : Segment) (n : ℕ) → length (withMark s n .came) ≡ length (s .came)
-unfolding withMark
-with-mark-long s n = length-set (s .came) (n % 8) true
-
 with-mark-there : (s : Segment) (n : ℕ) → length (s .came) ≡ 8 → getD (withMark s n .came) (n % 8) false ≡ true
 unfolding withMark
 with-mark-there s n l = getD-set-same (s .came) (n % 8) true false (omega arith)
@@ -107,9 +103,6 @@ module _ (m : Marks) (n : ℕ) (s : Segment) (w : Whole m) (l : length (s .came)
 
   after-at : segmentAt after (n / 8) ≡ withMark s n
   after-at = put-same m (n / 8) (withMark s n) w (omega arith)
-
-  after-whole : Whole after
-  after-whole = put-whole m (n / 8) (withMark s n) w (λ _. with-mark-long s n ∙ l)
 
   after-end : segmentAt after (n / 8) .end ≡ s .end
   after-end = ap (λ (x : Segment). x .end) after-at ∙ with-mark-end s n
@@ -139,10 +132,6 @@ segment-long m n w h = w .1 (n / 8) (omega arith)
 module _ (m : Marks) (k : ℕ) (w : Whole m) (small : k < 256) where
   abbrev kept : Segment
   kept = segmentAt m (k / 8)
-
-  pub marked-whole : Whole (marked m k)
-  unfolding marked
-  marked-whole = after-whole m k kept w (segment-long m k w small) small
 
   pub marked-has : has (marked m k) k ≡ true
   unfolding marked
@@ -225,10 +214,6 @@ module _ (m : Marks) (n e : ℕ) (w : Whole m) (small : n < 256) where
       (λ h. ap (λ (s : Segment). s .end) (ending-same (segmentAt m (n / 8)) e h) ∙ h)
       (λ h. ap (λ (s : Segment). s .end) (ending-new (segmentAt m (n / 8)) e h) ∙ blank-end (At e))
       (end-same? (segmentAt m (n / 8)) e)
-
-  pub until-whole : Whole (markedUntil m n e)
-  unfolding markedUntil
-  until-whole = after-whole m n told w told-long small
 
   -- the segment has this end now, and this number of it has come
   pub until-end : segmentAt (markedUntil m n e) (n / 8) .end ≡ At e

@@ -7,6 +7,7 @@ use mathlib.Core.Logic.{_⊎_, inl, inr, _↔_, ⊎-elim}
 use native.Mathlib.Omega.{arith}
 use lib.Dec.{ltb}
 use borrow.Author.Tests.{ltb-true, ltb-false, lt-ltb}
+use Rattle.wire.proofs.TestLaws.{or-exactly}
 use Rattle.roll.specs.Answer.{Says, missing, complete}
 use Rattle.roll.specs.Marks.{segmentAt, has}
 use Rattle.roll.specs.Segments.{endAt, cameBy, leftOutBy, comeOrLeftOut, smallestInSegments}
@@ -38,14 +39,6 @@ module _ (m : Marks) (last k e : ℕ) where
 
 -- ---- one number
 
-or-left : (a b : Bool) → a ≡ true → (a || b) ≡ true
-or-left true b h = refl
-or-left false b h = absurd (false≢true h)
-
-or-right : (a b : Bool) → b ≡ true → (a || b) ≡ true
-or-right true b h = refl
-or-right false b h = h
-
 module _ (m : Marks) (last : ℕ) where
   come-or-left-out : (n : ℕ) → comeOrLeftOut m last n ≡ true → CameIn m last n ⊎ LeftOut (Known m last) n
   unfolding comeOrLeftOut cameBy leftOutBy
@@ -63,7 +56,7 @@ module _ (m : Marks) (last : ℕ) where
   counted : (n : ℕ) → CameIn m last n ⊎ LeftOut (Known m last) n → comeOrLeftOut m last n ≡ true
   unfolding comeOrLeftOut cameBy leftOutBy
   counted n (inl c) = rw (known-end m last (n / 8) (c .end) (c .known), c .mark)
-  counted n (inr (e, known, above)) = rw (known-end m last (n / 8) e known) (or-right (has m n) (ltb e n) (lt-ltb e n above))
+  counted n (inr (e, known, above)) = rw (known-end m last (n / 8) e known) (or-exactly (has m n) (ltb e n) .1 (inr (lt-ltb e n above)))
 
   -- ---- all numbers
 

@@ -1,5 +1,6 @@
 -- The laws that the proofs cite, and what holds of the answers.
 pub mod IfLaws
+pub mod TestLaws
 pub mod TrailLaws
 pub mod NumberLaws
 pub mod ReadingLaws
