@@ -7,7 +7,7 @@
 #
 # The library is made of the kit's archives, one for each crate that is named here; each is proved before it is
 # compiled.
-CRATES = cabinet
+CRATES = cabinet desk
 PREFIX = /usr/local
 DESTDIR =
 

@@ -1,10 +1,10 @@
 /* Lohitunga from C: the service information of digital television, EN 300 468 (V1.16.1).
  *
- * It collects sections from transport packets and judges each to the last byte, puts sections into packets, finds descriptors in them and reads those,
- * turns sections into content sheets and back, and tells which sections of a table have come. No call trusts a length on the wire. Each call ends, traps
- * never, and reads and writes nothing but what was lent: this is proved for every input, and so is what each call answers. The functions are for x86-64
- * Linux; they use no heap, no global data and no system call, and any number of threads may call them at once, each with what it lends. Of the C library they
- * call memcpy and memset.
+ * It collects sections from transport packets and judges each to the last byte, puts sections into packets, finds descriptors in them, reads those and writes
+ * them, turns sections into content sheets and back, and tells which sections of a table have come. No call trusts a length on the wire. Each call ends, traps
+ * never, and reads and writes nothing but what was lent: this is proved for every input, and so is what each call answers. The functions are for x86-64 Linux;
+ * they use no heap, no global data and no system call, and any number of threads may call them at once, each with what it lends. Of the C library they call
+ * memcpy and memset.
  *
  * How to begin: how many good sections a PID of a stream on standard input has. The compiler's words are those of
  * `pkg-config --cflags --libs lohitunga`.
@@ -23,7 +23,8 @@
  * What holds for every call
  * - Bytes are lent as a pointer and a length. They may hold anything. The pointer points to as many bytes as the length says; with a length of 0 it
  *   may be any, also a null pointer. A pointer to a record or a roll is aligned as its type and points to one, whose fields may hold anything. Sizes
- *   of sections are lent as bytes are, any numbers, by a pointer that is aligned as its type; their length counts sizes and not bytes.
+ *   of sections and the numbers of a list are lent as bytes are, any numbers, by a pointer that is aligned as its type; their length counts numbers and not
+ *   bytes.
  * - What is lent by a pointer without `const` overlaps nothing else that is lent to the same call. Bytes lent by `const` pointers may overlap each other.
  * - No call keeps a pointer. No call writes through a `const` pointer.
  * - Every answer of a call that can refuse has the field `number`: 0, or the number of the first refusal that applies, in the order of its table
@@ -67,7 +68,7 @@ uint32_t lohitunga_interface(void);
 #define LOHITUNGA_TABLE_TDT 0x70
 #define LOHITUNGA_TABLE_TOT 0x73
 
-/* Tags of the descriptors that are read. */
+/* Tags of the descriptors that are read and written. */
 #define LOHITUNGA_TAG_NETWORK_NAME 0x40
 #define LOHITUNGA_TAG_SERVICE_LIST 0x41
 #define LOHITUNGA_TAG_STUFFING 0x42
@@ -80,7 +81,8 @@ uint32_t lohitunga_interface(void);
 #define LOHITUNGA_TAG_LOCAL_TIME_OFFSET 0x58
 #define LOHITUNGA_TAG_TERRESTRIAL 0x5A
 
-/* Refusals: of sections, of sheets, of packets, of descriptors and times, of the roll, of the writer. When each is given stands at the calls. */
+/* Refusals: of sections, of sheets, of packets, of descriptors and times, of the roll, of the writer of packets, of the writers of descriptors. When each
+ * is given stands at the calls. */
 #define LOHITUNGA_REFUSED_SHORT 1
 #define LOHITUNGA_REFUSED_TABLE_ID 2
 #define LOHITUNGA_REFUSED_SYNTAX_INDICATOR 3
@@ -119,9 +121,12 @@ uint32_t lohitunga_interface(void);
 #define LOHITUNGA_REFUSED_PID_OR_COUNTER 101
 #define LOHITUNGA_REFUSED_SECTIONS 102
 #define LOHITUNGA_REFUSED_PACKETS_ROOM 103
+#define LOHITUNGA_REFUSED_DESCRIPTOR_ROOM 111
+#define LOHITUNGA_REFUSED_FIELD 112
+#define LOHITUNGA_REFUSED_DESCRIPTOR_LONG 113
 
 /* A part of the bytes that were lent: `size` bytes from the place `start` on. What is told of no part has both 0. A call that is given a part takes any
- * two numbers: of a part that does not lie in the bytes it hands out nothing. */
+ * two numbers: of a part that does not lie in the bytes it hands out nothing, and writes nothing. */
 typedef struct lohitunga_part {
     size_t start;
     size_t size;
@@ -652,6 +657,98 @@ typedef struct lohitunga_date_answer {
 /* The Gregorian date of an MJD. */
 lohitunga_date_answer lohitunga_read_date(uint16_t mjd);
 
+/* Writers of descriptors, the reverse of the readings: fields in; tag, length, body out.
+ *
+ * number   given when
+ *  111     the room is under LOHITUNGA_DESCRIPTOR_ROOM bytes, however short the descriptor
+ *  112     a field is outside its layout: no descriptor is read so
+ *  113     the body would have over 255 bytes; never of a delivery system, whose body has 11
+ * 111 comes first, then 112 for any field, also one behind the 255th byte; then 113.
+ *
+ * Each takes what its reading gives, and of the bytes that were written its reading gives the same fields, texts with the same bytes. So what no reading
+ * gives is 112: a flag above 1; a roll_off other than 0 with DVB-S; a part that does not lie in the bytes lent. What any descriptor at all is read as can be
+ * written, and gives the same bytes where its reserved bits were ones, the two of the roll-off factor under DVB-S zeros, and no polarity 1 stood over two
+ * offsets of zero. Alters the first `size` bytes of the room; later bytes stay. */
+#define LOHITUNGA_DESCRIPTOR_ROOM 257
+
+typedef struct lohitunga_write_answer {
+    uint32_t number; /* 0, or 111 to 113 */
+    size_t size;     /* how many bytes the descriptor has: the first of the room */
+} lohitunga_write_answer;
+
+/* Texts. The parts are of `bytes`: those of the descriptor that was read, or any others. */
+
+/* 0x40 network name. */
+lohitunga_write_answer lohitunga_write_network_name(lohitunga_part name, const uint8_t *bytes, size_t size, uint8_t *room, size_t room_size);
+
+/* 0x42 stuffing: the body as given. */
+lohitunga_write_answer lohitunga_write_stuffing(lohitunga_part stuffing, const uint8_t *bytes, size_t size, uint8_t *room, size_t room_size);
+
+/* 0x48 service. */
+lohitunga_write_answer lohitunga_write_service(lohitunga_service service, const uint8_t *bytes, size_t size, uint8_t *room, size_t room_size);
+
+/* 0x4D short event: a language_code below 2^24. */
+lohitunga_write_answer lohitunga_write_short_event(lohitunga_short_event short_event, const uint8_t *bytes, size_t size, uint8_t *room, size_t room_size);
+
+/* Lists. Each item is a row of numbers, and the rows stand end to end. `count` counts numbers, not rows: one that is no multiple of the row is 112, and 0 is
+ * an empty list. The function beside each writer makes the row of an item that was read. */
+
+/* 0x41 service list, at most 85 items: service_id, service_type. */
+#define LOHITUNGA_SERVICE_LIST_ROW 2
+static inline void lohitunga_service_list_row(lohitunga_service_list_item item, int32_t *row) {
+    row[0] = item.service_id;
+    row[1] = item.service_type;
+}
+lohitunga_write_answer lohitunga_write_service_list(const int32_t *numbers, size_t count, uint8_t *room, size_t room_size);
+
+/* 0x54 content, at most 127 items: content_nibble_level_1 and content_nibble_level_2, each below 16, user_byte. */
+#define LOHITUNGA_CONTENT_ROW 3
+static inline void lohitunga_content_row(lohitunga_content_item item, int32_t *row) {
+    row[0] = item.content_nibble_level_1;
+    row[1] = item.content_nibble_level_2;
+    row[2] = item.user_byte;
+}
+lohitunga_write_answer lohitunga_write_content(const int32_t *numbers, size_t count, uint8_t *room, size_t room_size);
+
+/* 0x55 parental rating, at most 63 items: country_code below 2^24, rating. */
+#define LOHITUNGA_PARENTAL_RATING_ROW 2
+static inline void lohitunga_parental_rating_row(lohitunga_parental_rating_item item, int32_t *row) {
+    row[0] = (int32_t)item.country_code;
+    row[1] = item.rating;
+}
+lohitunga_write_answer lohitunga_write_parental_rating(const int32_t *numbers, size_t count, uint8_t *room, size_t room_size);
+
+/* 0x58 local time offset, at most 19 items: country_code below 2^24, country_region_id below 64, local_time_offset, mjd, hour, minute, second, undefined,
+ * next_time_offset. The offsets are within a day, -1,439 to 1,439 minutes, and not of opposite sign: one polarity serves both, 1 where one is below zero.
+ * Where `undefined` is 0 the time of change has an MJD from 15,079 to 65,535, an hour below 24, a minute and a second below 60; where it is 1 these four
+ * are 0; it is no other number. */
+#define LOHITUNGA_LOCAL_TIME_OFFSET_ROW 9
+static inline void lohitunga_local_time_offset_row(lohitunga_local_time_offset_item item, int32_t *row) {
+    row[0] = (int32_t)item.country_code;
+    row[1] = item.country_region_id;
+    row[2] = item.local_time_offset;
+    row[3] = item.time_of_change.mjd;
+    row[4] = item.time_of_change.hour;
+    row[5] = item.time_of_change.minute;
+    row[6] = item.time_of_change.second;
+    row[7] = item.time_of_change.undefined;
+    row[8] = item.next_time_offset;
+}
+lohitunga_write_answer lohitunga_write_local_time_offset(const int32_t *numbers, size_t count, uint8_t *room, size_t room_size);
+
+/* Delivery systems: 13 bytes each. A frequency of a satellite or a cable is below 100,000,000 steps, an orbital_position below 10,000, a symbol_rate below
+ * 10,000,000. polarization, roll_off, modulation_type, constellation, guard_interval and transmission_mode are below 4; bandwidth, hierarchy_information and
+ * both code rates below 8; fec_outer and fec_inner below 16; modulation_system is 0 or 1. Every other number is inside. */
+
+/* 0x43 satellite delivery system. */
+lohitunga_write_answer lohitunga_write_satellite(lohitunga_satellite satellite, uint8_t *room, size_t room_size);
+
+/* 0x44 cable delivery system. */
+lohitunga_write_answer lohitunga_write_cable(lohitunga_cable cable, uint8_t *room, size_t room_size);
+
+/* 0x5A terrestrial delivery system. */
+lohitunga_write_answer lohitunga_write_terrestrial(lohitunga_terrestrial terrestrial, uint8_t *room, size_t room_size);
+
 /* The roll: which sections of a sub-table have come.
  *
  * The sections of a schedule, the EIT of table_id 0x50 to 0x6F, stand in 32 segments of eight numbers, and a segment may end early. Each of its sections
@@ -702,30 +799,41 @@ lohitunga_roll_answer lohitunga_roll_take(lohitunga_roll *roll, const uint8_t *s
 #endif
 
 /* The stack that a call needs at most, in bytes below the caller's stack pointer, its return address included and that of memcpy and memset left out:
- *   lohitunga_roll_take              744
- *   lohitunga_collect                712
- *   lohitunga_to_sheet               408
- *   lohitunga_roll_ask               384
- *   lohitunga_to_section             360
- *   lohitunga_open                   296
- *   lohitunga_search                 232
- *   lohitunga_judge                  200
- *   lohitunga_next_entry             184
- *   lohitunga_packets                184
- *   lohitunga_read_local_time_offset 184
- *   lohitunga_read_satellite         184
- *   lohitunga_read_terrestrial       184
- *   lohitunga_read_date              136
- *   lohitunga_read_parental_rating   136
- *   lohitunga_read_service_list      136
- *   lohitunga_crc32                   88
- *   lohitunga_duration_from           48
- *   lohitunga_read_time               48
- *   lohitunga_time_from               48
- *   lohitunga_read_cable              40
- *   lohitunga_read_duration           32
- *   lohitunga_read_offset             24
- *   every other                        8
+ *   lohitunga_roll_take                744
+ *   lohitunga_collect                  712
+ *   lohitunga_write_content            472
+ *   lohitunga_write_local_time_offset  472
+ *   lohitunga_write_parental_rating    472
+ *   lohitunga_write_service_list       472
+ *   lohitunga_to_sheet                 408
+ *   lohitunga_roll_ask                 384
+ *   lohitunga_to_section               360
+ *   lohitunga_open                     296
+ *   lohitunga_search                   232
+ *   lohitunga_judge                    200
+ *   lohitunga_next_entry               184
+ *   lohitunga_packets                  184
+ *   lohitunga_read_local_time_offset   184
+ *   lohitunga_read_satellite           184
+ *   lohitunga_read_terrestrial         184
+ *   lohitunga_write_satellite          184
+ *   lohitunga_write_terrestrial        184
+ *   lohitunga_write_service            152
+ *   lohitunga_write_short_event        152
+ *   lohitunga_read_date                136
+ *   lohitunga_read_parental_rating     136
+ *   lohitunga_read_service_list        136
+ *   lohitunga_crc32                     88
+ *   lohitunga_duration_from             48
+ *   lohitunga_read_time                 48
+ *   lohitunga_time_from                 48
+ *   lohitunga_read_cable                40
+ *   lohitunga_read_duration             32
+ *   lohitunga_write_cable               32
+ *   lohitunga_read_offset               24
+ *   lohitunga_write_network_name        16
+ *   lohitunga_write_stuffing            16
+ *   every other                          8
  */
 
 #endif

@@ -73,6 +73,14 @@ static inline const char *lohitunga_text(uint32_t number) {
         return "The sizes do not cut the bytes into sections; or a section has fewer than 3 bytes, is not as long as "
                "its header says, is over 4,096 bytes, or begins with 0xFF.";
     case 103: return "The room lent is under 188 bytes for each packet.";
+    case 111: return "The room lent is under 257 bytes, however short the descriptor would be.";
+    case 112:
+        return "A field is outside its layout: a number that its bits or digits do not hold; a flag above 1; a "
+               "roll-off of DVB-S; an offset of a day or more, or two of opposite sign in one item; an MJD outside "
+               "15,079 to 65,535, an hour above 23, a minute or a second above 59, or any of these four beside an "
+               "undefined time; numbers that are no whole row of a list; a text that does not lie in the bytes "
+               "lent.";
+    case 113: return "The body would have over 255 bytes.";
     default: return "No number of this library.";
     }
 }

@@ -1,11 +1,11 @@
 #!/usr/bin/env python3
-"""The stack that each exported call of an archive needs at most, out of its machine code.
+"""The stack that each exported call of the archives needs at most, out of their machine code.
 
-    depth.py ARCHIVE [OBJDUMP]         a line for each call: its name, and the bytes below the caller's stack pointer, return address included
+    depth.py OBJDUMP ARCHIVE..         a line for each call: its name, and the bytes below the caller's stack pointer, return address included
 
 Every path through each function is followed, and every call on it; there is no recursion, no call through a pointer and no frame of a size that is
 not in the code, and where one should appear this program says so and fails. memcpy and memset are the C library's: they count with their return
-address alone.
+address alone. No archive calls into another.
 """
 import re
 import subprocess
@@ -83,6 +83,8 @@ def depth(name, code, led, known, on_way):
         return known[name]
     if name in on_way:
         sys.exit(f"depth: {name} calls itself")
+    if name not in code:
+        sys.exit(f"depth: {name} is called, and stands not in the archive")
     body = code[name]
     index = {place: i for i, (place, _, _) in enumerate(body)}
     most, seen, todo = 0, {}, [(0, 0)]
@@ -129,14 +131,14 @@ def depth(name, code, led, known, on_way):
 
 
 def main():
-    archive = sys.argv[1]
-    objdump = sys.argv[2] if len(sys.argv) > 2 else "objdump"
-    code = functions(archive, objdump)
-    led = tables(archive, objdump, code)
-    known = {}
-    for name in code:
-        if name.startswith("lohitunga_"):
-            print(name, 8 + depth(name, code, led, known, frozenset()))
+    objdump, *archives = sys.argv[1:]
+    for archive in archives:
+        code = functions(archive, objdump)
+        led = tables(archive, objdump, code)
+        known = {}
+        for name in code:
+            if name.startswith("lohitunga_"):
+                print(name, 8 + depth(name, code, led, known, frozenset()))
 
 
 if __name__ == "__main__":

@@ -53,6 +53,20 @@ static lohitunga_record record;
 static lohitunga_roll roll;
 static volatile uint8_t taken[512];
 
+/* And to the writers: texts are parts of the bytes, each list has as many rows. */
+enum { ROWS_MOST = 130 };
+static struct {
+    lohitunga_part text;
+    lohitunga_service service;
+    lohitunga_short_event event;
+    lohitunga_satellite satellite;
+    lohitunga_cable cable;
+    lohitunga_terrestrial terrestrial;
+    int32_t services[ROWS_MOST * LOHITUNGA_SERVICE_LIST_ROW], contents[ROWS_MOST * LOHITUNGA_CONTENT_ROW];
+    int32_t ratings[ROWS_MOST * LOHITUNGA_PARENTAL_RATING_ROW], offsets[ROWS_MOST * LOHITUNGA_LOCAL_TIME_OFFSET_ROW];
+    size_t rows;
+} fields;
+
 #define AT_CALL() __asm__ volatile("mov %%rsp, %0" : "=m"(pointer_at_call))
 #define CALLS(CALL) \
     CALL(lohitunga_crc32, uint32_t, (bytes, size)) \
@@ -95,7 +109,18 @@ static volatile uint8_t taken[512];
     CALL(lohitunga_roll_ask, lohitunga_roll_answer, (&roll)) \
     CALL(lohitunga_roll_take, lohitunga_roll_answer, (&roll, bytes, size)) \
     CALL(lohitunga_to_sheet, lohitunga_sheet_answer, (bytes, size, room, sizeof room)) \
-    CALL(lohitunga_to_section, lohitunga_section_answer, (bytes, size, room, sizeof room))
+    CALL(lohitunga_to_section, lohitunga_section_answer, (bytes, size, room, sizeof room)) \
+    CALL(lohitunga_write_network_name, lohitunga_write_answer, (fields.text, bytes, size, room, sizeof room)) \
+    CALL(lohitunga_write_stuffing, lohitunga_write_answer, (fields.text, bytes, size, room, sizeof room)) \
+    CALL(lohitunga_write_service, lohitunga_write_answer, (fields.service, bytes, size, room, sizeof room)) \
+    CALL(lohitunga_write_short_event, lohitunga_write_answer, (fields.event, bytes, size, room, sizeof room)) \
+    CALL(lohitunga_write_service_list, lohitunga_write_answer, (fields.services, fields.rows * LOHITUNGA_SERVICE_LIST_ROW, room, sizeof room)) \
+    CALL(lohitunga_write_content, lohitunga_write_answer, (fields.contents, fields.rows * LOHITUNGA_CONTENT_ROW, room, sizeof room)) \
+    CALL(lohitunga_write_parental_rating, lohitunga_write_answer, (fields.ratings, fields.rows * LOHITUNGA_PARENTAL_RATING_ROW, room, sizeof room)) \
+    CALL(lohitunga_write_local_time_offset, lohitunga_write_answer, (fields.offsets, fields.rows * LOHITUNGA_LOCAL_TIME_OFFSET_ROW, room, sizeof room)) \
+    CALL(lohitunga_write_satellite, lohitunga_write_answer, (fields.satellite, room, sizeof room)) \
+    CALL(lohitunga_write_cable, lohitunga_write_answer, (fields.cable, room, sizeof room)) \
+    CALL(lohitunga_write_terrestrial, lohitunga_write_answer, (fields.terrestrial, room, sizeof room))
 
 /* The answer is kept, so that the compiler keeps the call. */
 #define THUNK(name, type, words) \
@@ -187,6 +212,51 @@ static void numbers(void) {
     }
 }
 
+/* Rows in range. */
+static void rows(void) {
+    for (size_t i = 0; i < ROWS_MOST; i++) {
+        int32_t side = chance(2) ? 1 : -1, undefined = chance(4) == 0, *offset = fields.offsets + i * LOHITUNGA_LOCAL_TIME_OFFSET_ROW;
+        lohitunga_service_list_item service = {chance(65536), chance(256)};
+        lohitunga_content_item content = {chance(16), chance(16), chance(256)};
+        lohitunga_parental_rating_item rating = {chance(1 << 24), chance(256)};
+        lohitunga_moment change = {15079 + chance(50457), chance(24), chance(60), chance(60), 0}, none = {0, 0, 0, 0, 1};
+        lohitunga_local_time_offset_item item = {rating.country_code, chance(64), 0, undefined ? none : change, 0};
+        lohitunga_service_list_row(service, fields.services + i * LOHITUNGA_SERVICE_LIST_ROW);
+        lohitunga_content_row(content, fields.contents + i * LOHITUNGA_CONTENT_ROW);
+        lohitunga_parental_rating_row(rating, fields.ratings + i * LOHITUNGA_PARENTAL_RATING_ROW);
+        lohitunga_local_time_offset_row(item, offset);
+        offset[2] = side * (int32_t)chance(1440);
+        offset[8] = side * (int32_t)chance(1440);
+    }
+}
+
+/* Fields in range, lists and texts that fit and that are too long; then with some of the fields anywhere. */
+static void writings(void) {
+    static uint8_t text[600];
+    uint8_t *all = (uint8_t *)&fields;
+    for (size_t i = 0; i < sizeof text; i++)
+        text[i] = chance(256);
+    lend(text, sizeof text);
+    for (int k = 0; k < 600; k++) {
+        lohitunga_part first = {chance(200), chance(k % 4 ? 120 : 300)}, second = {chance(200), chance(k % 4 ? 120 : 300)};
+        uint8_t s2 = chance(2);
+        fields.text = first;
+        fields.service = (lohitunga_service){chance(256), first, second};
+        fields.event = (lohitunga_short_event){chance(1 << 24), first, second};
+        fields.satellite = (lohitunga_satellite){{chance(100000000)}, chance(10000), chance(10000000), chance(2), chance(4), s2, s2 ? chance(4) : 0,
+                                                 chance(4), chance(16)};
+        fields.cable = (lohitunga_cable){{chance(100000000)}, chance(10000000), chance(16), chance(256), chance(16)};
+        fields.terrestrial = (lohitunga_terrestrial){{chance(UINT32_MAX)}, chance(8), chance(2), chance(2), chance(2), chance(4), chance(8), chance(8),
+                                                     chance(8), chance(4), chance(4), chance(2)};
+        rows();
+        for (int n = 0; k % 5 == 0 && n < 8; n++)
+            all[chance(sizeof fields - sizeof fields.rows)] = chance(256);
+        fields.rows = k % 3 ? chance(20) : chance(ROWS_MOST + 1);
+        for (int i = call_lohitunga_write_network_name; i < HOW_MANY; i++)
+            measure(i);
+    }
+}
+
 /* A section's turn to a sheet, and that sheet's turn back. */
 static void turns(void) {
     static uint8_t sheet[LOHITUNGA_SHEET_ROOM];
@@ -259,6 +329,7 @@ int main(int argc, char **argv) {
     for (int i = 0; i < HOW_MANY; i++)
         measure(i);
     numbers();
+    writings();
     /* the largest section: events without descriptors, and one with them */
     memcpy(large, eit, sizeof eit);
     for (size_t at = sizeof eit; at + 12 <= sizeof large - 4; at += 12)

@@ -5,7 +5,7 @@ import sys
 from pathlib import Path
 
 TOP = Path(__file__).resolve().parent.parent.parent
-LIMIT = 65536
+LIMIT, LIMIT_OF_WRITERS = 65536, 512
 # a row of README.md, and a line of the header
 STATED = {
     "README.md": re.compile(r"^\| `?(lohitunga_\w+|every other)`? \| ([\d,]+) \|", re.M),
@@ -26,8 +26,9 @@ def main():
         print(f"{name:36} {code[name]:6,} {used.get(name, 0):6,}")
         if used.get(name, 0) > code[name]:
             bad.append(f"{name} used {used[name]} bytes")
-        if code[name] > LIMIT:
-            bad.append(f"{name} needs more than {LIMIT} bytes")
+        limit = LIMIT_OF_WRITERS if name.startswith("lohitunga_write_") else LIMIT
+        if code[name] > limit:
+            bad.append(f"{name} needs more than {limit} bytes")
     if "--check" in sys.argv:
         for where, row in STATED.items():
             stated = {name: int(n.replace(",", "")) for name, n in row.findall((TOP / where).read_text())}

@@ -24,7 +24,13 @@ all="bytes:1 bytes:6 sections:2 sections:3 sections:4 sections:5 sections:23 sec
     rolls:82 rolls:83 rolls:84 rolls:85 rolls:86 rolls:87 rolls:88 rolls:89 rolls:90 rolls:91 rolls:92 rolls:93 rolls:94 rolls:95
     rolls:96 rolls:97 rolls:98 rolls:99 rolls:100 rolls:101 rolls:102 rolls:103 rolls:104 rolls:105 rolls:106 rolls:107 rolls:108
     schedules:16 schedules:82 schedules:84 schedules:85 schedules:86 schedules:87 schedules:92 schedules:93 schedules:95
-    schedules:96 schedules:97 schedules:98 schedules:99 schedules:104 schedules:105 schedules:106 schedules:107"
+    schedules:96 schedules:97 schedules:98 schedules:99 schedules:104 schedules:105 schedules:106 schedules:107
+    writers:109 writers:110 writers:111 writers:112 writers:113 writers:114 writers:115 writers:116 writers:117 writers:118
+    writers:119 writers:120 writers:121 writers:122 writers:123 writers:124 writers:125 writers:126 writers:127 writers:128
+    writers:129 writers:130 writers:131 writers:132 writers:133 writers:134 writers:135 writers:136 writers:137 writers:138
+    writers:139 writers:140 writers:141 writers:142 writers:143 writers:144 writers:145 writers:146 writers:147 writers:148
+    writers:149 writers:150 writers:151 writers:152 writers:153 writers:154 writers:155 writers:156 writers:157 writers:158
+    writers:159 writers:160 writers:161 writers:162 writers:163 writers:164 writers:165"
 for kind in $all; do
     status=0
     FAULT=${kind#*:} target/second/stand_in 1 20000 "${kind%:*}" >"$tried" || status=$?

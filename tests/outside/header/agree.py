@@ -13,8 +13,9 @@ from pathlib import Path
 
 TOP = Path(__file__).resolve().parent.parent.parent.parent
 HERE = Path(__file__).resolve().parent
-WIDTHS = {"u8": 1, "u16": 2, "u32": 4, "u64": 8, "usize": 8, "i16": 2}
-IN_C = {"u8": "uint8_t", "u16": "uint16_t", "u32": "uint32_t", "u64": "uint64_t", "usize": "size_t", "i16": "int16_t"}
+WIDTHS = {"u8": 1, "u16": 2, "u32": 4, "u64": 8, "usize": 8, "i16": 2, "i32": 4}
+IN_C = {"u8": "uint8_t", "u16": "uint16_t", "u32": "uint32_t", "u64": "uint64_t", "usize": "size_t", "i16": "int16_t",
+        "i32": "int32_t"}
 
 
 def read(name):

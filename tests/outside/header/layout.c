@@ -247,3 +247,6 @@ FIELD(lohitunga_walk_answer, tag, 20, 1);
 FIELD(lohitunga_walk_answer, start, 24, 8);
 FIELD(lohitunga_walk_answer, size, 32, 8);
 FIELD(lohitunga_walk_answer, next, 40, 8);
+IS(sizeof(lohitunga_write_answer), 16);
+FIELD(lohitunga_write_answer, number, 0, 4);
+FIELD(lohitunga_write_answer, size, 8, 8);

@@ -17,6 +17,42 @@ static void is(const char *what, long long given, long long wanted)
 /* The call with a null pointer, and its number. */
 #define GIVES(number_wanted, ...) is(#__VA_ARGS__, (__VA_ARGS__).number, number_wanted)
 
+/* Texts of no byte, lists of no number, and no room. */
+static void written_of_nothing(uint8_t *room, lohitunga_part anywhere)
+{
+    const size_t enough = LOHITUNGA_DESCRIPTOR_ROOM;
+    const lohitunga_part none = {0, 0};
+    const lohitunga_service service = {1, none, none}, service_anywhere = {1, none, anywhere};
+    const lohitunga_short_event event = {0, none, none}, event_anywhere = {0, anywhere, none};
+    const lohitunga_satellite satellite = {{0}, 0, 0, 0, 0, 0, 0, 0, 0};
+    const lohitunga_cable cable = {{0}, 0, 0, 0, 0};
+    const lohitunga_terrestrial terrestrial = {{0}, 0, 0, 0, 0, 0, 0, 0, 0, 0, 0, 0};
+    GIVES(0, lohitunga_write_network_name(none, NULL, 0, room, enough));
+    GIVES(112, lohitunga_write_network_name(anywhere, NULL, 0, room, enough));
+    GIVES(111, lohitunga_write_network_name(none, NULL, 0, NULL, 0));
+    GIVES(0, lohitunga_write_stuffing(none, NULL, 0, room, enough));
+    GIVES(112, lohitunga_write_stuffing(anywhere, NULL, 0, room, enough));
+    GIVES(111, lohitunga_write_stuffing(none, NULL, 0, NULL, 0));
+    GIVES(0, lohitunga_write_service(service, NULL, 0, room, enough));
+    GIVES(112, lohitunga_write_service(service_anywhere, NULL, 0, room, enough));
+    GIVES(111, lohitunga_write_service(service, NULL, 0, NULL, 0));
+    GIVES(0, lohitunga_write_short_event(event, NULL, 0, room, enough));
+    GIVES(112, lohitunga_write_short_event(event_anywhere, NULL, 0, room, enough));
+    GIVES(111, lohitunga_write_short_event(event, NULL, 0, NULL, 0));
+    GIVES(0, lohitunga_write_service_list(NULL, 0, room, enough));
+    GIVES(111, lohitunga_write_service_list(NULL, 0, NULL, 0));
+    GIVES(0, lohitunga_write_content(NULL, 0, room, enough));
+    GIVES(111, lohitunga_write_content(NULL, 0, NULL, 0));
+    GIVES(0, lohitunga_write_parental_rating(NULL, 0, room, enough));
+    GIVES(111, lohitunga_write_parental_rating(NULL, 0, NULL, 0));
+    GIVES(0, lohitunga_write_local_time_offset(NULL, 0, room, enough));
+    GIVES(111, lohitunga_write_local_time_offset(NULL, 0, NULL, 0));
+    GIVES(111, lohitunga_write_satellite(satellite, NULL, 0));
+    GIVES(111, lohitunga_write_cable(cable, NULL, 0));
+    GIVES(111, lohitunga_write_terrestrial(terrestrial, NULL, 0));
+    is("an empty list has tag and length", (long long)lohitunga_write_content(NULL, 0, room, enough).size, 2);
+}
+
 static void nothing(void)
 {
     static uint8_t hold[LOHITUNGA_HOLD], out[LOHITUNGA_OUT], packet[LOHITUNGA_PACKET], room[LOHITUNGA_SHEET_ROOM];
@@ -68,6 +104,7 @@ static void nothing(void)
     GIVES(21, lohitunga_to_section(NULL, 0, NULL, 0));
     GIVES(22, lohitunga_to_section(NULL, 0, room, sizeof room));
     GIVES(1, lohitunga_roll_take(&roll, NULL, 0));
+    written_of_nothing(room, anywhere);
     is("the record stays", memcmp(&record, &as_before, sizeof record), 0);
     is("the roll stays", memcmp(&roll, &empty, sizeof roll), 0);
 }

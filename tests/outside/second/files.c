@@ -1,4 +1,5 @@
-/* The library's answers in files, for parsers that are programs of their own. Numbers are little-endian. */
+/* The library's answers in files, for parsers that are programs of their own. */
+#include "files.h"
 #include "kinds.h"
 #include "lohitunga.h"
 #include "record.h"
@@ -9,15 +10,15 @@
 #include <stdlib.h>
 #include <string.h>
 
-static FILE *file;
+FILE *file;
 
-static void put(uint64_t value, int bytes)
+void put(uint64_t value, int bytes)
 {
     for (int i = 0; i < bytes; i++)
         putc((int)(value >> 8 * i & 255), file);
 }
 
-static int opened(const char *name)
+int opened(const char *name)
 {
     file = fopen(name, "wb");
     if (!file)
@@ -25,7 +26,7 @@ static int opened(const char *name)
     return file != NULL;
 }
 
-static int closed(const char *name)
+int closed(const char *name)
 {
     int bad = ferror(file) | fclose(file);
     if (bad)
@@ -286,9 +287,9 @@ int write_schedules(uint64_t seed, uint64_t count, const char *name)
 
 /* Fields, by the names that tshark has for them */
 
-static void say(const char *name, long long value) { fprintf(file, "%s %lld\n", name, value); }
+void say(const char *name, long long value) { fprintf(file, "%s %lld\n", name, value); }
 
-static void say_bytes(const char *name, const uint8_t *bytes, size_t size)
+void say_bytes(const char *name, const uint8_t *bytes, size_t size)
 {
     fprintf(file, "%s ", name);
     for (size_t i = 0; i < size; i++)
@@ -296,14 +297,14 @@ static void say_bytes(const char *name, const uint8_t *bytes, size_t size)
     fprintf(file, "\n");
 }
 
-static void say_letters(const char *name, uint32_t letters)
+void say_letters(const char *name, uint32_t letters)
 {
     uint8_t three[3] = {(uint8_t)(letters >> 16), (uint8_t)(letters >> 8), (uint8_t)letters};
     say_bytes(name, three, 3);
 }
 
 /* The MJD, for what is known of other parsers' calendars; then the date and the clock. */
-static void say_moment(const char *name, lohitunga_moment m)
+void say_moment(const char *name, lohitunga_moment m)
 {
     lohitunga_date_answer a = lohitunga_read_date(m.mjd);
     if (m.undefined)

@@ -8,6 +8,8 @@
  *     harness SEED COUNT --lists FILE        COUNT lists of sections, and the library's packets of each
  *     harness SEED COUNT --schedules FILE    COUNT schedules, round by round, and what the library says is missing behind each section
  *     harness SEED COUNT --fields FILE       COUNT sections with the library's readings of them
+ *     harness SEED COUNT --written FILE      COUNT descriptors that the library wrote, and the fields that it was given
+ *     harness SEED COUNT --tables FILE       COUNT sections with such descriptors, in the library's packets
  *     harness SEED COUNT --streams FOLDER    COUNT streams of packets, each with its account by the second implementation
  *     harness --muxed FILE                   packets by libavformat, collected and written again
  * It ends with 0; with 1 at the first difference; with 3 where there is none but some answer of document 01 was never met.
@@ -32,7 +34,8 @@
     KIND(digits) \
     KIND(writer) \
     KIND(fades) \
-    KIND(schedules)
+    KIND(schedules) \
+    KIND(writers)
 
 #define DECLARED(name) extern const struct kind kind_##name;
 #define LISTED(name) &kind_##name,
@@ -45,6 +48,8 @@ int write_chains(uint64_t seed, uint64_t count, const char *name);
 int write_lists(uint64_t seed, uint64_t count, const char *name);
 int write_schedules(uint64_t seed, uint64_t count, const char *name);
 int write_fields(uint64_t seed, uint64_t count, const char *name);
+int write_written(uint64_t seed, uint64_t count, const char *name);
+int write_tables(uint64_t seed, uint64_t count, const char *name);
 int read_muxed(const char *name);
 int write_streams(uint64_t seed, uint64_t count, const char *folder);
 
@@ -89,7 +94,7 @@ int main(int argc, char **argv)
         return read_muxed(argv[2]);
     if (argc < 3) {
         fprintf(stderr, "usage: %s SEED COUNT [KIND [FIRST] | --sections FILE | --packets FILE | --chains FILE | --lists FILE |"
-                        " --schedules FILE | --fields FILE | --streams FOLDER]\n", argv[0]);
+                        " --schedules FILE | --fields FILE | --written FILE | --tables FILE | --streams FOLDER]\n", argv[0]);
         return 2;
     }
     uint64_t seed = strtoull(argv[1], NULL, 0), count = strtoull(argv[2], NULL, 0);
@@ -107,6 +112,10 @@ int main(int argc, char **argv)
         return write_schedules(seed, count, argv[4]);
     if (argc == 5 && strcmp(only, "--fields") == 0)
         return write_fields(seed, count, argv[4]);
+    if (argc == 5 && strcmp(only, "--written") == 0)
+        return write_written(seed, count, argv[4]);
+    if (argc == 5 && strcmp(only, "--tables") == 0)
+        return write_tables(seed, count, argv[4]);
     if (argc == 5 && strcmp(only, "--streams") == 0)
         return write_streams(seed, count, argv[4]);
 

@@ -1,6 +1,6 @@
 /*
- * A second implementation of document 01, written from document 01, requests (i), (ii), (v), (viii) and (ix) of document 02,
- * docs/DECISIONS.md and EN 300 468 alone, a byte at a time. It is the judge in the comparison with the library, so it is
+ * A second implementation of document 01, written from document 01, requests (i), (ii), (iv), (v), (viii) and (ix) of document
+ * 02, docs/DECISIONS.md and EN 300 468 alone, a byte at a time. It is the judge in the comparison with the library, so it is
  * plain before it is fast. It stands in the files second_*.c. Sentences in quotation marks are document 01's there, or
  * document 02's where it is named; where they leave a choice, docs/DECISIONS.md has what was chosen. Field layouts are
  * those of EN 300 468, the clause named at each.
@@ -191,6 +191,29 @@ struct second_content second_content(const uint8_t *bytes, size_t size, uint64_t
 struct second_rating second_parental_rating(const uint8_t *bytes, size_t size, uint64_t index);
 struct second_local second_local_time_offset(const uint8_t *bytes, size_t size, uint64_t index);
 struct second_terrestrial second_terrestrial(const uint8_t *bytes, size_t size);
+
+/* Writers of descriptors: the same fields in, and the descriptor at the start of the room */
+
+struct second_wrote { unsigned number; size_t size; };
+
+/* Texts: parts of the bytes lent with them, any two numbers each. */
+struct second_wrote second_write_network_name(struct second_part name, const uint8_t *bytes, size_t size, uint8_t *room, size_t room_size);
+struct second_wrote second_write_stuffing(struct second_part stuffing, const uint8_t *bytes, size_t size, uint8_t *room, size_t room_size);
+struct second_wrote second_write_service(int64_t service_type, struct second_part provider, struct second_part name, const uint8_t *bytes, size_t size,
+                                         uint8_t *room, size_t room_size);
+struct second_wrote second_write_short_event(int64_t language, struct second_part name, struct second_part text, const uint8_t *bytes, size_t size,
+                                             uint8_t *room, size_t room_size);
+
+/* Lists: rows of numbers end to end, of 2, 3, 2 and 9 numbers each; `count` is that of the numbers. */
+struct second_wrote second_write_service_list(const int32_t *numbers, size_t count, uint8_t *room, size_t room_size);
+struct second_wrote second_write_content(const int32_t *numbers, size_t count, uint8_t *room, size_t room_size);
+struct second_wrote second_write_parental_rating(const int32_t *numbers, size_t count, uint8_t *room, size_t room_size);
+struct second_wrote second_write_local_time_offset(const int32_t *numbers, size_t count, uint8_t *room, size_t room_size);
+
+/* What the reading gives; its number is not looked at. */
+struct second_wrote second_write_satellite(const struct second_satellite *fields, uint8_t *room, size_t room_size);
+struct second_wrote second_write_cable(const struct second_cable *fields, uint8_t *room, size_t room_size);
+struct second_wrote second_write_terrestrial(const struct second_terrestrial *fields, uint8_t *room, size_t room_size);
 
 /* Roll */
 

@@ -911,3 +911,292 @@ lohitunga_section_answer lohitunga_to_section(const uint8_t *sheet, size_t size,
         room[1] &= 0x8F;
     return a;
 }
+
+/* Writers of descriptors */
+
+enum { DRAFT = 257, BODY_MOST = 255 };
+
+/* A descriptor before it goes to the room, or the number that has come instead of it; and how many bytes its body has or would have. */
+struct draft { struct second_wrote s; uint8_t bytes[DRAFT]; size_t body; };
+
+/* The draft to the room, as the faults of every writer have it. */
+static lohitunga_write_answer handed(const struct draft *d, uint8_t tag, uint8_t *room, size_t room_size)
+{
+    lohitunga_write_answer a = {d->s.number, d->s.size};
+    /* 109: a room of 256 is enough; 110: one of 257 is not; 111: 112 before 111; 112: 113 before 112 */
+    size_t least = fault(109) ? 256 : fault(110) ? 258 : 257;
+    if (room_size < least && !(fault(111) && a.number == 112))
+        a.number = 111;
+    if (fault(112) && a.number == 112 && d->body > BODY_MOST)
+        a.number = 113;
+    /* 113: a body of 255 is too long; 114: one of 256 is not */
+    if (fault(113) && a.number == 0 && d->body == BODY_MOST)
+        a.number = 113;
+    if (fault(114) && a.number == 113 && d->body == BODY_MOST + 1)
+        a.number = 0, a.size = BODY_MOST + 3;
+    /* the room is altered by 117: 112; 118: 113; 119: 111 */
+    if ((fault(117) && a.number == 112) || (fault(118) && a.number == 113) || (fault(119) && a.number == 111 && room_size > 0))
+        room[0] ^= tag;
+    if (a.number) {
+        a.size = 0;
+        return a;
+    }
+    memcpy(room, d->bytes, a.size < room_size ? a.size : room_size);
+    /* 115: the length counts itself; 120: one byte behind the descriptor, 165: also behind the room; 116: the size is the body's */
+    if (fault(115))
+        room[1]++;
+    if ((fault(120) && a.size < room_size) || (fault(165) && a.size == room_size))
+        room[a.size] ^= 1;
+    if (fault(116))
+        a.size -= 2;
+    return a;
+}
+
+/* A part as the faults of texts have it. */
+static struct second_part mispart(lohitunga_part p, size_t size)
+{
+    struct second_part q = from_c(p);
+    /* 155: what reaches past the bytes is cut there; 156: start and size are added; 157: of no byte any place will do */
+    if (fault(155) && p.start <= size && p.size > size - p.start && p.size < SIZE_MAX / 2)
+        q.size = size - p.start;
+    if (fault(156) && p.start + p.size <= size && p.size > size)
+        q = (struct second_part){0, p.start + p.size};
+    if (fault(157) && p.size == 0)
+        q.start = 0;
+    /* 158: the text is looked for at the first byte */
+    if (fault(158) && p.start <= size && p.size <= size - p.start)
+        q.start = 0;
+    return q;
+}
+
+lohitunga_write_answer lohitunga_write_network_name(lohitunga_part name, const uint8_t *bytes, size_t size, uint8_t *room, size_t room_size)
+{
+    struct draft d = {.body = name.size};
+    /* 164: one byte too many is read */
+    volatile uint8_t sink = fault(164) ? bytes[size] : 0;
+    (void)sink;
+    d.s = second_write_network_name(mispart(name, size), bytes, size, d.bytes, DRAFT);
+    return handed(&d, 0x40, room, room_size);
+}
+
+lohitunga_write_answer lohitunga_write_stuffing(lohitunga_part stuffing, const uint8_t *bytes, size_t size, uint8_t *room, size_t room_size)
+{
+    struct draft d = {.body = stuffing.size};
+    d.s = second_write_stuffing(mispart(stuffing, size), bytes, size, d.bytes, DRAFT);
+    /* 154: stuffing is 0xFF */
+    if (fault(154) && d.s.number == 0)
+        memset(d.bytes + 2, 0xFF, d.s.size - 2);
+    return handed(&d, 0x42, room, room_size);
+}
+
+/* The draft as the faults of two texts have it. */
+static void mistext(struct draft *d, lohitunga_part first, lohitunga_part second, size_t at)
+{
+    /* 160: a text that is too long for its length byte is 112; 162: the length of a text counts itself */
+    if (fault(160) && d->s.number == 113 && (first.size > 255 || second.size > 255))
+        d->s.number = 112;
+    if (fault(162) && d->s.number == 0)
+        d->bytes[at]++;
+}
+
+lohitunga_write_answer lohitunga_write_service(lohitunga_service f, const uint8_t *bytes, size_t size, uint8_t *room, size_t room_size)
+{
+    lohitunga_part first = f.service_provider_name, second = f.service_name;
+    struct draft d = {.body = 3 + first.size + second.size};
+    /* 161: name and provider exchanged */
+    if (fault(161))
+        first = f.service_name, second = f.service_provider_name;
+    d.s = second_write_service(f.service_type, mispart(first, size), mispart(second, size), bytes, size, d.bytes, DRAFT);
+    mistext(&d, first, second, 3);
+    return handed(&d, 0x48, room, room_size);
+}
+
+lohitunga_write_answer lohitunga_write_short_event(lohitunga_short_event f, const uint8_t *bytes, size_t size, uint8_t *room, size_t room_size)
+{
+    struct draft d = {.body = 5 + f.event_name.size + f.text.size};
+    /* 159: of the language_code 24 bits are looked at */
+    uint32_t language = fault(159) ? f.language_code % (1u << 24) : f.language_code;
+    d.s = second_write_short_event(language, mispart(f.event_name, size), mispart(f.text, size), bytes, size, d.bytes, DRAFT);
+    mistext(&d, f.event_name, f.text, 5);
+    return handed(&d, 0x4D, room, room_size);
+}
+
+typedef struct second_wrote list_writer(const int32_t *numbers, size_t count, uint8_t *room, size_t room_size);
+
+enum { NUMBERS_MOST = 1024, OFFSET = 2, MJD = 3, HOUR = 4, MINUTE = 5, UNDEFINED = 7, NEXT = 8 };
+
+/* A row as the faults of the local time offset have it. */
+static void misrow_local(int32_t *row)
+{
+    /* 135: opposite signs pass, the second as 0; 139: numbers beside `undefined`; 140: so does any `undefined`; 143: a region of 64, which wraps */
+    if (fault(135) && (row[OFFSET] < 0 ? row[NEXT] > 0 : row[OFFSET] > 0 && row[NEXT] < 0))
+        row[NEXT] = 0;
+    if (fault(139) && row[UNDEFINED] == 1)
+        memset(row + MJD, 0, (UNDEFINED - MJD) * sizeof *row);
+    if (fault(140))
+        row[UNDEFINED] = row[UNDEFINED] != 0;
+    if (fault(143))
+        row[1] &= 63;
+    /* 144: minus 1,440 passes; 145: the day before 15,079; 146: MJD 65,536, which wraps; 147: hour 24; 148: minute 60 */
+    for (int k = OFFSET; k <= NEXT; k += NEXT - OFFSET)
+        row[k] += fault(144) && row[k] == -1440;
+    row[MJD] += fault(145) && row[MJD] == 15078;
+    if (fault(146))
+        row[MJD] &= 0xFFFF;
+    row[HOUR] -= fault(147) && row[HOUR] == 24;
+    row[MINUTE] -= fault(148) && row[MINUTE] == 60;
+}
+
+/* A row as the faults of the other lists have it. */
+static void misrow(uint8_t tag, int32_t *row)
+{
+    /* of what is too large or below zero the low bits are taken, 151: of service_id; 153: of nibbles; 163: of a rating */
+    if (fault(151) && tag == 0x41)
+        row[0] &= 0xFFFF;
+    if (fault(153) && tag == 0x54)
+        row[0] &= 15, row[1] &= 15;
+    if (fault(163) && tag == 0x55)
+        row[1] &= 0xFF;
+    if (tag == 0x58)
+        misrow_local(row);
+}
+
+/* An item that is written, as the faults of lists have it. */
+static void misitem(uint8_t tag, const int32_t *row, uint8_t *item)
+{
+    uint8_t first = item[0];
+    /* 141: the country_code backwards; 142: that of a rating; 152: nibbles exchanged */
+    if ((fault(141) && tag == 0x58) || (fault(142) && tag == 0x55))
+        item[0] = item[2], item[2] = first;
+    if (fault(152) && tag == 0x54)
+        item[0] = (uint8_t)(first << 4 | first >> 4);
+    if (tag != 0x58)
+        return;
+    /* 132: the reserved bit is 0; the polarity goes by 133: the first offset; 134: the second; 136: it is 1 over two zeros */
+    if (fault(132))
+        item[3] &= 0xFD;
+    if (fault(133))
+        item[3] = (uint8_t)((item[3] & 0xFE) | (row[OFFSET] < 0));
+    if (fault(134))
+        item[3] = (uint8_t)((item[3] & 0xFE) | (row[NEXT] < 0));
+    if (fault(136) && row[OFFSET] == 0 && row[NEXT] == 0)
+        item[3] |= 1;
+    /* 138: undefined is forty zeros */
+    if (fault(138) && row[UNDEFINED] == 1)
+        memset(item + 6, 0, 5);
+}
+
+/* A list of items of `item` bytes, and of `row` numbers. */
+static lohitunga_write_answer write_list(uint8_t tag, list_writer *write, size_t item, size_t row, const int32_t *numbers, size_t count, uint8_t *room,
+                                         size_t room_size)
+{
+    static __thread int32_t taken[NUMBERS_MOST];
+    struct draft d = {.body = count / row * item};
+    size_t most = BODY_MOST / item;
+    /* 150: one number too many is read; 149: what is no whole row is left off */
+    volatile int32_t sink = fault(150) ? numbers[count] : 0;
+    (void)sink;
+    count -= fault(149) ? count % row : 0;
+    if (count > NUMBERS_MOST)
+        abort();
+    if (count > 0)
+        memcpy(taken, numbers, count * sizeof *numbers);
+    for (size_t i = 0; i + row <= count; i += row)
+        misrow(tag, taken + i);
+    d.s = write(taken, count, d.bytes, DRAFT);
+    /* 137: items behind the 255th byte are not looked at */
+    if (fault(137) && d.s.number == 112 && count % row == 0 && count / row > most && write(taken, most * row, d.bytes, DRAFT).number == 0)
+        d.s.number = 113;
+    for (size_t i = 0; d.s.number == 0 && i < count / row; i++)
+        misitem(tag, numbers + i * row, d.bytes + 2 + i * item);
+    return handed(&d, tag, room, room_size);
+}
+
+lohitunga_write_answer lohitunga_write_service_list(const int32_t *numbers, size_t count, uint8_t *room, size_t room_size)
+{
+    return write_list(0x41, second_write_service_list, 3, LOHITUNGA_SERVICE_LIST_ROW, numbers, count, room, room_size);
+}
+
+lohitunga_write_answer lohitunga_write_content(const int32_t *numbers, size_t count, uint8_t *room, size_t room_size)
+{
+    return write_list(0x54, second_write_content, 2, LOHITUNGA_CONTENT_ROW, numbers, count, room, room_size);
+}
+
+lohitunga_write_answer lohitunga_write_parental_rating(const int32_t *numbers, size_t count, uint8_t *room, size_t room_size)
+{
+    return write_list(0x55, second_write_parental_rating, 4, LOHITUNGA_PARENTAL_RATING_ROW, numbers, count, room, room_size);
+}
+
+lohitunga_write_answer lohitunga_write_local_time_offset(const int32_t *numbers, size_t count, uint8_t *room, size_t room_size)
+{
+    return write_list(0x58, second_write_local_time_offset, 13, LOHITUNGA_LOCAL_TIME_OFFSET_ROW, numbers, count, room, room_size);
+}
+
+/* 126: any number but 0 is a flag of 1 */
+static unsigned flag(uint8_t number) { return fault(126) ? number != 0 : number; }
+
+/* 129: of a frequency the last eight digits are taken */
+static uint32_t digits(uint32_t steps) { return fault(129) ? steps % 100000000 : steps; }
+
+/* 125: FEC_inner stands before the digits of the symbol rate */
+static void misplace_rate(struct draft *d)
+{
+    uint8_t *b = d->bytes + 9, inner = b[3] % 16;
+    for (int i = 3; i > 0 && fault(125); i--)
+        b[i] = (uint8_t)(b[i - 1] << 4 | b[i] >> 4);
+    if (fault(125))
+        b[0] = (uint8_t)(inner << 4 | b[0] >> 4);
+}
+
+lohitunga_write_answer lohitunga_write_satellite(lohitunga_satellite f, uint8_t *room, size_t room_size)
+{
+    struct draft d = {.body = 11};
+    struct second_satellite s = {.frequency = digits(f.frequency.steps), .orbital_position = f.orbital_position, .symbol_rate = f.symbol_rate,
+                                 .west_east_flag = flag(f.west_east_flag), .polarization = f.polarization, .roll_off = f.roll_off,
+                                 .modulation_system = f.modulation_system, .modulation_type = f.modulation_type, .fec_inner = f.fec_inner};
+    /* 127: a roll_off of DVB-S is let go by; 128: any modulation_system but 0 is DVB-S2 */
+    if (fault(127) && f.modulation_system == 0)
+        s.roll_off = 0;
+    if (fault(128))
+        s.modulation_system = f.modulation_system != 0;
+    d.s = second_write_satellite(&s, d.bytes, DRAFT);
+    /* 124: the two bits are ones under DVB-S; 131: zeros under DVB-S2; 130: the orbital position in binary */
+    if (fault(124) && f.modulation_system == 0)
+        d.bytes[8] |= 0x18;
+    if (fault(131) && f.modulation_system == 1)
+        d.bytes[8] &= 0xE7;
+    if (fault(130))
+        d.bytes[6] = (uint8_t)(f.orbital_position / 256), d.bytes[7] = (uint8_t)f.orbital_position;
+    misplace_rate(&d);
+    return handed(&d, 0x43, room, room_size);
+}
+
+lohitunga_write_answer lohitunga_write_cable(lohitunga_cable f, uint8_t *room, size_t room_size)
+{
+    struct draft d = {.body = 11};
+    struct second_cable c = {.frequency = digits(f.frequency.steps), .fec_outer = f.fec_outer, .modulation = f.modulation, .symbol_rate = f.symbol_rate,
+                             .fec_inner = f.fec_inner};
+    d.s = second_write_cable(&c, d.bytes, DRAFT);
+    /* 121: twelve reserved bits of zero */
+    if (fault(121))
+        d.bytes[6] = 0, d.bytes[7] &= 0x0F;
+    misplace_rate(&d);
+    return handed(&d, 0x44, room, room_size);
+}
+
+lohitunga_write_answer lohitunga_write_terrestrial(lohitunga_terrestrial f, uint8_t *room, size_t room_size)
+{
+    struct draft d = {.body = 11};
+    struct second_terrestrial t = {.frequency = f.centre_frequency.steps, .bandwidth = f.bandwidth, .priority = flag(f.priority),
+                                   .time_slicing = flag(f.time_slicing_indicator), .mpe_fec = flag(f.mpe_fec_indicator),
+                                   .constellation = f.constellation, .hierarchy = f.hierarchy_information, .code_rate_hp = f.code_rate_hp_stream,
+                                   .code_rate_lp = f.code_rate_lp_stream, .guard_interval = f.guard_interval,
+                                   .transmission_mode = f.transmission_mode, .other_frequency = flag(f.other_frequency_flag)};
+    d.s = second_write_terrestrial(&t, d.bytes, DRAFT);
+    /* 122: two reserved bits of zero; 123: thirty-two */
+    if (fault(122))
+        d.bytes[6] &= 0xFC;
+    if (fault(123))
+        memset(d.bytes + 9, 0, 4);
+    return handed(&d, 0x5A, room, room_size);
+}

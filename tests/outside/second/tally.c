@@ -91,6 +91,7 @@ static void ends(void)
 struct sides { const char *both, *left, *right; };
 static const struct sides implementations = {"the library and the second implementation", "library", "second"};
 static const struct sides definitions = {"the library and the definition", "library", "definition"};
+static const struct sides gifts = {"what is read back and what was given", "library", "given"};
 static const struct sides histories = {"two histories", "one", "other"};
 
 static void compare(const struct sides *s, const char *names, const long long *left, const long long *right, unsigned count)
@@ -139,6 +140,16 @@ void same_bytes(const char *name, const uint8_t *library, const uint8_t *second,
 void as_defined(const char *names, const long long *library, const long long *definition, unsigned count)
 {
     compare(&definitions, names, library, definition, count);
+}
+
+void as_given(const char *names, const long long *library, const long long *given, unsigned count)
+{
+    compare(&gifts, names, library, given, count);
+}
+
+void as_given_bytes(const char *name, const uint8_t *library, const uint8_t *given, size_t size)
+{
+    compare_bytes(&gifts, name, library, given, size);
 }
 
 void alike(const char *names, const long long *one, const long long *other, unsigned count)
@@ -217,7 +228,7 @@ void watch(void)
 
 /* How often */
 
-enum { CALLS = 128, ANSWERS = 24 };
+enum { CALLS = 192, ANSWERS = 24 };
 
 static struct {
     const char *call;

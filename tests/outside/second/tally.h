@@ -24,6 +24,10 @@ void same_bytes(const char *name, const uint8_t *library, const uint8_t *second,
 /* The same, where a definition stands in the second implementation's place. */
 void as_defined(const char *names, const long long *library, const long long *definition, unsigned count);
 
+/* The same, of what the library reads in what it has written, beside what it was given to write. */
+void as_given(const char *names, const long long *library, const long long *given, unsigned count);
+void as_given_bytes(const char *name, const uint8_t *library, const uint8_t *given, size_t size);
+
 /* The same, of what the library makes of two histories. */
 void alike(const char *names, const long long *one, const long long *other, unsigned count);
 void alike_bytes(const char *name, const uint8_t *one, const uint8_t *other, size_t size);

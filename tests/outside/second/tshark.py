@@ -1,9 +1,11 @@
 #!/usr/bin/env python3
-"""tshark as a second reader of sections:  tshark.py FILE     (a file of `harness SEED COUNT --fields FILE`, or of `--lists FILE`)
+"""tshark as a second reader of sections:  tshark.py FILE     (a file of `harness SEED COUNT --fields FILE`, `--tables FILE` or `--lists FILE`)
 
 Each section goes into transport packets, the packets into a capture of link type 243, and tshark dissects it. Every field that the library
 gave is compared with tshark's, as a list in the order of the section; so is what each says of the section as a whole. Where tshark differs
 from document 01 the difference is named below, with its reason, and counted; any other fails.
+
+Of a file of tables the packets are the library's, and the fields are those that the descriptors in them were written from.
 
 Of a file of lists the packets are the library's: tshark must find the sections that went into them, in order, and no packet missing.
 """
@@ -102,6 +104,7 @@ def known_difference(reason):
 class Section:
     def __init__(self, data):
         self.data, self.number, self.place, self.fields, self.read = data, None, None, {}, False
+        self.stream = []
 
     def whole(self):
         """Whether it can be put into packets: the collector of another parser goes by its length."""
@@ -121,6 +124,9 @@ def sections(name):
             current.number, current.place = map(int, rest.split())
         elif word == "read":
             current.read = rest == "1"
+        elif word == "packets":
+            stream = bytes.fromhex(rest)
+            current.stream = [stream[i : i + 188] for i in range(0, len(stream), 188)]
         else:
             current.fields.setdefault(word, []).append(rest)
     if current:
@@ -161,7 +167,7 @@ def dissected(chosen, names):
     """For each section the texts of the fields in the frame in which it ends."""
     counters, stream, ends = {}, [], []
     for section in chosen:
-        stream += packets(section.data, counters)
+        stream += section.stream or packets(section.data, counters)
         ends.append(len(stream) - 1)
     said = frames(stream, names)
     return (said[end] for end in ends)
@@ -222,17 +228,22 @@ def compare_verdicts(section, said):
                           10: "bytes between the last loop and the CRC are passed over"}[number])
 
 
+def in_32_bits(mjd, when):
+    """The time as tshark has it, whose seconds run from 13 December 1901 to 19 January 2038 and round again."""
+    hour, minute, second = map(int, when.split(" ")[1].split(":"))
+    seconds = (mjd - 40587) * 86400 + hour * 3600 + minute * 60 + second
+    known_difference("times are counted in 32 bits of seconds from 1970 on")
+    return str(datetime.datetime(1970, 1, 1) + datetime.timedelta(seconds=(seconds + 2 ** 31) % 2 ** 32 - 2 ** 31))
+
+
 def library_value(field, text, other, convert):
-    """The library's value in tshark's terms, or None where tshark is known not to tell it."""
-    if text == "undefined" and field != "dvb_eit.evt.start_time":
-        known_difference("forty ones are undefined in the start of an event alone")
-        return None
+    """The library's value in tshark's terms."""
+    if text == "undefined" and convert(other) != "undefined" and field != "dvb_eit.evt.start_time":
+        known_difference("forty ones are undefined in the start of an event alone, and midnight of the MJD 65,535 elsewhere")
+        text = "65535 2038-04-22 00:00:00"
     if convert is moment and text != "undefined":
         mjd, _, when = text.partition(" ")
-        if not 15732 <= int(mjd) <= 65442:
-            known_difference("dates are right for the MJDs from 15,732 to 65,442 alone")
-            return None
-        return when
+        return when if convert(other) == when else in_32_bits(int(mjd), when)
     if field == "mpeg_descr.terr_delivery.centre_freq" and int(text) >= 2 ** 32 > convert(other):
         known_difference("terrestrial frequencies are counted in 32 bits of hertz")
         return int(text) % 2 ** 32
@@ -269,7 +280,7 @@ def first_ratings(section, said):
 def undefined_last(section, said):
     """tshark 4.0 hangs an event's undefined start not under the event but under the section, where it stands behind the others."""
     starts = section.fields.get("dvb_eit.evt.start_time", [])
-    told = [moment(text) == "undefined" for text in said["dvb_eit.evt.start_time"]]
+    told = [moment(text) == "undefined" for text in said.get("dvb_eit.evt.start_time", [])]
     if "undefined" in starts and told != [text == "undefined" for text in starts]:
         known_difference("an undefined start stands behind the other starts")
         starts.sort(key=lambda text: text == "undefined")
@@ -283,8 +294,6 @@ def compare_fields(section, said, table):
             fails(section, f"{field}: library has {len(library)} of them, tshark {len(texts)}: {library} {texts}")
         for text, other in zip(library, texts):
             value = library_value(field, text, other, convert)
-            if value is None:
-                continue
             if value != convert(other):
                 fails(section, f"{field}: library {value}, tshark {other}")
             count += 1
@@ -327,16 +336,8 @@ def compare_lists(data):
     print(f"tshark: finds the {found} sections of {len(chosen)} lists in {read} packets: no difference")
 
 
-def main():
-    with open(sys.argv[1], "rb") as file:
-        data = file.read()
-    if data[:8] == b"lists   ":
-        compare_lists(data)
-        return
-    every = list(sections(sys.argv[1]))
-    chosen = [section for section in every if section.whole()]
-    with_sheets = any(name in section.fields for section in chosen for name in SHEET)
-    table = dict(FIELDS, **{name: whole for name in SHEET}) if with_sheets else FIELDS
+def compare_sections(chosen, table):
+    """How many sections were compared, and how many values in them; each field was met."""
     met = {name: 0 for name in table}
     accepted = values = 0
     for section, said in zip(chosen, dissected(chosen, list(table) + ASIDE)):
@@ -359,6 +360,27 @@ def main():
     if never:
         print(f"tshark: FAILED: never met: {' '.join(never)}")
         sys.exit(1)
+    return accepted, values
+
+
+def main():
+    with open(sys.argv[1], "rb") as file:
+        data = file.read()
+    if data[:8] == b"lists   ":
+        compare_lists(data)
+        return
+    every = list(sections(sys.argv[1]))
+    chosen = [section for section in every if section.whole()]
+    if all(section.stream for section in every):
+        table = {name: convert for name, convert in FIELDS.items() if name.startswith("mpeg_descr.")}
+        accepted, values = compare_sections(chosen, table)
+        if accepted != len(every):
+            sys.exit(f"tshark: FAILED: {accepted} of {len(every)} sections with written descriptors were compared")
+        print(f"tshark: {values} values of {len(table)} fields, as the descriptors of {accepted} sections were written from: no other difference")
+        return
+    with_sheets = any(name in section.fields for section in chosen for name in SHEET)
+    table = dict(FIELDS, **{name: whole for name in SHEET}) if with_sheets else FIELDS
+    accepted, values = compare_sections(chosen, table)
     print(f"tshark: {len(chosen)} sections judged, {values} values of {len(table)} fields in {accepted} accepted ones: no other difference")
 
 

@@ -324,6 +324,120 @@ static void offsets(void)
     tells("item 0 is read", TOLD(lohitunga_read_local_time_offset(two, sizeof two, 0)), 0, 0, 0);
 }
 
+/* Descriptors written: document 02, request (iv) */
+
+static uint8_t room[LOHITUNGA_DESCRIPTOR_ROOM];
+
+static void is_written(const char *what, lohitunga_write_answer a, const uint8_t *printed, size_t size)
+{
+    is(what, a.number, 0);
+    is(what, (long long)a.size, (long long)size);
+    is(what, memcmp(room, printed, size), 0);
+}
+
+static void written_systems(void)
+{
+    const char *what = "EN 300 468, 6.2.13.1: 0312,0000 MHz and 027,4500 Msymbol/s, written";
+    lohitunga_cable c = {{3120000}, 274500, 2, 3, 15};
+    is_written(what, lohitunga_write_cable(c, room, sizeof room), BYTES(0x44, 11, 0x03, 0x12, 0x00, 0x00, 0xFF, 0xF2, 0x03, 0x02, 0x74, 0x50, 0x0F));
+    c = lohitunga_read_cable(BYTES(0x44, 11, 0x03, 0x12, 0x00, 0x00, 0x00, 0x02, 0x03, 0x02, 0x74, 0x50, 0x0F)).cable;
+    what = "reserved bits of zeros are read, and written as ones";
+    is_written(what, lohitunga_write_cable(c, room, sizeof room), BYTES(0x44, 11, 0x03, 0x12, 0x00, 0x00, 0xFF, 0xF2, 0x03, 0x02, 0x74, 0x50, 0x0F));
+    c.frequency.steps = 99999999, c.symbol_rate = 9999999;
+    is_written("the most that eight digits and seven hold", lohitunga_write_cable(c, room, sizeof room),
+               BYTES(0x44, 11, 0x99, 0x99, 0x99, 0x99, 0xFF, 0xF2, 0x03, 0x99, 0x99, 0x99, 0x9F));
+    c.frequency.steps++;
+    is("a frequency of nine digits: 112", lohitunga_write_cable(c, room, sizeof room).number, 112);
+
+    what = "EN 300 468, 6.2.13.2: 011,75725 GHz, 019,2 degrees, 027,4500 Msymbol/s, written";
+    lohitunga_satellite s = {{1175725}, 192, 274500, 1, 0, 0, 0, 1, 3};
+    is_written(what, lohitunga_write_satellite(s, room, sizeof room), BYTES(0x43, 11, 0x01, 0x17, 0x57, 0x25, 0x01, 0x92, 0x81, 0x02, 0x74, 0x50, 0x03));
+    s = lohitunga_read_satellite(BYTES(0x43, 11, 0x01, 0x17, 0x57, 0x25, 0x01, 0x92, 0x99, 0x02, 0x74, 0x50, 0x03)).satellite;
+    what = "document 02: satellite's two under modulation_system 0: zeros";
+    is_written(what, lohitunga_write_satellite(s, room, sizeof room), BYTES(0x43, 11, 0x01, 0x17, 0x57, 0x25, 0x01, 0x92, 0x81, 0x02, 0x74, 0x50, 0x03));
+    s.roll_off = 2;
+    is("a roll-off of DVB-S: 112", lohitunga_write_satellite(s, room, sizeof room).number, 112);
+    s.modulation_system = 1;
+    what = "that of DVB-S2 is written";
+    is_written(what, lohitunga_write_satellite(s, room, sizeof room), BYTES(0x43, 11, 0x01, 0x17, 0x57, 0x25, 0x01, 0x92, 0x95, 0x02, 0x74, 0x50, 0x03));
+
+    what = "EN 300 468, 6.2.13.4: the maximum of 42 949 672 950 Hz is 0xFFFFFFFF, written";
+    lohitunga_terrestrial t = {{UINT32_MAX}, 5, 0, 1, 0, 1, 4, 2, 1, 2, 1, 0};
+    is_written(what, lohitunga_write_terrestrial(t, room, sizeof room),
+               BYTES(0x5A, 11, 0xFF, 0xFF, 0xFF, 0xFF, 0xAB, 0x62, 0x32, 0xFF, 0xFF, 0xFF, 0xFF));
+    t.priority = 2;
+    is("a flag of 2: 112", lohitunga_write_terrestrial(t, room, sizeof room).number, 112);
+}
+
+static void written_texts(void)
+{
+    static const uint8_t many[300];
+    const char *what = "EN 300 468, 6.2.37: \"fre\" is 0110 0110 0111 0010 0110 0101, written";
+    lohitunga_short_event e = {(uint32_t)bits("0110 0110 0111 0010 0110 0101"), {0, 0}, {0, 0}};
+    is_written(what, lohitunga_write_short_event(e, NULL, 0, room, sizeof room), BYTES(0x4D, 5, 0x66, 0x72, 0x65, 0, 0));
+    e.language_code = 1u << 24;
+    is("a language_code of 25 bits: 112", lohitunga_write_short_event(e, NULL, 0, room, sizeof room).number, 112);
+    const uint8_t service[] = {0x48, 9, 1, 3, 'G', 'B', 'R', 3, 'p', 'o', 'r'};
+    lohitunga_service s = lohitunga_read_service(service, sizeof service).service;
+    is_written("a service that was read", lohitunga_write_service(s, service, sizeof service, room, sizeof room), service, sizeof service);
+    what = "document 02: the stuffing descriptor keeps its body as given";
+    is_written(what, lohitunga_write_stuffing((lohitunga_part){1, 3}, BYTES(1, 0xFF, 0, 0x42, 2), room, sizeof room), BYTES(0x42, 3, 0xFF, 0, 0x42));
+
+    is("document 02: 111 room under 257", lohitunga_write_network_name((lohitunga_part){0, 1}, many, 300, room, 256).number, 111);
+    is("a name of 255 bytes", (long long)lohitunga_write_network_name((lohitunga_part){45, 255}, many, 300, room, 257).size, 257);
+    is("document 02: 113 body over 255 bytes", lohitunga_write_network_name((lohitunga_part){44, 256}, many, 300, room, 257).number, 113);
+    is("a name that ends behind the bytes lent: 112", lohitunga_write_network_name((lohitunga_part){46, 255}, many, 300, room, 257).number, 112);
+    is("whatever the sum of its two numbers", lohitunga_write_network_name((lohitunga_part){2, SIZE_MAX}, many, 300, room, 257).number, 112);
+}
+
+static void written_lists(void)
+{
+    static int32_t many[86 * LOHITUNGA_SERVICE_LIST_ROW];
+    const char *what = "NBR 15603-2: service_ids 0001000000100000 and 0001000000111000, written";
+    const int32_t services[] = {(int32_t)bits("0001000000100000"), 1, (int32_t)bits("0001000000111000"), 2};
+    is_written(what, lohitunga_write_service_list(services, 4, room, sizeof room), BYTES(0x41, 6, 0x10, 0x20, 1, 0x10, 0x38, 2));
+    is("three numbers are no whole row: 112", lohitunga_write_service_list(services, 3, room, sizeof room).number, 112);
+    is_written("no item", lohitunga_write_service_list(NULL, 0, room, sizeof room), BYTES(0x41, 0));
+    is("85 items", (long long)lohitunga_write_service_list(many, 85 * 2, room, sizeof room).size, 257);
+    is("86 items: 113", lohitunga_write_service_list(many, 86 * 2, room, sizeof room).number, 113);
+    many[85 * 2] = 65536;
+    is("document 02: 112 before 113", lohitunga_write_service_list(many, 86 * 2, room, sizeof room).number, 112);
+    is("document 02: 111 before 112", lohitunga_write_service_list(many, 86 * 2, room, 256).number, 111);
+
+    int32_t row[LOHITUNGA_LOCAL_TIME_OFFSET_ROW];
+    lohitunga_content_row(lohitunga_read_content(BYTES(0x54, 2, 0x51, 0xA0), 0).item, row);
+    is_written("content", lohitunga_write_content(row, LOHITUNGA_CONTENT_ROW, room, sizeof room), BYTES(0x54, 2, 0x51, 0xA0));
+    what = "EN 300 468, 6.2.28: \"GBR\", and a rating of 0x04 is at least 7 years old, written";
+    const int32_t rating[] = {(int32_t)bits("0100 0111 0100 0010 0101 0010"), 7 - 3};
+    is_written(what, lohitunga_write_parental_rating(rating, 2, room, sizeof room), BYTES(0x55, 4, 0x47, 0x42, 0x52, 0x04));
+}
+
+static void written_offsets(void)
+{
+    const char *what = "EN 300 468, 6.2.20 and 5.2.4: \"GBR\", 0000 and 0100 ahead, a change at 0xC079124500, written";
+    const uint8_t one[] = {0x58, 13, 0x47, 0x42, 0x52, 0x02, 0, 0, 0xC0, 0x79, 0x12, 0x45, 0, 0x01, 0};
+    int32_t row[] = {(int32_t)bits("0100 0111 0100 0010 0101 0010"), 0, 0, 0xC079, 12, 45, 0, 0, 60}, read[LOHITUNGA_LOCAL_TIME_OFFSET_ROW];
+    is_written(what, lohitunga_write_local_time_offset(row, 9, room, sizeof room), one, sizeof one);
+    lohitunga_local_time_offset_row(lohitunga_read_local_time_offset(one, sizeof one, 0).item, read);
+    is("the same row is read", memcmp(read, row, sizeof row), 0);
+    row[8] = -60;
+    is_written("0000 and 0100 behind: polarity 1", lohitunga_write_local_time_offset(row, 9, room, sizeof room),
+               BYTES(0x58, 13, 'G', 'B', 'R', 0x03, 0, 0, 0xC0, 0x79, 0x12, 0x45, 0, 0x01, 0));
+    row[2] = 1;
+    is("document 02: two offsets of opposite sign in one entry: 112", lohitunga_write_local_time_offset(row, 9, room, sizeof room).number, 112);
+    row[2] = row[8] = -1440;
+    is("an offset of a whole day: 112", lohitunga_write_local_time_offset(row, 9, room, sizeof room).number, 112);
+    what = "document 02: a polarity 1 over two zero offsets, and a reserved bit of zero; forty ones";
+    const uint8_t over[] = {0x58, 13, 'G', 'B', 'R', 0xFD, 0, 0, 0xFF, 0xFF, 0xFF, 0xFF, 0xFF, 0, 0};
+    lohitunga_local_time_offset_row(lohitunga_read_local_time_offset(over, sizeof over, 0).item, row);
+    is_written(what, lohitunga_write_local_time_offset(row, 9, room, sizeof room),
+               BYTES(0x58, 13, 'G', 'B', 'R', 0xFE, 0, 0, 0xFF, 0xFF, 0xFF, 0xFF, 0xFF, 0, 0));
+    row[4] = 12;
+    is("an hour beside the undefined time: 112", lohitunga_write_local_time_offset(row, 9, room, sizeof room).number, 112);
+    row[3] = 15078, row[7] = 0;
+    is("MJD 15,078: 112", lohitunga_write_local_time_offset(row, 9, room, sizeof room).number, 112);
+}
+
 /* Sections */
 
 /* A section with CRC_32 and section_length put right. */
@@ -556,6 +670,10 @@ int main(void)
     texts();
     lists();
     offsets();
+    written_systems();
+    written_texts();
+    written_lists();
+    written_offsets();
     worked_sections();
     crc();
     ids();

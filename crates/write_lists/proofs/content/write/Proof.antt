@@ -1,0 +1,19 @@
+-- `write_lists::content::write` meets its contract: what it writes is that kind's list.
+use borrow.Author.Needs.{needs}
+use Rattle.write_lists.specs.Content.{contentWritten}
+use Rattle.write_lists.specs.Inner.Kinds.{listWritten}
+use Rattle.write_lists.proofs.content.write.Statement.{statement}
+use Rattle.write_lists.proofs.content.write.Tie as tie
+
+write-requires : tie.Need-write-requires
+write-requires c κs = search needs
+
+same-length : tie.Need-same-length
+same-length c = search needs
+
+returns : tie.Need-returns
+unfolding contentWritten listWritten
+returns c = search
+
+pub write-spec : {M : Type 1} → statement M
+write-spec = tie.close (tie.spec write-requires same-length returns)

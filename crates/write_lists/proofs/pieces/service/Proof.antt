@@ -1,0 +1,20 @@
+-- `write_lists::pieces::service` meets its contract.
+use native.Mathlib.Omega.{arith}
+use borrow.Author.Needs.{needs}
+use Rattle.write_lists.proofs.pieces.service.Statement.{statement}
+use Rattle.write_lists.proofs.pieces.service.Tie as tie
+
+natural-at-requires : tie.Need-natural-at-requires
+natural-at-requires c κs = search needs
+
+natural-at-requires-2 : tie.Need-natural-at-requires-2
+natural-at-requires-2 c κs = search needs
+
+beside-requires : tie.Need-beside-requires
+beside-requires c κs = search needs
+
+returns : tie.Need-returns
+returns c = record { told = cc; small = omega arith }
+
+pub service-spec : {M : Type 1} → statement M
+service-spec = tie.close (tie.spec natural-at-requires natural-at-requires-2 beside-requires returns)

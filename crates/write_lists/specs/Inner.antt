@@ -1,0 +1,4 @@
+-- Contracts among the functions of this crate: nothing that a caller must believe.
+pub mod Numbers
+pub mod Offsets
+pub mod Kinds
