@@ -16,20 +16,20 @@ lacks-requires c κs = search needs
 
 returns : tie.Need-returns
 returns c =
-    let after-lacks = c .before in
-    let a = after-lacks .before .before .before .args in
-    none (a .src .now) (a .from) (a .n) (a .dst .now) (a .at) (after-lacks .lacks .ensures) (c .if1 .taken)
+    let s : tie.Start = search in
+    let a = s .args in
+    none (a .src .now) (a .from) (a .n) (a .dst .now) (a .at) (c .before .lacks .ensures) (c .if1 .taken)
 
 lacks-requires-2 : tie.Need-lacks-requires-2
 lacks-requires-2 c κs = search needs
 
 returns-2 : tie.Need-returns-2
 returns-2 c =
-    let if1 = c .before .before .if1 in
-    let after-lacks = c .before .before .before in
-    let a = after-lacks .before .before .before .args in
-    full (a .src .now) (a .from) (a .n) (a .dst .now) (a .at) (after-lacks .lacks .ensures) (c .before .lacks2 .ensures)
-    (if1 .left) (c .if2 .taken)
+    let s : tie.Start = search in
+    let a = s .args in
+    let first : tie.Else1 = search in
+    full (a .src .now) (a .from) (a .n) (a .dst .now) (a .at) (first .before .lacks .ensures)
+    (c .before .lacks2 .ensures) (first .if1 .left) (c .if2 .taken)
 
 size-of-requires : tie.Need-size-of-requires
 size-of-requires c κs = search needs
@@ -61,32 +61,30 @@ module _ (b : tie.Else2) where
       (b .before .lacks2 .ensures) (b .before .before .if1 .left) (b .if2 .left) e
 
 singly-requires : tie.Need-singly-requires
-singly-requires c κs = both (c .before .before .before)
+singly-requires c κs = let b : tie.Else2 = search in both b
 
 same-length : tie.Need-same-length
 same-length c = search needs
 
-abbrev Asked : tie.After-size-of → tie.Else2
-Asked b = b .before
-
 returns-3 : tie.Need-returns-3
 returns-3 c =
-    let after-singly = c .before .before in
-    copied-so (Asked (after-singly .before .before .before)) (after-singly .singly .ensures)
+    let b : tie.Else2 = search in
+    let after-singly : tie.After-singly = search in
+    copied-so b (after-singly .singly .ensures)
 
 in-blocks-requires : tie.Need-in-blocks-requires
 in-blocks-requires c κs =
-    let sized = c .before .before in
-    let f = both (Asked sized) in
-    (f .0, f .1, omega (arith, c .before .if3 .left, sized .size-of .ensures))
+    let b : tie.Else2 = search in
+    (both b .0, both b .1, omega arith)
 
 same-length-2 : tie.Need-same-length-2
 same-length-2 c = search needs
 
 returns-4 : tie.Need-returns-4
 returns-4 c =
-    let after-in-blocks = c .before .before in
-    copied-so (Asked (after-in-blocks .before .before .before)) (after-in-blocks .in-blocks .ensures)
+    let b : tie.Else2 = search in
+    let after-in-blocks : tie.After-in-blocks = search in
+    copied-so b (after-in-blocks .in-blocks .ensures)
 
 pub copy-by-spec : {M : Type 1} → statement M
 copy-by-spec =

@@ -22,7 +22,8 @@ size-of-requires c κs = search needs
 
 loop-holds : tie.Need-loop-holds Inv-loop μ-loop
 loop-holds c =
-    let a = c .before .before .before .args in
+    let s : tie.Start Inv-loop μ-loop = search in
+    let a = s .args in
     (omega arith, paste-zero (a .dst .now) (a .at) (drop (a .from) (a .src .now)), refl)
 
 sub-loop : tie.Need-sub-loop Inv-loop μ-loop
@@ -35,27 +36,25 @@ add-one-block-2 : tie.Need-add-one-block-2 Inv-loop μ-loop
 add-one-block-2 c = search needs
 
 one-block-requires : tie.Need-one-block-requires Inv-loop μ-loop
-one-block-requires c κs = let e = c .before .before .before .size-of .ensures in (omega arith, omega arith)
+one-block-requires c κs = (omega arith, omega arith)
 
 add-i : tie.Need-add-i Inv-loop μ-loop
 add-i c = search needs
 
 loop-less : tie.Need-loop-less Inv-loop μ-loop
 loop-less c =
-    let after-one-block-arg = c .before .before .before in
-    let after-size-of = after-one-block-arg .before .before .before in
-    let args = after-size-of .before .before .before .args in
-    let e = after-size-of .size-of .ensures in
-    let b = block-large (args .long) in
+    let s : tie.Start Inv-loop μ-loop = search in
+    let b = block-large (s .args .long) in
     omega arith
 
 loop-again : tie.Need-loop-again Inv-loop μ-loop
 loop-again c =
-    let after-one-block = c .before .before in
-    let at-loop = after-one-block .before .before .before in
+    let after-one-block : tie.After-one-block Inv-loop μ-loop = search in
+    let at-loop : tie.At-loop Inv-loop μ-loop = search in
     let l = at-loop .loop in
     let after-size-of = at-loop .before in
-    let a = after-size-of .before .before .before .args in
+    let start : tie.Start Inv-loop μ-loop = search in
+    let a = start .args in
     let z = after-size-of .size-of .result in
     let e : z ≡ block (a .long) = after-size-of .size-of .ensures in
     let d = a .dst .now in
@@ -70,7 +69,7 @@ loop-again c =
     )
 
 sub-one-block : tie.Need-sub-one-block Inv-loop μ-loop
-sub-one-block c = let e = c .before .before .size-of .ensures in omega arith
+sub-one-block c = omega arith
 
 add-one-block-3 : tie.Need-add-one-block-3 Inv-loop μ-loop
 add-one-block-3 c = search needs
@@ -82,18 +81,19 @@ add-one-block-4 : tie.Need-add-one-block-4 Inv-loop μ-loop
 add-one-block-4 c = search needs
 
 one-block-requires-2 : tie.Need-one-block-requires-2 Inv-loop μ-loop
-one-block-requires-2 c κs = let e = c .before .before .before .size-of .ensures in (omega arith, omega arith)
+one-block-requires-2 c κs = (omega arith, omega arith)
 
 same-length : tie.Need-same-length Inv-loop μ-loop
 same-length c = search needs
 
 returns : tie.Need-returns Inv-loop μ-loop
 returns c =
-    let after-one-block2 = c .before .before in
-    let at-loop = after-one-block2 .before .before .before in
+    let after-one-block2 : tie.After-one-block2 Inv-loop μ-loop = search in
+    let at-loop : tie.At-loop Inv-loop μ-loop = search in
     let l = at-loop .loop in
     let after-size-of = at-loop .before in
-    let a = after-size-of .before .before .before .args in
+    let start : tie.Start Inv-loop μ-loop = search in
+    let a = start .args in
     let z = after-size-of .size-of .result in
     let e : z ≡ block (a .long) = after-size-of .size-of .ensures in
     let d = a .dst .now in

@@ -1,5 +1,6 @@
 -- `packet::header::addressed` meets its contract: the tests are rows 44 to 47 of the table, in their order.
 use mathlib.Core.Path.{sym, _∙_}
+use native.Mathlib.Omega.{arith}
 use borrow.Author.Needs.{needs}
 use Rattle.packet.proofs.Table.{no-sync, in-error, other-pid, scrambled, header-passed}
 use Rattle.packet.proofs.header.addressed.Statement.{statement}
@@ -10,51 +11,41 @@ shared-slice-read-if1 c = search needs
 
 returns : tie.Need-returns
 returns c =
-    let a = c .before .before .before .args in
-    sym (no-sync (a .pid) (a .packet .now) (c .if1 .taken))
+    let s : tie.Start = search in
+    sym (no-sync (s .args .pid) (s .args .packet .now) (c .if1 .taken))
 
 shared-slice-read-if2 : tie.Need-shared-slice-read-if2
 shared-slice-read-if2 c = search needs
 
 returns-2 : tie.Need-returns-2
 returns-2 c =
-    let k = c .before .before in
-    let a = k .before .before .before .args in
-    sym (in-error (a .pid) (a .packet .now) (k .if1 .left) (c .if2 .taken))
+    let s : tie.Start = search in
+    sym (in-error (s .args .pid) (s .args .packet .now) (omega arith) (c .if2 .taken))
 
 pid-of-requires : tie.Need-pid-of-requires
 pid-of-requires c κs = search needs
 
 returns-3 : tie.Need-returns-3
 returns-3 c =
-    let k = c .before .before in
-    let s = k .before .before in
-    let a = s .before .before .before .args in
-    sym (other-pid (a .pid) (a .packet .now) (s .if1 .left) (k .if2 .left) (λ e. c .if3 .taken (c .before .pid-of .ensures ∙ e)))
+    let s : tie.Start = search in
+    sym (other-pid (s .args .pid) (s .args .packet .now) (omega arith) (omega arith) (λ e. omega arith))
 
 shared-slice-read-if4 : tie.Need-shared-slice-read-if4
 shared-slice-read-if4 c = search needs
 
 returns-4 : tie.Need-returns-4
 returns-4 c =
-    let t = c .before .before in
-    let k = t .before .before in
-    let s = k .before .before in
-    let a = s .before .before .before .args in
-    let ours = sym (t .before .pid-of .ensures) ∙ t .if3 .left in
-    sym (scrambled (a .pid) (a .packet .now) (s .if1 .left) (k .if2 .left) ours (c .if4 .taken))
+    let s : tie.Start = search in
+    sym (scrambled (s .args .pid) (s .args .packet .now) (omega arith) (omega arith) (omega arith) (c .if4 .taken))
 
 shaped-requires : tie.Need-shaped-requires
 shaped-requires c κs = search needs
 
 returns-5 : tie.Need-returns-5
 returns-5 c =
-    let t = c .before .before .before in
-    let k = t .before .before in
-    let s = k .before .before in
-    let a = s .before .before .before .args in
-    let ours = sym (t .before .pid-of .ensures) ∙ t .if3 .left in
-    c .shaped .ensures ∙ sym (header-passed (a .pid) (a .packet .now) (s .if1 .left) (k .if2 .left) ours (c .before .if4 .left))
+    let s : tie.Start = search in
+    c .shaped .ensures
+    ∙ sym (header-passed (s .args .pid) (s .args .packet .now) (omega arith) (omega arith) (omega arith) (omega arith))
 
 pub addressed-spec : {M : Type 1} → statement M
 addressed-spec =
