@@ -676,7 +676,13 @@ typedef struct lohitunga_write_answer {
     size_t size;     /* how many bytes the descriptor has: the first of the room */
 } lohitunga_write_answer;
 
-/* Texts. The parts are of `bytes`: those of the descriptor that was read, or any others. */
+/* Texts. The parts are of `bytes`: those of the descriptor that was read, or any others. A service out of two names that stand end to end:
+ *
+ *     static const uint8_t names[] = "OperatorNews";
+ *     uint8_t room[LOHITUNGA_DESCRIPTOR_ROOM];
+ *     lohitunga_service service = {0x01, {0, 8}, {8, 4}};
+ *     size_t size = lohitunga_write_service(service, names, 12, room, sizeof room).size;
+ */
 
 /* 0x40 network name. */
 lohitunga_write_answer lohitunga_write_network_name(lohitunga_part name, const uint8_t *bytes, size_t size, uint8_t *room, size_t room_size);

@@ -1,8 +1,8 @@
 -- The three bodies as the code puts them, by what they have alike.
 use mathlib.Core.Path.{_≡_, sym, ap, ap₂, _∙_}
 use mathlib.Core.Bool.{Bool, true, false, not}
-use mathlib.Core.List.{List, [], _∷_, _++_}
-use Prim.Native.Nat.{ℕ, _+_, _*_, _/_, _%_, _^_, _<_, _≤_}
+use mathlib.Core.List.{List, _∷_, _++_}
+use Prim.Native.Nat.{ℕ, _+_, _*_, _^_, _<_, _≤_}
 use native.Mathlib.Omega.{arith}
 use borrow.Author.Tests.{not-false, not-true}
 use lib.ListN.{length}
@@ -14,7 +14,7 @@ use Rattle.forms.proofs.Puts.{put-put}
 use Rattle.writing.specs.Number.{ofNumber}
 use Rattle.writing.specs.Written.{inside, headed, Writes}
 use Rattle.writing.specs.declared.Written.the-variants.{Wrote}
-use Rattle.writing.proofs.NumberBytes.{of-join}
+use Rattle.writing.proofs.NumberBytes.{of-join, head-bytes}
 use Rattle.writing.proofs.Tens.{show-short}
 use Rattle.writing.proofs.Answers.{written}
 
@@ -25,14 +25,6 @@ pub fewer-digits : {x a : ℕ} → x ≡ bcdShow 8 a → (n : ℕ) → n ≤ 8 �
 fewer-digits {x} {a} e n l h =
     let s : x ≡ bcdShow n a = e ∙ show-short 8 n a l h in
     (s, omega (arith, show-below n a))
-
--- a tag and a length
-head : (tag n : ℕ) → tag < 256 → n < 256 → ofNumber 2 (tag * 256 + n) ≡ tag ∷ n ∷ []
-unfolding ofNumber
-head tag n t l =
-    let high : (tag * 256 + n) / 256 % 256 ≡ tag = omega arith in
-    let low : (tag * 256 + n) / 1 % 256 ≡ n = omega arith in
-    ap₂ (λ x y. x ∷ y ∷ []) high low
 
 -- numbers of 4, 3 and 4 bytes
 abbrev pub body : ℕ → ℕ → ℕ → List ℕ
@@ -60,7 +52,7 @@ module _ (o : List ℕ) (tag first middle last : ℕ) (room : 13 ≤ length o) w
       ∙ ap (λ r. put r 6 y) e
       ∙ put-put o 0 x (omega arith) y (omega arith)
       ∙ ap₂ (λ x y. put o 0 (x ++ y))
-      (of-join 2 4 (tag * 256 + 11) first f ∙ ap (λ h. h ++ ofNumber 4 first) (head tag 11 t (omega arith)))
+      (of-join 2 4 (tag * 256 + 11) first f ∙ ap (λ h. h ++ ofNumber 4 first) (head-bytes tag 11 t (omega arith)))
       (of-join 3 4 middle last l)
 
 -- ---- answers: r is what the code's test of the fields says

@@ -8,6 +8,7 @@ use borrow.Author.Tests.{le-ltb}
 use lib.Dec.{ltb, eqb, eqb·suc-zero}
 use lib.IntN.{ℤ, pos, negsuc, natAbs}
 use lib.ListN.{length, getD, drop}
+use lib.Seq.{getD-drop}
 use Rattle.wire.specs.If.{if_then_else_}
 use Rattle.wire.specs.Reading.{Reading, value, refused, _>>=_}
 use Rattle.wire.proofs.ReadingLaws.{value-is, refused-is, never, through}
@@ -112,12 +113,17 @@ some-of (value d) (value h) (refused k) s = refl
 some-of (value d) (refused k) m s = refl
 some-of (refused k) h m s = refl
 
-some-time : (zs : List ℤ) → momentBits (someMoment zs) ≡ someTimeBits zs
+-- the numbers from 3 on
+from-third : (zs : List ℤ) (i : ℕ) → at (drop 3 zs) i ≡ at zs (3 + i)
+from-third zs i = getD-drop 3 zs i (pos 0)
+
+some-time : (zs : List ℤ) → momentBits (someMoment (drop 3 zs)) ≡ someTimeBits zs
 unfolding someMoment dayBits
 some-time zs =
     let from-first : ℕ → Reading ℕ = λ mjd. if ltb mjd 15079 then refused 112 else value mjd in
-    ap momentBits (sym (bind-bind (natural (2 ^ 16) (at zs 0)) from-first _))
-    ∙ some-of (dayBits zs) (natural 24 (at zs 1)) (natural 60 (at zs 2)) (natural 60 (at zs 3))
+    rw (from-third zs 0, from-third zs 1, from-third zs 2, from-third zs 3)
+    (ap momentBits (sym (bind-bind (natural (2 ^ 16) (at zs 3)) from-first _))
+    ∙ some-of (dayBits zs) (natural 24 (at zs 4)) (natural 60 (at zs 5)) (natural 60 (at zs 6)))
 
 abbrev zeroIf : Bool → Reading ℕ
 zeroIf b = if b then value 0 else refused 112
@@ -140,29 +146,32 @@ none-of true true false d = refl
 none-of true false c d = refl
 none-of false b c d = refl
 
-no-time : (zs : List ℤ) → momentBits (noMoment zs) ≡ noTimeBits zs
+no-time : (zs : List ℤ) → momentBits (noMoment (drop 3 zs)) ≡ noTimeBits zs
 unfolding noMoment below
 no-time zs =
     let is-zero : ℕ → Bool = λ i. ltb (natAbs (at zs i)) 1 in
-    rw (zero-or (at zs 0), zero-or (at zs 1), zero-or (at zs 2), zero-or (at zs 3))
-    (none-of (is-zero 0) (is-zero 1) (is-zero 2) (is-zero 3))
+    rw (from-third zs 0, from-third zs 1, from-third zs 2, from-third zs 3)
+    (rw (zero-or (at zs 3), zero-or (at zs 4), zero-or (at zs 5), zero-or (at zs 6))
+    (none-of (is-zero 3) (is-zero 4) (is-zero 5) (is-zero 6)))
 
 module _ (zs : List ℤ) where
   one-of : (b : Bool)
-      → momentBits (if b then noMoment zs else someMoment zs) ≡ (if b then noTimeBits zs else someTimeBits zs)
+      → momentBits (if b then noMoment (drop 3 zs) else someMoment (drop 3 zs))
+      ≡ (if b then noTimeBits zs else someTimeBits zs)
   one-of true = no-time zs
   one-of false = some-time zs
 
-  time-of : (r : Reading ℕ) → momentBits (r >>= λ u. if eqb u 1 then noMoment zs else someMoment zs)
+  time-of : (r : Reading ℕ)
+      → momentBits (r >>= λ u. if eqb u 1 then noMoment (drop 3 zs) else someMoment (drop 3 zs))
       ≡ (r >>= λ u. if eqb u 1 then noTimeBits zs else someTimeBits zs)
   unfolding momentBits
   time-of (value u) = one-of (eqb u 1)
   time-of (refused k) = refl
 
-  pub moment-bits : momentBits (moment zs)
-      ≡ (natural 2 (at zs 4) >>= λ u. if eqb u 1 then noTimeBits zs else someTimeBits zs)
+  pub moment-bits : momentBits (moment (drop 3 zs))
+      ≡ (natural 2 (at zs 7) >>= λ u. if eqb u 1 then noTimeBits zs else someTimeBits zs)
   unfolding moment
-  moment-bits = time-of (natural 2 (at zs 4))
+  moment-bits = rw (from-third zs 4) (time-of (natural 2 (at zs 7)))
 
 -- ---- the offsets, and the item
 

@@ -5,7 +5,7 @@ use mathlib.Core.Path.{_≡_, refl, sym, ap, _∙_, subst}
 use mathlib.Core.Logic.{_↔_, _⊎_, inl, inr, ⊎-elim}
 use mathlib.Core.Bool.{true}
 use mathlib.Core.List.{List, [], _∷_, _++_, map, append-nil}
-use Prim.Native.Nat.{ℕ, zero, suc, _+_, _*_, _/_, _%_, _<_, _≤_}
+use Prim.Native.Nat.{ℕ, suc, _+_, _*_, _/_, _%_, _<_, _≤_}
 use native.Mathlib.Nat.{mul-div-right, mul-mod-right, mul-le-mul-left}
 use native.Mathlib.Omega.{arith}
 use borrow.Author.Tests.{ltb-true, ltb-false}
@@ -30,6 +30,7 @@ use Rattle.writing.specs.Fill.{ones, made, ReservedIn, below, capacities}
 use Rattle.writing.specs.Rows.{itemsOf, together, itemsFrom}
 use Rattle.writing.specs.Written.{headed}
 use Rattle.writing.specs.Reverse.{Reverse}
+use Rattle.writing.proofs.NumberBytes.{bytes-join}
 use Rattle.writing.proofs.Answers.{headed-value}
 use Rattle.writing.proofs.Bodies.{headed-bytes}
 use Rattle.writing.proofs.Made.{ones-laid, made-length, made-bytes, made-kept, made-reserved, kept-inside, made-again}
@@ -66,11 +67,6 @@ abbrev pub Most : {A : Type 0} → ℕ → ℕ → ℕ → (List ℕ → ℕ →
 Most k n most read row write =
     (m : ℕ) (zs : List ℤ) → length zs ≡ k * m → ((i : ℕ) → i < m → Item read row (rowAt k zs i))
     → (m ≤ most → (s : List ℕ) × (write zs ≡ value s) × (length s ≡ 2 + n * m)) × (most < m → write zs ≡ refused 113)
-
-bytes-append : (x y : List ℕ) → Bytes x → Bytes y → Bytes (x ++ y)
-bytes-append [] y h g i = g i
-bytes-append (b ∷ x) y h g zero = h 0
-bytes-append (b ∷ x) y h g (suc i) = bytes-append x y (λ j. h (suc j)) g i
 
 module _ {A B : Type 0} {tag k : ℕ} {fs : List Field} {item : List ℤ → Reading A} {row : A → List ℤ}
     {read : List ℕ → ℕ → Answered A} {Right : B → A → Type 0} {shown : B → A → List ℕ} {chosen : A → B}
@@ -222,7 +218,7 @@ module _ {A B : Type 0} {tag k : ℕ} {fs : List Field} {item : List ℤ → Rea
   body-bytes : (l : List A) → Bytes (body l)
   unfolding together
   body-bytes [] i = omega arith
-  body-bytes (a ∷ l) i = bytes-append (bytesOf a) (body l) (bytes-bytes a) (body-bytes l) i
+  body-bytes (a ∷ l) i = bytes-join (bytesOf a) (body l) (bytes-bytes a) (body-bytes l) i
 
   whole-bytes : (l : List A) → n * length l ≤ 255 → Bytes (whole l)
   whole-bytes l h = headed-bytes tag (body l) (laws .tagged) (let e = body-length l in omega arith) (body-bytes l)

@@ -10,7 +10,7 @@ use borrow.Author.Tests.{not-true, not-false}
 use mir.Syntax.{w64}
 use mir.Val.{Fits}
 use lib.IntN.{ℤ}
-use lib.ListN.{length, drop, length-append}
+use lib.ListN.{length, drop, length-append, length-drop}
 use Rattle.wire.specs.Reading.{Reading, value, refused, _>>=_}
 use Rattle.wire.proofs.ReadingLaws.{never}
 use Rattle.forms.specs.Room.{put}
@@ -19,6 +19,20 @@ use Rattle.writing.specs.Rows.{rows}
 use Rattle.write_lists.specs.Inner.Kinds.{rowSize, itemSize, pieceOf, judged, Judged, passed, bytesOr, joinedRows}
 use Rattle.write_lists.specs.declared.kinds.Kind.{Kind}
 use Rattle.write_lists.proofs.ItemBytes.{piece-size}
+
+-- ---- their numbers
+
+times-first : (m n : ℕ) → 0 < n → m * n ≡ m + m * (n - 1)
+times-first m zero h = absurd (omega arith)
+times-first m (suc n) h = let e : suc n - 1 ≡ n = omega arith in rw e (omega (arith, mul-suc m n))
+
+-- so many rows of k numbers are there
+module _ (k n : ℕ) (zs : List ℤ) (enough : k * n ≤ length zs) (some : 0 < n) {j : ℕ} (e : j ≡ k) where
+  pub row-there : j ≤ length zs
+  row-there = omega (arith, times-first k n some)
+
+  pub rows-behind : {next : List ℤ} → next ≡ drop j zs → k * (n - 1) ≤ length next
+  rows-behind f = rw (f, e) (omega (arith, times-first k n some, length-drop k zs))
 
 -- ---- are they items?
 
@@ -78,10 +92,6 @@ unfolding judged
 bytes-size n (value b) sized h = sized b refl
 bytes-size n (refused k) sized h = absurd (never (sym h))
 
-times-first : (m n : ℕ) → 0 < n → m * n ≡ m + m * (n - 1)
-times-first m zero h = absurd (omega arith)
-times-first m (suc n) h = let e : suc n - 1 ≡ n = omega arith in rw e (omega (arith, mul-suc m n))
-
 module _ (kind : Kind) where
   abbrev items : ℕ → List ℤ → Reading (List (List ℕ))
   items n zs = rows (rowSize kind) (pieceOf kind) n zs
@@ -114,14 +124,16 @@ module _ (kind : Kind) where
 
   -- the items that are left, put at a place, make all that is put
   pub record Ahead (start all room : List ℕ) (row : List ℤ) (left to : ℕ) : Type 0 where
+    pub enough : rowSize kind * left ≤ length row
     pub are : Judged (items left row)
     pub fits : to + itemSize kind * left ≤ length room
     pub same : length room ≡ length start
     pub rest : put room to (joinedRows (items left row)) ≡ all
 
-  pub all-ahead : (o : List ℕ) (zs : List ℤ) (n : ℕ) → (2 + itemSize kind * n ≤ length o) × Judged (items n zs)
+  pub all-ahead : (o : List ℕ) (zs : List ℤ) (n : ℕ)
+      → (rowSize kind * n ≤ length zs) × (2 + itemSize kind * n ≤ length o) × Judged (items n zs)
       → Ahead o (put o 2 (joinedRows (items n zs))) o zs n 2
-  all-ahead o zs n h = record { are = h .1; fits = h .0; same = refl; rest = refl }
+  all-ahead o zs n h = record { enough = h .0; are = h .2; fits = h .1; same = refl; rest = refl }
 
   module _ {o all room : List ℕ} {row : List ℤ} {left to : ℕ} (ahead : Ahead o all room row left to) where
     pub none-ahead : left ≤ 0 → room ≡ all
@@ -131,6 +143,9 @@ module _ (kind : Kind) where
         ∙ ahead .rest
 
     module _ (some : 0 < left) where
+      pub row-ahead : {k : ℕ} → k ≡ rowSize kind → k ≤ length row
+      row-ahead e = row-there (rowSize kind) left row (ahead .enough) some e
+
       pub room-for : to + itemSize kind ≤ length room
       room-for = omega (arith, ahead .fits, times-first (itemSize kind) left some)
 
@@ -152,6 +167,7 @@ module _ (kind : Kind) where
           let more = times-first (itemSize kind) left some in
           let kept = length-put room to piece (omega arith) in
           rw (stored, f, e, g) (record {
+            enough = rows-behind (rowSize kind) left row (ahead .enough) some refl refl;
             are = t .1;
             fits = omega arith;
             same = kept ∙ ahead .same;

@@ -1,7 +1,7 @@
 // Numbers of a row, each below its limit, and numbers made of several.
 ghost use mathlib.Core.Path.{_≡_};
-ghost use Prim.Native.Nat.{_+_, _*_, _^_, _<_};
-ghost use lib.ListN.{drop, getD};
+ghost use Prim.Native.Nat.{_+_, _*_, _^_, _≤_, _<_};
+ghost use lib.ListN.{length, drop, getD};
 ghost use lib.IntN.{pos};
 ghost use Rattle.writing.specs.Rows.{natural};
 ghost use Rattle.write_lists.specs.Inner.Numbers.{bitsOr, toldBits, Within, Joined, digits};
@@ -16,13 +16,10 @@ pub enum Bits {
 
 // What follows the first n numbers.
 pub fn after(numbers: &[i32], n: usize) -> &[i32]
+    requires { ⌜ n ≤ length (now numbers) ⌝ }
     ensures { λ r. ⌜ now r ≡ drop n (now (numbers .entry)) ⌝ }
 {
-    if n < numbers.len() {
-        &numbers[n..]
-    } else {
-        &numbers[..0]
-    }
+    &numbers[n..]
 }
 
 // The number at a place, from 0 on and below a limit.

@@ -3,7 +3,6 @@ ghost use Prim.Native.Nat.{_^_};
 ghost use Rattle.write_lists.specs.Inner.Numbers.{Within};
 ghost use Rattle.write_lists.specs.Inner.Offsets.{hoursIn, signs, placeBits, frontBits, backBits};
 use crate::numbers::Bits;
-use crate::numbers::after;
 use crate::numbers::beside;
 use crate::numbers::natural_at;
 use crate::numbers::two_digits;
@@ -66,5 +65,5 @@ pub fn front(row: &[i32]) -> Bits
 pub fn back(row: &[i32]) -> Bits
     ensures { λ r. ⌜ Within (2 ^ 56) (backBits (now (row .entry))) r ⌝ }
 {
-    beside(time(after(row, 3)), 0x1_0000, hours(sized_at(row, 8)))
+    beside(time(row), 0x1_0000, hours(sized_at(row, 8)))
 }

@@ -35,7 +35,7 @@ pub enum Count {
 
 // An item of two numbers.
 fn item(high: Bits, low: Bits) -> Piece
-    ensures { λ r. ⌜ ((k : _) → toldPiece k r ≡ itemOf k (toldBits high) (toldBits low)) ⌝ }
+    ensures { λ r. ⌜ ((k : Kind) → toldPiece k r ≡ itemOf k (toldBits high) (toldBits low)) ⌝ }
 {
     match high {
         Bits::Outside => Piece::Outside,
@@ -69,6 +69,7 @@ fn is_item(kind: Kind, row: &[i32]) -> bool
 
 // Each of n rows is an item.
 fn are_items(kind: Kind, numbers: &[i32], n: usize) -> bool
+    requires { ⌜ rowSize kind * n ≤ length (now numbers) ⌝ }
     ensures { λ r. ⌜ passed r ≡ judged (rows (rowSize kind) (pieceOf kind) n (now (numbers .entry))) ⌝ }
 {
     let k = row_size(kind);
@@ -108,7 +109,8 @@ fn put_piece(kind: Kind, row: &[i32], room: &mut [u8], to: usize)
 
 // Those of n rows, behind the tag and the length.
 fn put_items(kind: Kind, numbers: &[i32], n: usize, room: &mut [u8])
-    requires { ⌜ (2 + itemSize kind * n ≤ length (now room)) × Judged (rows (rowSize kind) (pieceOf kind) n (now numbers)) ⌝ }
+    requires { ⌜ (rowSize kind * n ≤ length (now numbers)) × (2 + itemSize kind * n ≤ length (now room))
+        × Judged (rows (rowSize kind) (pieceOf kind) n (now numbers)) ⌝ }
     ensures { λ _. ⌜ now (room .exit) ≡ put (now (room .entry)) 2
         (joinedRows (rows (rowSize kind) (pieceOf kind) n (now (numbers .entry)))) ⌝ }
 {

@@ -1,5 +1,6 @@
-// The time of change of a local time offset, by mjd, hour, minute, second, undefined.
+// The time of change of a local time offset: the numbers of its row from 3 on, mjd, hour, minute, second, undefined.
 ghost use Prim.Native.Nat.{_^_};
+ghost use lib.ListN.{drop};
 ghost use Rattle.write_lists.specs.LocalTimeOffset.{moment};
 ghost use Rattle.write_lists.specs.Inner.Numbers.{Within};
 ghost use Rattle.write_lists.specs.Inner.Offsets.{dayBits, clockBits, someTimeBits, noTimeBits, momentBits};
@@ -12,7 +13,7 @@ use crate::numbers::two_digits;
 fn day(row: &[i32]) -> Bits
     ensures { λ r. ⌜ Within (2 ^ 16) (dayBits (now (row .entry))) r ⌝ }
 {
-    let mjd = natural_at(row, 0, 0x1_0000);
+    let mjd = natural_at(row, 3, 0x1_0000);
     match mjd {
         Bits::Outside => Bits::Outside,
         Bits::Are(mjd) => if mjd < 15079 {
@@ -27,9 +28,9 @@ fn day(row: &[i32]) -> Bits
 fn clock(row: &[i32]) -> Bits
     ensures { λ r. ⌜ Within (2 ^ 24) (clockBits (now (row .entry))) r ⌝ }
 {
-    let hour = two_digits(natural_at(row, 1, 24));
-    let minute = two_digits(natural_at(row, 2, 60));
-    let second = two_digits(natural_at(row, 3, 60));
+    let hour = two_digits(natural_at(row, 4, 24));
+    let minute = two_digits(natural_at(row, 5, 60));
+    let second = two_digits(natural_at(row, 6, 60));
     beside(beside(hour, 0x100, minute), 0x100, second)
 }
 
@@ -44,15 +45,15 @@ fn some_time(row: &[i32]) -> Bits
 fn no_time(row: &[i32]) -> Bits
     ensures { λ r. ⌜ Within (2 ^ 40) (noTimeBits (now (row .entry))) r ⌝ }
 {
-    let first = beside(natural_at(row, 0, 1), 1, natural_at(row, 1, 1));
-    let last = beside(natural_at(row, 2, 1), 1, natural_at(row, 3, 1));
+    let first = beside(natural_at(row, 3, 1), 1, natural_at(row, 4, 1));
+    let last = beside(natural_at(row, 5, 1), 1, natural_at(row, 6, 1));
     beside(beside(first, 1, last), 1, Bits::Are(0xFF_FFFF_FFFF))
 }
 
 pub fn time(row: &[i32]) -> Bits
-    ensures { λ r. ⌜ Within (2 ^ 40) (momentBits (moment (now (row .entry)))) r ⌝ }
+    ensures { λ r. ⌜ Within (2 ^ 40) (momentBits (moment (drop 3 (now (row .entry))))) r ⌝ }
 {
-    let undefined = natural_at(row, 4, 2);
+    let undefined = natural_at(row, 7, 2);
     match undefined {
         Bits::Outside => Bits::Outside,
         Bits::Are(undefined) => if undefined == 1 {

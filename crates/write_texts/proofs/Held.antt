@@ -22,7 +22,7 @@ use Rattle.layout.specs.Widths.{size, keptIn, HoldsTexts}
 use Rattle.layout.specs.declared.texts.TwoTexts.{TwoTexts}
 use Rattle.layout.proofs.WidthLaws.{body-bytes}
 use Rattle.writing.specs.Number.{ofNumber}
-use Rattle.writing.proofs.NumberBytes.{length-of, of-bytes, number-of, of-number}
+use Rattle.writing.proofs.NumberBytes.{length-of, of-bytes, number-of, of-number, bytes-join}
 use Rattle.write_texts.specs.Texts.{lengthed, twoTexts}
 use Rattle.write_texts.proofs.Headed.{framed-headed, framed-bytes}
 use Rattle.write_texts.proofs.Numbered.{sizeOf, numbered, numbered-length, oneNumber, fieldsWritten, written-inside, fields-case}
@@ -134,10 +134,6 @@ module _ (tag n : ℕ) (s : List ℕ) (bytes : Bytes s) (v : ℕ) where
       )
 
 -- ---- written
-
-bytes-join : (x y : List ℕ) → Bytes x → Bytes y → Bytes (x ++ y)
-bytes-join [] y a b = b
-bytes-join (x ∷ l) y a b = byte-more x (l ++ y) (a 0) (bytes-join l y (λ i. a (suc i)) b)
 
 module _ (tag n v : ℕ) (first second s : List ℕ) where
   abbrev body : List ℕ

@@ -8,11 +8,10 @@ use lib.Seq.{take-length}
 use Rattle.copy.specs.Copy.{copied}
 use Rattle.forms.specs.Room.{put}
 use Rattle.forms.proofs.Puts.{copied-put, put-put}
-use Rattle.clock.proofs.Reported.{byte-more, no-bytes}
 use Rattle.writing.specs.Number.{ofNumber}
 use Rattle.writing.specs.Written.{headed, Writes}
 use Rattle.writing.specs.declared.Written.the-variants.{Wrote}
-use Rattle.writing.proofs.NumberBytes.{of-number}
+use Rattle.writing.proofs.NumberBytes.{head-bytes}
 use Rattle.writing.proofs.Answers.{headed-value, written}
 
 -- a copy of a whole list
@@ -29,9 +28,6 @@ put-next o to l m at e h f g =
     ∙ put-put o to l (omega arith) m (omega arith)
 
 module _ (tag n : ℕ) (byte : tag < 256) (most : n ≤ 255) where
-  front : ofNumber 2 (tag * 256 + n) ≡ tag ∷ n ∷ []
-  front = of-number (tag ∷ n ∷ []) (byte-more tag (n ∷ []) byte (byte-more n [] (omega arith) no-bytes))
-
   -- the tag and the length as one number, and the body behind them
   pub behind : (body o : List ℕ) → n ≡ length body → 257 ≤ length o → {o₁ o₂ : List ℕ}
       → o₁ ≡ put o 0 (ofNumber 2 (tag * 256 + n)) → o₂ ≡ put o₁ 2 body → Writes (headed tag body) o (Wrote (n + 2)) o₂
@@ -39,7 +35,7 @@ module _ (tag n : ℕ) (byte : tag < 256) (most : n ≤ 255) where
       let s : List ℕ = tag ∷ length body ∷ body in
       let size : length s ≡ n + 2 = omega arith in
       let all : o₂ ≡ put o 0 s =
-      put-next o 0 (tag ∷ n ∷ []) body 2 (omega arith) (omega arith) (f ∙ ap (put o 0) front) g
+      put-next o 0 (tag ∷ n ∷ []) body 2 (omega arith) (omega arith) (f ∙ ap (put o 0) (head-bytes tag n byte (omega arith))) g
       ∙ ap (λ k. put o 0 (tag ∷ k ∷ body)) e in
       subst (λ k. Writes (headed tag body) o (Wrote k) o₂) size
       (written (headed tag body) o room s o₂ (headed-value tag body (omega arith)) all)

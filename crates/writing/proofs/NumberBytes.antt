@@ -76,3 +76,18 @@ of-number (b ∷ l) h =
     ap (ofNumber (suc k)) (number-join (b ∷ []) l)
     ∙ ap₂ _∷_ (ap (λ q. q % 256) (high b (8 * k) (number-below l rest)) ∙ mod-eq-of-lt (h 0))
     (low-of k b (number l) ∙ of-number l rest)
+
+-- a tag and a length as one number
+pub head-bytes : (tag n : ℕ) → tag < 256 → n < 256 → ofNumber 2 (tag * 256 + n) ≡ tag ∷ n ∷ []
+unfolding ofNumber
+head-bytes tag n t l =
+    let high : (tag * 256 + n) / 2 ^ 8 % 256 ≡ tag = omega arith in
+    let low : (tag * 256 + n) / 2 ^ 0 % 256 ≡ n = omega arith in
+    ap₂ (λ x y. x ∷ y ∷ []) high low
+
+-- ---- bytes one behind the other
+
+pub bytes-join : (a b : List ℕ) → Bytes a → Bytes b → Bytes (a ++ b)
+bytes-join [] b h g i = g i
+bytes-join (x ∷ a) b h g zero = h 0
+bytes-join (x ∷ a) b h g (suc i) = bytes-join a b (λ j. h (suc j)) g i

@@ -5,7 +5,7 @@ use mathlib.Core.Bool.{Bool, true, false}
 use mathlib.Core.List.{List, [], _∷_, _++_}
 use Prim.Native.Nat.{ℕ, _*_, _≤_}
 use lib.IntN.{ℤ, pos}
-use lib.ListN.{getD}
+use lib.ListN.{length, getD}
 use Rattle.wire.specs.Reading.{Reading, value, refused, _>>=_}
 use Rattle.layout.specs.Shapes.{joined}
 use Rattle.writing.specs.Number.{ofNumber}
@@ -118,6 +118,7 @@ listBytes k n zs = tagOf k ∷ itemSize k * n ∷ joinedRows (rows (rowSize k) (
 
 -- n rows can be written
 pub record Ready (k : Kind) (zs : List ℤ) (n : ℕ) : Type 0 where
+  pub enough : rowSize k * n ≤ length zs
   pub are : Judged (rows (rowSize k) (pieceOf k) n zs)
   pub short : itemSize k * n ≤ 255
   pub is : listWritten k zs ≡ value (listBytes k n zs)

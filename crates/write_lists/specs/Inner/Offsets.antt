@@ -13,15 +13,15 @@ use Rattle.writing.specs.declared.rows.Sized.{Sized}
 use Rattle.write_lists.specs.LocalTimeOffset.{at, moment}
 use Rattle.write_lists.specs.Inner.Numbers.{joint, digits}
 
--- ---- the time of change
+-- ---- the time of change, which is the numbers from 3 on
 
 -- a day from 15,079 on
 unfoldable pub dayBits : List ℤ → Reading ℕ
-dayBits zs = natural (2 ^ 16) (at zs 0) >>= λ mjd. if ltb mjd 15079 then refused 112 else value mjd
+dayBits zs = natural (2 ^ 16) (at zs 3) >>= λ mjd. if ltb mjd 15079 then refused 112 else value mjd
 
 -- the six digits of an hour, a minute and a second
 abbrev pub clockBits : List ℤ → Reading ℕ
-clockBits zs = joint (joint (digits (natural 24 (at zs 1))) 256 (digits (natural 60 (at zs 2)))) 256 (digits (natural 60 (at zs 3)))
+clockBits zs = joint (joint (digits (natural 24 (at zs 4))) 256 (digits (natural 60 (at zs 5)))) 256 (digits (natural 60 (at zs 6)))
 
 abbrev pub someTimeBits : List ℤ → Reading ℕ
 someTimeBits zs = joint (dayBits zs) (2 ^ 24) (clockBits zs)
@@ -29,7 +29,7 @@ someTimeBits zs = joint (dayBits zs) (2 ^ 24) (clockBits zs)
 -- forty ones, and four numbers that are 0
 abbrev pub noTimeBits : List ℤ → Reading ℕ
 noTimeBits zs =
-    joint (joint (joint (natural 1 (at zs 0)) 1 (natural 1 (at zs 1))) 1 (joint (natural 1 (at zs 2)) 1 (natural 1 (at zs 3)))) 1
+    joint (joint (joint (natural 1 (at zs 3)) 1 (natural 1 (at zs 4))) 1 (joint (natural 1 (at zs 5)) 1 (natural 1 (at zs 6)))) 1
     (value 0xFF_FFFF_FFFF)
 
 -- the forty bits of a time

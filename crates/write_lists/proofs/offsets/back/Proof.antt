@@ -4,9 +4,6 @@ use borrow.Author.Needs.{needs}
 use Rattle.write_lists.proofs.offsets.back.Statement.{statement}
 use Rattle.write_lists.proofs.offsets.back.Tie as tie
 
-after-requires : tie.Need-after-requires
-after-requires c κs = search needs
-
 time-requires : tie.Need-time-requires
 time-requires c κs = search needs
 
@@ -23,4 +20,4 @@ returns : tie.Need-returns
 returns c = record { told = cc; small = omega arith }
 
 pub back-spec : {M : Type 1} → statement M
-back-spec = tie.close (tie.spec after-requires time-requires sized-at-requires hours-requires beside-requires returns)
+back-spec = tie.close (tie.spec time-requires sized-at-requires hours-requires beside-requires returns)

@@ -3,7 +3,7 @@ use mathlib.Core.Path.{_≡_, refl, sym, ap, _∙_}
 use mathlib.Core.Bool.{Bool, true, false, not}
 use mathlib.Core.List.{List, _∷_}
 use Prim.Native.Nat.{ℕ, _*_, _/_, _%_, _≤_, _<_}
-use native.Mathlib.Nat.{mul-comm, div-lt-iff-lt-mul, le-div-iff-mul-le}
+use native.Mathlib.Nat.{mul-comm, mul-div-le, div-lt-iff-lt-mul, le-div-iff-mul-le}
 use native.Mathlib.Omega.{arith}
 use borrow.Author.Needs.{needs}
 use borrow.Author.Tests.{eq-eqb, ne-eqb, not-true, not-false}
@@ -36,6 +36,9 @@ list-of tag (refused k) h = absurd (never (sym h))
 module _ (kind : Kind) (zs : List ℤ) {j : ℕ} (e : j ≡ rowSize kind) where
   abbrev items : Reading (List (List ℕ))
   items = rows (rowSize kind) (pieceOf kind) (length zs / j) zs
+
+  enough : rowSize kind * (length zs / j) ≤ length zs
+  enough = rw (← e) (mul-div-le (length zs) j)
 
   broken : (length zs % j ≡ 0 → ⊥) → listWritten kind zs ≡ refused 112
   unfolding listWritten itemsOf
@@ -74,6 +77,7 @@ module _ (kind : Kind) (zs : List ℤ) {j : ℕ} (e : j ≡ rowSize kind) where
             let sized = items-long kind n zs are in
             let short : length (joinedRows items) ≤ 255 = omega (arith, long, le-div-iff-mul-le some .0 h) in
             record {
+              enough = enough;
               are = are;
               short = omega arith;
               is = list-headed
@@ -94,7 +98,7 @@ returns : tie.Need-returns
 returns c = search broken
 
 are-items-requires : tie.Need-are-items-requires
-are-items-requires c κs = search needs
+are-items-requires c κs = search enough
 
 returns-2 : tie.Need-returns-2
 returns-2 c = search unfit

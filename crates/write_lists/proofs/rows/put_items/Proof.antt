@@ -3,7 +3,7 @@ use borrow.Author.Needs.{needs}
 use Rattle.forms.specs.Room.{put}
 use Rattle.writing.specs.Rows.{rows}
 use Rattle.write_lists.specs.Inner.Kinds.{rowSize, pieceOf, joinedRows}
-use Rattle.write_lists.proofs.RowLaws.{Ahead, all-ahead, none-ahead, room-for, next-fits, next-ahead}
+use Rattle.write_lists.proofs.RowLaws.{Ahead, all-ahead, none-ahead, row-ahead, room-for, next-fits, next-ahead}
 use Rattle.write_lists.proofs.rows.put_items.Statement.{statement}
 use Rattle.write_lists.proofs.rows.put_items.Tie as tie
 
@@ -30,7 +30,7 @@ add-to : tie.Need-add-to Inv-loop μ-loop
 add-to c = search next-fits
 
 after-requires : tie.Need-after-requires Inv-loop μ-loop
-after-requires c κs = search needs
+after-requires c κs = search row-ahead
 
 sub-left : tie.Need-sub-left Inv-loop μ-loop
 sub-left c = search needs

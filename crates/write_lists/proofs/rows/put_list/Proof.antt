@@ -1,7 +1,7 @@
 -- `write_lists::rows::put_list` meets its contract.
-use mathlib.Core.Path.{_≡_, ap₂}
+use mathlib.Core.Path.{_≡_}
 use mathlib.Core.List.{List, [], _∷_}
-use Prim.Native.Nat.{ℕ, _+_, _*_, _/_, _%_, _^_, _≤_, _<_}
+use Prim.Native.Nat.{ℕ, _+_, _*_, _≤_, _<_}
 use native.Mathlib.Omega.{arith}
 use borrow.Author.Needs.{needs}
 use mir.Syntax.{w64}
@@ -12,6 +12,7 @@ use Rattle.forms.specs.Room.{put}
 use Rattle.forms.proofs.Puts.{put-put}
 use Rattle.writing.specs.Number.{ofNumber}
 use Rattle.writing.specs.Rows.{rows}
+use Rattle.writing.proofs.NumberBytes.{head-bytes}
 use Rattle.write_lists.specs.Inner.Kinds.{tagOf, rowSize, itemSize, pieceOf, joinedRows, listBytes, Ready}
 use Rattle.write_lists.specs.declared.kinds.Kind.{Kind}
 use Rattle.write_lists.specs.declared.kinds.Kind.the-variants.{ServiceList, Content, ParentalRating, LocalTimeOffset}
@@ -24,14 +25,6 @@ tag-small ServiceList = omega arith
 tag-small Content = omega arith
 tag-small ParentalRating = omega arith
 tag-small LocalTimeOffset = omega arith
-
--- a tag and a length are two bytes
-head-bytes : (t n : ℕ) → t < 256 → n < 256 → ofNumber 2 (t * 256 + n) ≡ t ∷ n ∷ []
-unfolding ofNumber
-head-bytes t n h g =
-    let high : (t * 256 + n) / 2 ^ 8 % 256 ≡ t = omega arith in
-    let low : (t * 256 + n) / 2 ^ 0 % 256 ≡ n = omega arith in
-    ap₂ (λ x y. x ∷ y ∷ []) high low
 
 size-is : (k : Kind) (n : ℕ) {m : ℕ} → m ≡ itemSize k → 2 + m * n ≡ 2 + itemSize k * n
 size-is k n e = rw e

@@ -15,7 +15,7 @@ use Rattle.write_lists.specs.declared.numbers.Bits.the-variants.{Are, Ou
 use Rattle.write_lists.proofs.times.day.Statement.{statement}
 use Rattle.write_lists.proofs.times.day.Tie as tie
 
-module _ (zs : List ℤ) {b : Bits} (read : Within (2 ^ 16) (natural (2 ^ 16) (at zs 0)) b) where
+module _ (zs : List ℤ) {b : Bits} (read : Within (2 ^ 16) (natural (2 ^ 16) (at zs 3)) b) where
   outside : b ≡ Outside → Within (2 ^ 16) (dayBits zs) Outside
   unfolding dayBits
   outside e = record { told = rw (← read .told, e); small = omega arith }

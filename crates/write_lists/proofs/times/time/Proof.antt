@@ -6,6 +6,7 @@ use native.Mathlib.Omega.{arith}
 use borrow.Author.Needs.{needs}
 use borrow.Author.Tests.{ne-eqb}
 use lib.IntN.{ℤ}
+use lib.ListN.{drop}
 use Rattle.writing.specs.Rows.{natural}
 use Rattle.write_lists.specs.LocalTimeOffset.{at, moment}
 use Rattle.write_lists.specs.Inner.Numbers.{Within}
@@ -16,15 +17,16 @@ use Rattle.write_lists.proofs.ItemBytes.{moment-bits}
 use Rattle.write_lists.proofs.times.time.Statement.{statement}
 use Rattle.write_lists.proofs.times.time.Tie as tie
 
-module _ (zs : List ℤ) {b : Bits} (read : Within 2 (natural 2 (at zs 4)) b) where
-  outside : b ≡ Outside → Within (2 ^ 40) (momentBits (moment zs)) Outside
+module _ (zs : List ℤ) {b : Bits} (read : Within 2 (natural 2 (at zs 7)) b) where
+  outside : b ≡ Outside → Within (2 ^ 40) (momentBits (moment (drop 3 zs))) Outside
   outside e = record { told = rw (moment-bits, ← read .told, e); small = omega arith }
 
   module _ {undefined : ℕ} (e : b ≡ Are undefined) {r : Bits} where
-    none : undefined ≡ 1 → Within (2 ^ 40) (noTimeBits zs) r → Within (2 ^ 40) (momentBits (moment zs)) r
+    none : undefined ≡ 1 → Within (2 ^ 40) (noTimeBits zs) r → Within (2 ^ 40) (momentBits (moment (drop 3 zs))) r
     none h w = rw (moment-bits, ← read .told, e, h) w
 
-    some : (undefined ≡ 1 → ⊥) → Within (2 ^ 40) (someTimeBits zs) r → Within (2 ^ 40) (momentBits (moment zs)) r
+    some : (undefined ≡ 1 → ⊥) → Within (2 ^ 40) (someTimeBits zs) r
+        → Within (2 ^ 40) (momentBits (moment (drop 3 zs))) r
     some h w = rw (moment-bits, ← read .told, e, ne-eqb undefined 1 h) w
 
 natural-at-requires : tie.Need-natural-at-requires
