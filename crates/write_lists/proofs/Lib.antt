@@ -7,3 +7,4 @@ pub mod Reverses
 pub mod Refusals
 pub mod ItemBytes
 pub mod RowLaws
+pub mod AtWork

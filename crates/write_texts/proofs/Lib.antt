@@ -5,3 +5,4 @@ pub mod Numbered
 pub mod Held
 pub mod Reverses
 pub mod Refusals
+pub mod AtWork
