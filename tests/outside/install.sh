@@ -53,7 +53,7 @@ done
 [ -e "$room/usr/share/doc/lohitunga/LICENSE" ] || bad "no LICENSE among the documents"
 
 # the shared library has the header's calls and no other name
-sed -n 's/^[a-z].* \(lohitunga_[a-z0-9_]*\)(.*/\1/p' include/lohitunga.h | sort >"$room/declared"
+sed -n '/^static inline/!s/^[a-z].* \(lohitunga_[a-z0-9_]*\)(.*/\1/p' include/lohitunga.h | sort >"$room/declared"
 "${objdump%objdump}nm" -D --defined-only "$room/usr/lib/liblohitunga.so" | sed 's/.* //' | sort >"$room/exported"
 cmp -s "$room/declared" "$room/exported" || bad "declared and exported differ: $(diff "$room/declared" "$room/exported")"
 echo "install: the header's first program, $lines lines, runs with the installed library and that of the tar file"
