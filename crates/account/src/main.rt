@@ -1,4 +1,6 @@
 // The account program: reads packets on standard input to the end and prints what became of every payload byte.
+#![tactic(auto)]
+
 mod input;
 mod listing;
 mod progress;

@@ -9,7 +9,7 @@ use crate::tally::Account;
 use crate::{reading, tally};
 
 // What reading came to: an error, fewer than 188 bytes in all, or the account.
-#[derive(Drop)]
+#[derive(Clone, Copy)]
 pub enum Ended {
     Failed,
     NoPackets,
@@ -17,7 +17,7 @@ pub enum Ended {
 }
 
 // Whether reading goes on, met the end of the input, or failed.
-#[derive(Drop)]
+#[derive(Clone, Copy)]
 pub enum Stage {
     Reading,
     Over,
@@ -26,7 +26,7 @@ pub enum Stage {
 
 // Whether a first packet came, the bytes at the front of the buffer that are not entered yet, the account, and the stage.
 // Only `start` and `heard` hand one out, so that reading can be over only because a read said so.
-#[derive(Drop)]
+#[derive(Clone, Copy)]
 pub struct Progress {
     begun: bool,
     left: usize,

@@ -3,7 +3,7 @@ ghost use Rattle.std.specs.Prelude.{◌≡◌, ◌≤◌, length};
 ghost use Rattle.account.specs.Heard.{got_as, GotIn, Behind};
 
 // What one read came to. Again: a signal came first.
-#[derive(Drop)]
+#[derive(Clone, Copy)]
 pub enum Got {
     Bytes(usize),
     Again,
@@ -12,7 +12,7 @@ pub enum Got {
 }
 
 // What a read came to, and no other function's word for it: only `read_into` makes one.
-#[derive(Drop)]
+#[derive(Clone, Copy)]
 pub struct OneRead {
     got: Got,
 }

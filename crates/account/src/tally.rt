@@ -6,7 +6,7 @@ ghost use Rattle.account.specs.Entered.{fresh_account, tallied, kept_as, entered
 
 use collector::{Answer, Record};
 
-#[derive(Drop)]
+#[derive(Clone, Copy)]
 pub struct Account {
     pub rec: Record,
     pub taken: u64,

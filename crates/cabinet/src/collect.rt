@@ -13,7 +13,7 @@ pub const NO_COUNTER: u8 = 255;
 
 // It has no padding, which no promise can cover: each of its 40 bytes is one of a number.
 #[repr(C)]
-#[derive(Drop)]
+#[derive(Clone, Copy)]
 pub struct Record {
     pub pid: u16,
     // The last counter, or NO_COUNTER.
@@ -32,7 +32,7 @@ pub struct Record {
 }
 
 #[repr(C)]
-#[derive(Drop)]
+#[derive(Clone, Copy)]
 pub struct CollectAnswer {
     pub number: u32,
     // 1 for a repeated packet.
@@ -43,7 +43,7 @@ pub struct CollectAnswer {
 }
 
 // The record after a packet, and the answer.
-#[derive(Drop)]
+#[derive(Clone, Copy)]
 struct Stepped {
     record: Record,
     answer: CollectAnswer,

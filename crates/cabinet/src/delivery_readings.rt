@@ -12,27 +12,27 @@ use delivery::{cable, satellite, terrestrial};
 
 // Steps of 10 kHz.
 #[repr(C)]
-#[derive(Drop)]
+#[derive(Clone, Copy)]
 pub struct SatelliteFrequency {
     pub steps: u32,
 }
 
 // Steps of 100 Hz.
 #[repr(C)]
-#[derive(Drop)]
+#[derive(Clone, Copy)]
 pub struct CableFrequency {
     pub steps: u32,
 }
 
 // Steps of 10 Hz.
 #[repr(C)]
-#[derive(Drop)]
+#[derive(Clone, Copy)]
 pub struct TerrestrialFrequency {
     pub steps: u32,
 }
 
 #[repr(C)]
-#[derive(Drop)]
+#[derive(Clone, Copy)]
 pub struct Satellite {
     pub frequency: SatelliteFrequency,
     // In tenths of a degree.
@@ -51,7 +51,7 @@ pub struct Satellite {
 }
 
 #[repr(C)]
-#[derive(Drop)]
+#[derive(Clone, Copy)]
 pub struct SatelliteAnswer {
     pub number: u32,
     pub place: usize,
@@ -60,7 +60,7 @@ pub struct SatelliteAnswer {
 }
 
 #[repr(C)]
-#[derive(Drop)]
+#[derive(Clone, Copy)]
 pub struct Cable {
     pub frequency: CableFrequency,
     // In steps of 100 symbols a second.
@@ -71,7 +71,7 @@ pub struct Cable {
 }
 
 #[repr(C)]
-#[derive(Drop)]
+#[derive(Clone, Copy)]
 pub struct CableAnswer {
     pub number: u32,
     pub place: usize,
@@ -80,7 +80,7 @@ pub struct CableAnswer {
 }
 
 #[repr(C)]
-#[derive(Drop)]
+#[derive(Clone, Copy)]
 pub struct Terrestrial {
     pub centre_frequency: TerrestrialFrequency,
     pub bandwidth: u8,
@@ -97,7 +97,7 @@ pub struct Terrestrial {
 }
 
 #[repr(C)]
-#[derive(Drop)]
+#[derive(Clone, Copy)]
 pub struct TerrestrialAnswer {
     pub number: u32,
     pub terrestrial: Terrestrial,

@@ -4,7 +4,7 @@ ghost use Rattle.section.specs.Reading.{judged};
 ghost use Rattle.cabinet.specs.Judge.{judge_says};
 
 #[repr(C)]
-#[derive(Drop)]
+#[derive(Clone, Copy)]
 pub struct JudgeAnswer {
     pub number: u32,
     pub place: usize,

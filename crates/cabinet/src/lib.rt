@@ -1,6 +1,8 @@
 // Lohitunga for C: each operation under the name that include/lohitunga.h gives it. Numbers, slices and structs of numbers
 // alone pass, because no enum can cross `extern "C"`. Each promise says that the numbers are those of what the operation
 // beneath answers.
+#![tactic(auto)]
+
 pub mod collect;
 pub mod crc32;
 pub mod delivery_readings;

@@ -17,28 +17,28 @@ use layout::items::Count;
 use lists::{content, local_time_offset, parental_rating, service_list};
 
 #[repr(C)]
-#[derive(Drop)]
+#[derive(Clone, Copy)]
 pub struct CountAnswer {
     pub number: u32,
     pub count: usize,
 }
 
 #[repr(C)]
-#[derive(Drop)]
+#[derive(Clone, Copy)]
 pub struct ServiceListItem {
     pub service_id: u16,
     pub service_type: u8,
 }
 
 #[repr(C)]
-#[derive(Drop)]
+#[derive(Clone, Copy)]
 pub struct ServiceListAnswer {
     pub number: u32,
     pub item: ServiceListItem,
 }
 
 #[repr(C)]
-#[derive(Drop)]
+#[derive(Clone, Copy)]
 pub struct ContentItem {
     pub content_nibble_level_1: u8,
     pub content_nibble_level_2: u8,
@@ -46,14 +46,14 @@ pub struct ContentItem {
 }
 
 #[repr(C)]
-#[derive(Drop)]
+#[derive(Clone, Copy)]
 pub struct ContentAnswer {
     pub number: u32,
     pub item: ContentItem,
 }
 
 #[repr(C)]
-#[derive(Drop)]
+#[derive(Clone, Copy)]
 pub struct ParentalRatingItem {
     // Three characters, the first the highest byte.
     pub country_code: u32,
@@ -61,14 +61,14 @@ pub struct ParentalRatingItem {
 }
 
 #[repr(C)]
-#[derive(Drop)]
+#[derive(Clone, Copy)]
 pub struct ParentalRatingAnswer {
     pub number: u32,
     pub item: ParentalRatingItem,
 }
 
 #[repr(C)]
-#[derive(Drop)]
+#[derive(Clone, Copy)]
 pub struct LocalTimeOffsetItem {
     // Three characters, the first the highest byte.
     pub country_code: u32,
@@ -81,7 +81,7 @@ pub struct LocalTimeOffsetItem {
 }
 
 #[repr(C)]
-#[derive(Drop)]
+#[derive(Clone, Copy)]
 pub struct LocalTimeOffsetAnswer {
     pub number: u32,
     pub place: usize,

@@ -8,7 +8,7 @@ use clock::Fault;
 use layout::Refusal;
 
 // What a refusal tells; zeros for what its number does not carry.
-#[derive(Drop)]
+#[derive(Clone, Copy)]
 pub struct Why {
     pub number: u32,
     pub place: usize,

@@ -5,7 +5,7 @@ ghost use Rattle.writer.specs.Written.{written};
 ghost use Rattle.cabinet.specs.Packets.{packets_says};
 
 #[repr(C)]
-#[derive(Drop)]
+#[derive(Clone, Copy)]
 pub struct PacketsAnswer {
     pub number: u32,
     pub packets: usize,

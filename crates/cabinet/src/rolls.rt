@@ -15,7 +15,7 @@ use roll::stepping::{course_of, segment_after};
 use roll::{Answer, Course, End, Segment};
 
 #[repr(C)]
-#[derive(Drop)]
+#[derive(Clone, Copy)]
 pub struct Roll {
     // 0 for an empty roll.
     pub begun: u8,
@@ -33,7 +33,7 @@ pub struct Roll {
 }
 
 #[repr(C)]
-#[derive(Drop)]
+#[derive(Clone, Copy)]
 pub struct RollAnswer {
     pub number: u32,
     pub place: usize,
@@ -42,7 +42,7 @@ pub struct RollAnswer {
 }
 
 // What a roll keeps beside its marks.
-#[derive(Drop)]
+#[derive(Clone, Copy)]
 struct Kept {
     begun: u8,
     sub_table: SubTable,
@@ -51,7 +51,7 @@ struct Kept {
 }
 
 // The roll after a section, and the answer.
-#[derive(Drop)]
+#[derive(Clone, Copy)]
 struct Rolled {
     roll: Roll,
     answer: RollAnswer,

@@ -23,7 +23,7 @@ use wire::numbers::byte_at;
 
 // What stands before the loops and entries, by name; 0 for what the table does not have.
 #[repr(C)]
-#[derive(Drop)]
+#[derive(Clone, Copy)]
 pub struct Head {
     pub table_id: u8,
     pub network_id: u16,
@@ -38,7 +38,7 @@ pub struct Head {
 }
 
 #[repr(C)]
-#[derive(Drop)]
+#[derive(Clone, Copy)]
 pub struct OpenAnswer {
     pub number: u32,
     pub place: usize,
@@ -49,7 +49,7 @@ pub struct OpenAnswer {
 }
 
 #[repr(C)]
-#[derive(Drop)]
+#[derive(Clone, Copy)]
 pub struct SectionStep {
     // 1 for a section.
     pub found: u8,
@@ -58,7 +58,7 @@ pub struct SectionStep {
 }
 
 #[repr(C)]
-#[derive(Drop)]
+#[derive(Clone, Copy)]
 pub struct EntryStep {
     // 1 for an entry.
     pub found: u8,
@@ -74,7 +74,7 @@ pub struct EntryStep {
 }
 
 #[repr(C)]
-#[derive(Drop)]
+#[derive(Clone, Copy)]
 pub struct DescriptorStep {
     // 1 for a descriptor.
     pub found: u8,

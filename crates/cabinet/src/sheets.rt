@@ -5,7 +5,7 @@ ghost use Rattle.turn.specs.Answers.{toldSheet, toldSection};
 ghost use Rattle.cabinet.specs.Sheets.{sheet_says, section_says};
 
 #[repr(C)]
-#[derive(Drop)]
+#[derive(Clone, Copy)]
 pub struct SheetAnswer {
     pub number: u32,
     pub place: usize,
@@ -13,7 +13,7 @@ pub struct SheetAnswer {
 }
 
 #[repr(C)]
-#[derive(Drop)]
+#[derive(Clone, Copy)]
 pub struct SectionAnswer {
     pub number: u32,
     pub size: usize,

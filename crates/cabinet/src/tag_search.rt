@@ -6,7 +6,7 @@ ghost use Rattle.cabinet.specs.Search.{search_says};
 use search::Found;
 
 #[repr(C)]
-#[derive(Drop)]
+#[derive(Clone, Copy)]
 pub struct SearchAnswer {
     pub number: u32,
     pub place: usize,

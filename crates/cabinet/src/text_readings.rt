@@ -13,21 +13,21 @@ use texts::{network_name, service, short_event, stuffing};
 
 // A part of the descriptor's bytes, its start counted from the tag as 0.
 #[repr(C)]
-#[derive(Drop)]
+#[derive(Clone, Copy)]
 pub struct Part {
     pub start: usize,
     pub size: usize,
 }
 
 #[repr(C)]
-#[derive(Drop)]
+#[derive(Clone, Copy)]
 pub struct TextAnswer {
     pub number: u32,
     pub text: Part,
 }
 
 #[repr(C)]
-#[derive(Drop)]
+#[derive(Clone, Copy)]
 pub struct Service {
     pub service_type: u8,
     pub service_provider_name: Part,
@@ -35,14 +35,14 @@ pub struct Service {
 }
 
 #[repr(C)]
-#[derive(Drop)]
+#[derive(Clone, Copy)]
 pub struct ServiceAnswer {
     pub number: u32,
     pub service: Service,
 }
 
 #[repr(C)]
-#[derive(Drop)]
+#[derive(Clone, Copy)]
 pub struct ShortEvent {
     // Three characters, the first the highest byte.
     pub language_code: u32,
@@ -51,7 +51,7 @@ pub struct ShortEvent {
 }
 
 #[repr(C)]
-#[derive(Drop)]
+#[derive(Clone, Copy)]
 pub struct ShortEventAnswer {
     pub number: u32,
     pub short_event: ShortEvent,

@@ -13,7 +13,7 @@ use clock::{duration, time};
 
 // A time that was read.
 #[repr(C)]
-#[derive(Drop)]
+#[derive(Clone, Copy)]
 pub struct Moment {
     pub mjd: u16,
     pub hour: u8,
@@ -24,7 +24,7 @@ pub struct Moment {
 }
 
 #[repr(C)]
-#[derive(Drop)]
+#[derive(Clone, Copy)]
 pub struct TimeAnswer {
     pub number: u32,
     pub place: usize,
@@ -33,7 +33,7 @@ pub struct TimeAnswer {
 }
 
 #[repr(C)]
-#[derive(Drop)]
+#[derive(Clone, Copy)]
 pub struct Duration {
     pub hour: u8,
     pub minute: u8,
@@ -41,7 +41,7 @@ pub struct Duration {
 }
 
 #[repr(C)]
-#[derive(Drop)]
+#[derive(Clone, Copy)]
 pub struct DurationAnswer {
     pub number: u32,
     pub place: usize,
@@ -50,7 +50,7 @@ pub struct DurationAnswer {
 }
 
 #[repr(C)]
-#[derive(Drop)]
+#[derive(Clone, Copy)]
 pub struct OffsetAnswer {
     pub number: u32,
     pub place: usize,
@@ -60,7 +60,7 @@ pub struct OffsetAnswer {
 }
 
 #[repr(C)]
-#[derive(Drop)]
+#[derive(Clone, Copy)]
 pub struct Date {
     pub year: u16,
     // From 1, January.
@@ -69,7 +69,7 @@ pub struct Date {
 }
 
 #[repr(C)]
-#[derive(Drop)]
+#[derive(Clone, Copy)]
 pub struct DateAnswer {
     pub number: u32,
     pub place: usize,

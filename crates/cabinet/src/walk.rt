@@ -6,7 +6,7 @@ ghost use Rattle.cabinet.specs.Walk.{walk_says};
 use loops::walk::{Step, step_from};
 
 #[repr(C)]
-#[derive(Drop)]
+#[derive(Clone, Copy)]
 pub struct WalkAnswer {
     pub number: u32,
     pub place: usize,

@@ -1,11 +1,13 @@
 // "The date is the Gregorian one of the MJD": counted as docs/DATES.md does it with pencil and paper.
+#![tactic(auto)]
+
 ghost use Rattle.std.specs.Prelude.{◌≡◌, ◌+◌, ◌-◌, ◌<◌, ◌≤◌};
 ghost use Rattle.calendar.specs.Calendar.{leap, days_in, date_of, gregorian, told};
 ghost use Rattle.calendar.specs.Dates.{days_of_months, days_of_years};
 
 use clock::Fault;
 
-#[derive(Drop)]
+#[derive(Clone, Copy)]
 pub struct Date {
     pub year: u16,
     // From 1, January.
@@ -13,7 +15,7 @@ pub struct Date {
     pub day: u8,
 }
 
-#[derive(Drop)]
+#[derive(Clone, Copy)]
 pub enum Answer {
     Is(Date),
     Refused(Fault),
@@ -54,7 +56,7 @@ fn month_length(year: u16, month: u8) -> u16
 }
 
 // A year, and the days that are left from its first of January on.
-#[derive(Drop)]
+#[derive(Clone, Copy)]
 struct InYear {
     year: u16,
     left: u16,

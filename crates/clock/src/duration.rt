@@ -5,7 +5,7 @@ ghost use Rattle.clock.specs.Duration.{duration_of, told};
 use super::field::{Clock, six_digits};
 use super::{Fault, Hms};
 
-#[derive(Drop)]
+#[derive(Clone, Copy)]
 pub enum Answer {
     Is(Hms),
     Refused(Fault),

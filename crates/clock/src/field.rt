@@ -5,13 +5,13 @@ ghost use Rattle.clock.specs.Field.{field, hms, told, told_hms};
 use super::{Fault, Hms};
 use wire::digits::{Digits, bcd};
 
-#[derive(Drop)]
+#[derive(Clone, Copy)]
 pub enum Field {
     Is(u8),
     Refused(Fault),
 }
 
-#[derive(Drop)]
+#[derive(Clone, Copy)]
 pub enum Clock {
     Is(Hms),
     Refused(Fault),

@@ -6,7 +6,7 @@ ghost use Rattle.clock.specs.Offset.{offset_at, offset_of, signed, told};
 use super::Fault;
 use super::field::{Field, two_digits};
 
-#[derive(Drop)]
+#[derive(Clone, Copy)]
 pub enum Answer {
     Minutes(i16),
     Refused(Fault),

@@ -5,7 +5,7 @@ ghost use Rattle.clock.specs.Time.{time_at, time_of, told};
 use super::field::{Clock, six_digits};
 use super::{Fault, Hms};
 
-#[derive(Drop)]
+#[derive(Clone, Copy)]
 pub struct Time {
     // The day, from 15,079 on: the first of March 1900.
     pub mjd: u16,
@@ -13,13 +13,13 @@ pub struct Time {
     pub clock: Hms,
 }
 
-#[derive(Drop)]
+#[derive(Clone, Copy)]
 pub enum Moment {
     Undefined,
     At(Time),
 }
 
-#[derive(Drop)]
+#[derive(Clone, Copy)]
 pub enum Answer {
     Is(Moment),
     Refused(Fault),

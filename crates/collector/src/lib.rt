@@ -1,5 +1,7 @@
 // The collector of document 01 with the judge in it: packets of one PID go in, one at a time, and of the sections that they
 // carry those come out that the judge accepts.
+#![tactic(auto)]
+
 mod bytes;
 mod lent;
 mod payload;
@@ -14,7 +16,7 @@ ghost use Rattle.collector.specs.Collected.{collected, fresh_record};
 use packet::{Judgement, Refusal};
 
 // "the last counter or none"
-#[derive(Drop)]
+#[derive(Clone, Copy)]
 pub enum Last {
     None,
     Counter(u8),
@@ -23,7 +25,7 @@ pub enum Last {
 // "It has the PID, the last counter or none, the bytes in hand", 32-bit counters, of which "The delivered counter splits into
 // accepted and rejected"; "The record gains a mark."; "A rejected section's number is kept in the record, the last one only".
 // The bytes in hand stand at the start of the hold.
-#[derive(Drop)]
+#[derive(Clone, Copy)]
 pub struct Record {
     pub pid: u16,
     pub last: Last,
@@ -39,7 +41,7 @@ pub struct Record {
 }
 
 // What a call answers. Taken: "the finished sections end to end, the answer their number and bytes", of the accepted ones.
-#[derive(Drop)]
+#[derive(Clone, Copy)]
 pub enum Answer {
     Refused(Refusal),
     Repeated,
@@ -47,7 +49,7 @@ pub enum Answer {
 }
 
 // The record after a packet, and the answer.
-#[derive(Drop)]
+#[derive(Clone, Copy)]
 pub struct Stepped {
     pub record: Record,
     pub answer: Answer,

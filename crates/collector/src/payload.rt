@@ -9,7 +9,7 @@ use crate::stretch;
 use crate::stretch::Gain;
 
 // The stretch that goes to the section in hand: packet[from..from+bytes].
-#[derive(Drop)]
+#[derive(Clone, Copy)]
 struct Front {
     from: usize,
     bytes: usize,

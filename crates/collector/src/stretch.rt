@@ -10,7 +10,7 @@ use crate::bytes;
 use crate::settling::{settle, settle_held};
 
 // What stands first in a run of bytes: a section that goes on past them, one that declares too much, or a whole one, of so many bytes.
-#[derive(Drop)]
+#[derive(Clone, Copy)]
 pub enum Look {
     Going,
     Over,
@@ -20,7 +20,7 @@ pub enum Look {
 // What came of a stretch: the bytes in hand after it; of the sections that came whole, the accepted ones' number and bytes,
 // the rejected ones' bytes, and the number of the section rejected last, now or before; and the other bytes by how the
 // stretch's rest went.
-#[derive(Drop)]
+#[derive(Clone, Copy)]
 pub struct Gain {
     pub in_hand: usize,
     pub sections: usize,

@@ -1,1 +1,2 @@
 // What tables contain, as sections and sheets hold it: proved, and no code. `specs/` has the statements.
+#![tactic(auto)]

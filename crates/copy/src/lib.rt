@@ -1,4 +1,6 @@
 // Bytes copied from one place to another, and moved within one room.
+#![tactic(auto)]
+
 ghost use Rattle.std.specs.Prelude.{◌≡◌, ◌+◌, ◌≤◌, length, drop, ltb};
 ghost use Rattle.std.proofs.Math.Seq.{paste};
 ghost use Rattle.copy.specs.Copy.{block, copies, copied};

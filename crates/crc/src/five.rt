@@ -10,7 +10,7 @@ use crate::two::{last_two, leave};
 use crate::words::{first_two, long};
 
 // The window, and the place in a sequence behind it.
-#[derive(Drop)]
+#[derive(Clone, Copy)]
 struct Five {
     a: u64,
     b: u64,

@@ -47,6 +47,8 @@
 // first four bytes. The words must end where the sequence ends. So its first 1 to 8 bytes are a word of their own, with
 // zeros in front of them, which change nothing; those of the ones that it has no room for fall to the word behind it
 // (`first_two` in words.rt).
+#![tactic(auto)]
+
 ghost use Rattle.std.specs.Prelude.{◌≡◌};
 ghost use Rattle.crc.specs.Crc.{crc};
 

@@ -8,7 +8,7 @@ use crate::register::{quotient, times_poly};
 use crate::words::{first_two, long};
 
 // Two words.
-#[derive(Drop)]
+#[derive(Clone, Copy)]
 pub struct Pair {
     pub a: u64,
     pub b: u64,

@@ -29,7 +29,7 @@ pub fn long(s: &[u8], i: usize) -> u64
 }
 
 // Two words, and the place in a sequence behind them.
-#[derive(Drop)]
+#[derive(Clone, Copy)]
 pub struct Two {
     pub a: u64,
     pub b: u64,

@@ -9,7 +9,7 @@ use wire::numbers::{bits_at, byte_at};
 use wire::parts::after;
 
 // Steps of 100 Hz.
-#[derive(Drop)]
+#[derive(Clone, Copy)]
 pub struct CableFrequency(pub u32);
 
 impl CableFrequency {
@@ -20,7 +20,7 @@ impl CableFrequency {
     }
 }
 
-#[derive(Drop)]
+#[derive(Clone, Copy)]
 pub struct Cable {
     pub frequency: CableFrequency,
     pub fec_outer: u8,
@@ -30,7 +30,7 @@ pub struct Cable {
     pub fec_inner: u8,
 }
 
-#[derive(Drop)]
+#[derive(Clone, Copy)]
 pub enum Answer {
     Is(Cable),
     Refused(Refusal),

@@ -9,7 +9,7 @@ use wire::numbers::bits_at;
 use wire::parts::after;
 
 // Steps of 10 kHz.
-#[derive(Drop)]
+#[derive(Clone, Copy)]
 pub struct SatelliteFrequency(pub u32);
 
 impl SatelliteFrequency {
@@ -21,13 +21,13 @@ impl SatelliteFrequency {
 }
 
 // The modulation system. The two bits of the roll-off factor are reserved in DVB-S.
-#[derive(Drop)]
+#[derive(Clone, Copy)]
 pub enum System {
     S,
     S2 { roll_off: u8 },
 }
 
-#[derive(Drop)]
+#[derive(Clone, Copy)]
 pub struct Satellite {
     pub frequency: SatelliteFrequency,
     // In tenths of a degree.
@@ -42,7 +42,7 @@ pub struct Satellite {
     pub fec_inner: u8,
 }
 
-#[derive(Drop)]
+#[derive(Clone, Copy)]
 pub enum Answer {
     Is(Satellite),
     Refused(Refusal),

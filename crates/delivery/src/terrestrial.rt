@@ -8,7 +8,7 @@ use wire::numbers::{bits_at, number32_at};
 use wire::parts::after;
 
 // Steps of 10 Hz.
-#[derive(Drop)]
+#[derive(Clone, Copy)]
 pub struct TerrestrialFrequency(pub u32);
 
 impl TerrestrialFrequency {
@@ -19,7 +19,7 @@ impl TerrestrialFrequency {
     }
 }
 
-#[derive(Drop)]
+#[derive(Clone, Copy)]
 pub struct Terrestrial {
     pub centre_frequency: TerrestrialFrequency,
     pub bandwidth: u8,
@@ -35,7 +35,7 @@ pub struct Terrestrial {
     pub other_frequency_flag: bool,
 }
 
-#[derive(Drop)]
+#[derive(Clone, Copy)]
 pub enum Answer {
     Is(Terrestrial),
     Refused(Refusal),

@@ -1,4 +1,6 @@
 // Typed readings of eleven descriptors. Each takes a descriptor's bytes from its tag on and answers the fields or a refusal.
+#![tactic(auto)]
+
 pub use delivery::{cable, satellite, terrestrial};
 pub use layout::items::Count;
 pub use layout::{Part, Refusal, bytes_of};

@@ -6,7 +6,7 @@ ghost use Rattle.desk.specs.Answers.{says, saysOutside};
 use writing::Written;
 
 #[repr(C)]
-#[derive(Drop)]
+#[derive(Clone, Copy)]
 pub struct WriteAnswer {
     pub number: u32,
     pub size: usize,

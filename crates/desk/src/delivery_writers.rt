@@ -25,7 +25,7 @@ pub extern "C" fn lohitunga_write_cable(cable: Cable, room: &mut [u8]) -> WriteA
 }
 
 // A modulation system by its two fields.
-#[derive(Drop)]
+#[derive(Clone, Copy)]
 enum Found {
     Is(satellite::System),
     Outside,

@@ -1,9 +1,11 @@
 // Bytes put into a lent room, and the places of what is read and written.
+#![tactic(auto)]
+
 ghost use Rattle.std.specs.Prelude.{◌≡◌, [], ◌∷◌};
 ghost use Rattle.forms.specs.Room.{put, sum};
 
 // Where a value stands in the bytes that are read, and where it goes in the room.
-#[derive(Drop)]
+#[derive(Clone, Copy)]
 pub struct Place {
     pub at: usize,
     pub to: usize,

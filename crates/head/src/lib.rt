@@ -1,5 +1,7 @@
 // A section's head: what NIT, SDT, BAT and EIT have between section_length and their loops. A byte that is not there
 // reads as 0.
+#![tactic(auto)]
+
 ghost use Rattle.std.specs.Prelude.{◌≡◌};
 ghost use Rattle.head.specs.Head.{extension_in, version_in, is_current, number_in, last_in, has_no_sub_table};
 
@@ -9,7 +11,7 @@ use wire::numbers::{byte_at, number16_at};
 pub mod sub_tables;
 
 // "A sub-table is table_id and extension, for SDT also original_network_id, for EIT also both transport ids."
-#[derive(Drop)]
+#[derive(Clone, Copy)]
 pub struct SubTable {
     pub table_id: u8,
     pub extension: u16,

@@ -2,6 +2,8 @@
 // Standard input has records: a kind, a byte, a two-byte length, and as many bytes.
 // Kind 0: a section, and the byte is the tag sought. Standard output has a line for it.
 // Kind 1: a loop, and the byte is the place from which the walk goes. Standard output has a line for each step.
+#![tactic(auto)]
+
 ghost use Rattle.loops.specs.Descriptors.{Steps};
 
 use libc::{STDIN_FILENO, STDOUT_FILENO};

@@ -7,7 +7,7 @@ use wire::numbers::byte_at;
 use wire::parts::after;
 use wire::wide;
 
-#[derive(Drop)]
+#[derive(Clone, Copy)]
 pub enum Body {
     Fits,
     Refused(Refusal),

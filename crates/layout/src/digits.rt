@@ -6,7 +6,7 @@ use clock::Fault;
 use wire::digits::{Digits, bcd};
 use wire::numbers::number32_at;
 
-#[derive(Drop)]
+#[derive(Clone, Copy)]
 pub enum Number {
     Is(u32),
     Refused(Fault),

@@ -7,14 +7,14 @@ use super::Refusal;
 use super::body::{Body, any, size};
 
 // How many items there are.
-#[derive(Drop)]
+#[derive(Clone, Copy)]
 pub enum Count {
     Items(usize),
     Refused(Refusal),
 }
 
 // Where an item starts, counted from the tag as 0.
-#[derive(Drop)]
+#[derive(Clone, Copy)]
 pub enum ItemPlace {
     At(usize),
     Refused(Refusal),

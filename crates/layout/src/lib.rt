@@ -1,5 +1,7 @@
 // What the layouts of descriptors share: the tag and the length in front, bodies of a fixed size, lists of items of one
 // size, texts, BCD fields.
+#![tactic(auto)]
+
 ghost use Rattle.std.specs.Prelude.{◌≡◌};
 ghost use Rattle.layout.specs.Refusal.{bytes_of};
 
@@ -12,7 +14,7 @@ pub mod items;
 pub mod texts;
 
 // Why a descriptor is not read.
-#[derive(Drop)]
+#[derive(Clone, Copy)]
 pub enum Refusal {
     // 61: no byte, or another tag.
     WrongTag,
@@ -25,7 +27,7 @@ pub enum Refusal {
 }
 
 // A part of a descriptor's bytes, its start counted from the tag as 0.
-#[derive(Drop)]
+#[derive(Clone, Copy)]
 pub struct Part {
     pub start: usize,
     pub length: usize,

@@ -6,13 +6,13 @@ use super::Part;
 use wire::numbers::byte_at;
 use wire::wide;
 
-#[derive(Drop)]
+#[derive(Clone, Copy)]
 pub struct TwoTexts {
     pub first: Part,
     pub second: Part,
 }
 
-#[derive(Drop)]
+#[derive(Clone, Copy)]
 pub enum Texts {
     Are(TwoTexts),
     // The lengths do not fill the body.

@@ -8,14 +8,14 @@ use layout::items::{Count, ItemPlace, item_at, number_of};
 use wire::numbers::{bits_at, byte_at};
 use wire::parts::part;
 
-#[derive(Drop)]
+#[derive(Clone, Copy)]
 pub struct Item {
     pub content_nibble_level_1: u8,
     pub content_nibble_level_2: u8,
     pub user_byte: u8,
 }
 
-#[derive(Drop)]
+#[derive(Clone, Copy)]
 pub enum Answer {
     Is(Item),
     Refused(Refusal),

@@ -11,7 +11,7 @@ use layout::items::{Count, ItemPlace, item_at, number_of};
 use wire::numbers::{bits_at, byte_at, number16_at, number24_at};
 use wire::parts::part;
 
-#[derive(Drop)]
+#[derive(Clone, Copy)]
 pub struct Item {
     // Three characters, the first the highest byte.
     pub country_code: u32,
@@ -23,7 +23,7 @@ pub struct Item {
     pub next_time_offset: i16,
 }
 
-#[derive(Drop)]
+#[derive(Clone, Copy)]
 pub enum Answer {
     Is(Item),
     Refused(Refusal),

@@ -8,14 +8,14 @@ use layout::items::{Count, ItemPlace, item_at, number_of};
 use wire::numbers::{byte_at, number24_at};
 use wire::parts::part;
 
-#[derive(Drop)]
+#[derive(Clone, Copy)]
 pub struct Item {
     // Three characters, the first the highest byte.
     pub country_code: u32,
     pub rating: u8,
 }
 
-#[derive(Drop)]
+#[derive(Clone, Copy)]
 pub enum Answer {
     Is(Item),
     Refused(Refusal),

@@ -8,13 +8,13 @@ use layout::items::{Count, ItemPlace, item_at, number_of};
 use wire::numbers::{byte_at, number16_at};
 use wire::parts::part;
 
-#[derive(Drop)]
+#[derive(Clone, Copy)]
 pub struct Item {
     pub service_id: u16,
     pub service_type: u8,
 }
 
-#[derive(Drop)]
+#[derive(Clone, Copy)]
 pub enum Answer {
     Is(Item),
     Refused(Refusal),

@@ -3,7 +3,7 @@ ghost use Rattle.std.specs.Prelude.{◌≡◌};
 ghost use Rattle.loops.specs.Descriptors.{step_at, told_step, Steps, descriptor_of};
 
 // What stands at a place of a loop.
-#[derive(Drop)]
+#[derive(Clone, Copy)]
 pub enum Step {
     // A descriptor: its tag, the place of its body and the body's size.
     Descriptor { tag: u8, start: usize, size: usize },
@@ -38,7 +38,7 @@ pub fn step_at(bytes: &[u8], at: usize) -> Step
 }
 
 // A step, and the place at which the walk then stands.
-#[derive(Drop)]
+#[derive(Clone, Copy)]
 pub struct Stepped {
     pub step: Step,
     pub at: usize,
@@ -84,7 +84,7 @@ pub fn descriptor<'a>(bytes: &'a [u8], step: Step) -> &'a [u8]
 }
 
 // A walk over one loop: the loop's bytes, and the place in them at which the walk stands.
-#[derive(Drop)]
+#[derive(Clone, Copy)]
 pub struct Walk<'a> {
     pub bytes: &'a [u8],
     pub at: usize,

@@ -1,4 +1,6 @@
 // A packet by itself: whether it is refused, and where its payload begins.
+#![tactic(auto)]
+
 mod header;
 
 ghost use Rattle.std.specs.Prelude.{◌≡◌, false};
@@ -6,7 +8,7 @@ ghost use Rattle.packet.specs.Refusals.{judged};
 ghost use Rattle.packet.specs.Judgement.{meant};
 
 // Refusals 41 to 49, in document 01's order. 42 and 43 are given by who has the rooms and the record.
-#[derive(Drop)]
+#[derive(Clone, Copy)]
 pub enum Refusal {
     NotAPacket,
     Room,
@@ -21,7 +23,7 @@ pub enum Refusal {
 
 // What a packet is, whether or not it is a repeated one: refused, taken with no payload, or with payload from an index on.
 // splice: discontinuity_indicator is set.
-#[derive(Drop)]
+#[derive(Clone, Copy)]
 pub enum Judgement {
     Refuse(Refusal),
     Bare {

@@ -4,7 +4,7 @@ ghost use Rattle.parts.specs.Descriptors.{no_descriptor, descriptor_at, next_des
 
 use crate::{Part, is_within};
 
-#[derive(Drop)]
+#[derive(Clone, Copy)]
 pub struct Descriptor {
     // Whether there is one; where there is none, the tag is 0 and the parts but for the rest are of no size.
     pub found: bool,

@@ -6,7 +6,7 @@ ghost use Rattle.parts.specs.Entries.{no_entry, entry_at, next_entry};
 use crate::{Part, is_within};
 use tables::{row_at, row_of};
 
-#[derive(Drop)]
+#[derive(Clone, Copy)]
 pub struct Entry {
     // Whether there is one; where there is none, the parts but for the rest are of no size.
     pub found: bool,

@@ -1,5 +1,7 @@
 // The parts of a section, each by its place and its size, so that a caller adds up no lengths: the loops, the entries in turn, the
 // descriptors in turn; and the sections that stand end to end in a room.
+#![tactic(auto)]
+
 ghost use Rattle.std.specs.Prelude.{◌≡◌};
 ghost use Rattle.parts.specs.Parts.{no_part, within};
 
@@ -10,7 +12,7 @@ pub mod opening;
 pub mod room;
 
 // A part of bytes, its start counted from the first byte as 0.
-#[derive(Drop)]
+#[derive(Clone, Copy)]
 pub struct Part {
     pub start: usize,
     pub size: usize,

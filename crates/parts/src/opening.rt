@@ -8,7 +8,7 @@ use tables::{Row, is_numbered, row_at, row_of};
 use verdict::{Verdict, is_accepted};
 
 // The judge's verdict; where it is a refusal, every part is of no size.
-#[derive(Drop)]
+#[derive(Clone, Copy)]
 pub struct Opened {
     pub verdict: Verdict,
     // UTC_time of TDT and TOT.

@@ -4,7 +4,7 @@ ghost use Rattle.parts.specs.Room.{no_section, section_at, next_section};
 
 use crate::{Part, is_within};
 
-#[derive(Drop)]
+#[derive(Clone, Copy)]
 pub struct Section {
     // Whether there is one; where there is none, `whole` is of no size.
     pub found: bool,

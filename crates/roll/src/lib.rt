@@ -1,4 +1,6 @@
 // The roll: which sections of a sub-table have come, and the smallest number that has not.
+#![tactic(auto)]
+
 ghost use Rattle.std.specs.Prelude.{◌≡◌};
 ghost use Rattle.roll.specs.Answer.{told_answer};
 ghost use Rattle.roll.specs.Roll.{empty_roll, asked, taking, heard};
@@ -11,14 +13,14 @@ pub mod segments;
 pub mod stepping;
 
 // segment_last_section_number of a segment. 255 is the end of the last one, so that "unknown" is a case of its own.
-#[derive(Drop)]
+#[derive(Clone, Copy)]
 pub enum End {
     Unknown,
     At(u8),
 }
 
 // Eight section numbers: which of them have come, and where a schedule's segment ends.
-#[derive(Drop)]
+#[derive(Clone, Copy)]
 pub struct Segment {
     // Of tables other than schedules it means nothing.
     pub end: End,
@@ -26,12 +28,12 @@ pub struct Segment {
 }
 
 // "thirty-two segments of eight sections": segment k has the numbers from 8k to 8k + 7.
-#[derive(Drop)]
+#[derive(Clone, Copy)]
 pub struct Marks {
     pub segments: [Segment; 32],
 }
 
-#[derive(Drop)]
+#[derive(Clone, Copy)]
 pub struct Roll {
     // False for an empty roll, whose other fields mean nothing.
     pub begun: bool,
@@ -43,7 +45,7 @@ pub struct Roll {
     pub marks: Marks,
 }
 
-#[derive(Drop)]
+#[derive(Clone, Copy)]
 pub enum Answer {
     // The smallest number that has not come.
     Missing(u8),
@@ -62,7 +64,7 @@ pub enum Answer {
 }
 
 // What a section does to a roll: a refusal, or it is taken.
-#[derive(Drop)]
+#[derive(Clone, Copy)]
 pub enum Course {
     Refused(Answer),
     // Whether it goes on with what has come, or starts afresh.
@@ -70,7 +72,7 @@ pub enum Course {
 }
 
 // The roll after a section, and its answer.
-#[derive(Drop)]
+#[derive(Clone, Copy)]
 pub struct Step {
     pub roll: Roll,
     pub answer: Answer,

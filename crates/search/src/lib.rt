@@ -1,4 +1,6 @@
 // A search for a tag in a section.
+#![tactic(auto)]
+
 ghost use Rattle.std.specs.Prelude.{◌≡◌, ◌≤◌, drop};
 ghost use Rattle.verdict.specs.Verdict.{accepted};
 ghost use Rattle.tables.specs.Tables.{FixedTwo};
@@ -13,7 +15,7 @@ use tables::{Row, row_at, row_of};
 use verdict::{Verdict, is_accepted};
 
 // What a search answers.
-#[derive(Drop)]
+#[derive(Clone, Copy)]
 pub enum Found {
     // The loop's number, 0 for the top loop and else the entry's from 1; the place of the body and its size.
     Hit {

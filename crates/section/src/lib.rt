@@ -1,3 +1,5 @@
 // Sections: whether bytes are one.
+#![tactic(auto)]
+
 mod entries;
 pub mod judge;

@@ -1,4 +1,6 @@
 // Content sheets: whether bytes are one.
+#![tactic(auto)]
+
 ghost use Rattle.std.specs.Prelude.{◌≡◌};
 ghost use Rattle.sheet.specs.Reads.{told, judged_sheet};
 ghost use Rattle.sheet.specs.Inner.Places.{Known};
@@ -8,7 +10,7 @@ mod read;
 mod size;
 
 // What is said of a sheet.
-#[derive(Drop)]
+#[derive(Clone, Copy)]
 pub enum Judged {
     // The section_length of its section.
     Fits(usize),
@@ -25,7 +27,7 @@ pub enum Judged {
 }
 
 // How a reading from a place of a sheet ended: the place behind what was read, 22 or 24.
-#[derive(Drop)]
+#[derive(Clone, Copy)]
 enum End {
     At(usize),
     EndsEarly,

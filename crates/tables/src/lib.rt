@@ -1,4 +1,6 @@
 // Document 01, "Tables that are known": six rows, which judge and writer both consult.
+#![tactic(auto)]
+
 ghost use Rattle.std.specs.Prelude.{◌≡◌, get_or};
 ghost use Rattle.tables.specs.Tables.{between, holds, is_numbered, row_of, beside_ids, row_at};
 
@@ -29,7 +31,7 @@ const ROWS: [[usize; 11]; 6] = [
 ];
 
 // What a row says of its tables beside their ids.
-#[derive(Drop)]
+#[derive(Clone, Copy)]
 pub struct Row {
     pub syntax: usize,
     pub least: usize,

@@ -8,14 +8,14 @@ use layout::{Part, Refusal};
 use wire::numbers::byte_at;
 use wire::parts::after;
 
-#[derive(Drop)]
+#[derive(Clone, Copy)]
 pub struct Service {
     pub service_type: u8,
     pub service_provider_name: Part,
     pub service_name: Part,
 }
 
-#[derive(Drop)]
+#[derive(Clone, Copy)]
 pub enum Answer {
     Is(Service),
     Refused(Refusal),

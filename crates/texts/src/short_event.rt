@@ -8,7 +8,7 @@ use layout::{Part, Refusal};
 use wire::numbers::number24_at;
 use wire::parts::after;
 
-#[derive(Drop)]
+#[derive(Clone, Copy)]
 pub struct ShortEvent {
     // Three characters, the first the highest byte.
     pub language_code: u32,
@@ -16,7 +16,7 @@ pub struct ShortEvent {
     pub text: Part,
 }
 
-#[derive(Drop)]
+#[derive(Clone, Copy)]
 pub enum Answer {
     Is(ShortEvent),
     Refused(Refusal),

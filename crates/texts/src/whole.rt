@@ -5,7 +5,7 @@ ghost use Rattle.texts.specs.Whole.{whole, told};
 use layout::body::{Body, any, size};
 use layout::{Part, Refusal};
 
-#[derive(Drop)]
+#[derive(Clone, Copy)]
 pub enum Answer {
     Is(Part),
     Refused(Refusal),

@@ -1,4 +1,6 @@
 // Document 01, "Content sheets": a sheet becomes a section, and a section a sheet.
+#![tactic(auto)]
+
 ghost use Rattle.turn.specs.Promise.{ToSection, ToSheet};
 
 use section::judge::judge;
@@ -17,7 +19,7 @@ mod pieces;
 mod whole;
 
 // What turning a sheet into a section answers.
-#[derive(Drop)]
+#[derive(Clone, Copy)]
 pub enum SectionAnswer {
     // The section's bytes, at the room's start.
     Wrote(usize),
@@ -36,7 +38,7 @@ pub enum SectionAnswer {
 }
 
 // What turning a section into a sheet answers.
-#[derive(Drop)]
+#[derive(Clone, Copy)]
 pub enum SheetAnswer {
     // The sheet's bytes, at the room's start.
     Wrote(usize),

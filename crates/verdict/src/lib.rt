@@ -1,8 +1,10 @@
 // What the judge answers, and document 01's number and place for it.
+#![tactic(auto)]
+
 ghost use Rattle.std.specs.Prelude.{◌≡◌};
 ghost use Rattle.verdict.specs.Verdict.{told, is_accepted, number_of, place_of};
 
-#[derive(Drop)]
+#[derive(Clone, Copy)]
 pub enum Verdict {
     Accepted,
     // 1: fewer than 3 bytes.

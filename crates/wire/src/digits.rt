@@ -2,7 +2,7 @@
 ghost use Rattle.std.specs.Prelude.{◌≡◌};
 ghost use Rattle.wire.specs.Digits.{bcd_of, told};
 
-#[derive(Drop)]
+#[derive(Clone, Copy)]
 pub enum Digits {
     Value(u32),
     // The place of the first digit above 9, the highest of the n as 0.

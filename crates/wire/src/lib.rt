@@ -1,4 +1,6 @@
 // Bytes as numbers: what every layer above reads off the wire.
+#![tactic(auto)]
+
 ghost use Rattle.std.specs.Prelude.{◌≡◌, ◌-◌};
 ghost use Rattle.wire.specs.Bytes.{Below, len12, len12_at};
 

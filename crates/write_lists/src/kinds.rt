@@ -2,7 +2,7 @@
 ghost use Rattle.std.specs.Prelude.{◌≡◌, ◌<◌};
 ghost use Rattle.write_lists.specs.Inner.Kinds.{tag_of, row_size, high_size, low_size, item_size};
 
-#[derive(Drop)]
+#[derive(Clone, Copy)]
 pub enum Kind {
     ServiceList,
     Content,
@@ -11,7 +11,7 @@ pub enum Kind {
 }
 
 // An item's bytes as two numbers, the one behind the other.
-#[derive(Drop)]
+#[derive(Clone, Copy)]
 pub enum Piece {
     Is { high: u64, low: u64 },
     // A field outside its layout.

@@ -7,7 +7,7 @@ use writing::digits::to_bcd;
 use writing::rows::sized_at;
 
 // Bits of an item, or a number outside its field.
-#[derive(Drop)]
+#[derive(Clone, Copy)]
 pub enum Bits {
     Are(u64),
     Outside,

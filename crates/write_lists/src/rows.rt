@@ -15,7 +15,7 @@ use writing::Written;
 use writing::numbers::put_number;
 
 // The rows of some numbers.
-#[derive(Drop)]
+#[derive(Clone, Copy)]
 pub enum Count {
     Rows(usize),
     // 112: numbers that are no row, or a row that is no item.

@@ -4,14 +4,14 @@ ghost use Rattle.writer.specs.Layout.{sum, bytes_ahead, opened, least, turn_with
 ghost use Rattle.writer.specs.Inner.{ahead_of, turn_said, Few, Leaps};
 
 // The bytes left of the section begun, and the index of the first section that waits.
-#[derive(Drop)]
+#[derive(Clone, Copy)]
 pub struct Ahead {
     pub left: usize,
     pub next: usize,
 }
 
 // A packet: its start flag, its pointer, and the bytes of sections in it.
-#[derive(Drop)]
+#[derive(Clone, Copy)]
 pub struct Turn {
     pub start: bool,
     pub left: usize,
@@ -81,7 +81,7 @@ pub fn open_next(n: usize, a: Ahead, sizes: &[usize]) -> Ahead
 }
 
 // Some packets more: how many, the bytes of sections in them, and what is then ahead.
-#[derive(Drop)]
+#[derive(Clone, Copy)]
 struct Leap {
     packets: usize,
     bytes: usize,

@@ -1,4 +1,6 @@
 // Request (ii): sections, a PID and a first counter go in, and packets of 188 bytes come out.
+#![tactic(auto)]
+
 mod cut;
 mod layout;
 mod packets;
@@ -8,7 +10,7 @@ ghost use Rattle.writer.specs.Answer.{came};
 ghost use Rattle.writer.specs.Written.{written};
 
 // What a call answers.
-#[derive(Drop)]
+#[derive(Clone, Copy)]
 pub enum Answer {
     // How many packets stand at the room's start.
     Written { packets: usize },

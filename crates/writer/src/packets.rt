@@ -85,7 +85,7 @@ fn put_full(room: &mut [u8], at: usize, pid: u16, counter: u8, sections: &[u8], 
 }
 
 // What a packet leaves: the bytes of sections in it, and what is then ahead.
-#[derive(Drop)]
+#[derive(Clone, Copy)]
 struct Put {
     bytes: usize,
     ahead: Ahead,

@@ -1,10 +1,12 @@
 // What the writers of descriptors share: the answer, numbers as bytes, numbers in BCD, numbers of either sign.
+#![tactic(auto)]
+
 pub mod digits;
 pub mod numbers;
 pub mod rows;
 
 // What a writer answers.
-#[derive(Drop)]
+#[derive(Clone, Copy)]
 pub enum Written {
     // The descriptor's bytes, at the room's start.
     Wrote(usize),

@@ -3,7 +3,7 @@ ghost use Rattle.std.specs.Prelude.{◌≡◌, get_or, pos};
 ghost use Rattle.writing.specs.Rows.{sized};
 
 // A number by its sign and its size.
-#[derive(Drop)]
+#[derive(Clone, Copy)]
 pub struct Sized {
     pub below_zero: bool,
     pub size: u32,

@@ -1,0 +1,11 @@
+-- `account::tally::enter` meets its contract.
+use Rattle.std.proofs.Common.{ap, ◌∙◌, rules}
+use Rattle.account.specs.Entered.{kept_as, entered_as}
+use Rattle.account.proofs.tally.enter.Goals as goal
+
+pub returns : goal.returns
+returns c =
+    let args = c.args in
+    let a = args.a in
+    (λ i. kept_as (c.one_more.ensures i) c.step-s.new.1.0 c.step-s.new.1.1.0)
+    ∙ ap (entered_as a) c.step-s.ensures

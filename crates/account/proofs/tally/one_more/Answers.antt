@@ -1,0 +1,50 @@
+-- `account::tally::one_more` meets its contract.
+use Rattle.std.proofs.Common.{sym, ap, ◌∙◌, rules}
+use Rattle.collector.specs.Answer.{told}
+use Rattle.collector.specs.declared.Answer.{Answer}
+use Rattle.account.specs.Entered.{tallied}
+use Rattle.account.specs.declared.tally.Account.{Account}
+use Rattle.account.proofs.tally.one_more.Goals as goal
+use Rattle.account.proofs.tally.one_more.Goals.{Start}
+
+abbrev after : tie.Start → Answer → Account
+after s answer = tallied s.args.a s.args.rec (told answer)
+
+pub returns-in-Refused : goal.returns-in-Refused
+returns-in-Refused c =
+    let a = c.args.a in
+    (λ i.
+    record {
+      rec = c.args.rec;
+      taken = a.taken;
+      repeated = a.repeated;
+      refused = c.wrapping_add_u64.ensures i;
+      sections = a.sections;
+    })
+    ∙ sym (ap (after (goal.at.returns-in-Refused c).Start) c.enum_told-1.given.1)
+
+pub returns-in-Repeated : goal.returns-in-Repeated
+returns-in-Repeated c =
+    let a = c.args.a in
+    (λ i.
+    record {
+      rec = c.args.rec;
+      taken = a.taken;
+      repeated = c.wrapping_add_u64-in-Repeated.ensures i;
+      refused = a.refused;
+      sections = a.sections;
+    })
+    ∙ sym (ap (after (goal.at.returns-in-Repeated c).Start) c.enum_told-in-Repeated-1.given.1)
+
+pub returns-in-Taken : goal.returns-in-Taken
+returns-in-Taken c =
+    let a = c.args.a in
+    (λ i.
+    record {
+      rec = c.args.rec;
+      taken = c.wrapping_add_u64-in-Taken.ensures i;
+      repeated = a.repeated;
+      refused = a.refused;
+      sections = c.wrapping_add_u64-in-Taken-2.ensures i;
+    })
+    ∙ sym (ap (after (goal.at.returns-in-Taken c).Start) c.answer-1.given.1)

@@ -1,0 +1,6 @@
+-- The fresh record in numbers.
+use borrow.Author.Rules.{rules}
+use Rattle.cabinet.proofs.collect.lohitunga_fresh.Goals as goal
+
+pub returns : goal.returns
+returns c = rw (c.record_after.ensures, c.fresh.ensures)

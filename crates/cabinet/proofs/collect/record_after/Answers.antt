@@ -1,0 +1,6 @@
+-- Field by field.
+use borrow.Author.Rules.{rules}
+use Rattle.cabinet.proofs.collect.record_after.Goals as goal
+
+pub returns : goal.returns
+returns c = rw (c.mark_says.ensures, c.last_says.ensures)

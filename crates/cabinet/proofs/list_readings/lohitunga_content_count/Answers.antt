@@ -1,0 +1,6 @@
+-- How many items, or the refusal.
+use borrow.Author.Rules.{rules}
+use Rattle.cabinet.proofs.list_readings.lohitunga_content_count.Goals as goal
+
+pub returns : goal.returns
+returns c = rw (c.count_of.ensures, c.count.ensures)

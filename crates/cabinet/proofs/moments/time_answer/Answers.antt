@@ -1,0 +1,11 @@
+-- The time, or the refusal.
+use borrow.Author.Rules.{rules}
+use Rattle.cabinet.proofs.moments.time_answer.Goals as goal
+
+pub returns-in-Is : goal.returns-in-Is
+returns-in-Is c = rw (c.answer-1.given.1, c.moment_of.ensures)
+
+pub returns-in-Refused : goal.returns-in-Refused
+returns-in-Refused c =
+    let why = c.of_fault-why.ensures in
+    rw (c.answer-in-Refused-1.given.1, why, c.no_moment.ensures)

@@ -1,0 +1,15 @@
+-- Case by case.
+use borrow.Author.Rules.{rules}
+use Rattle.cabinet.proofs.numbers.why_of.Goals as goal
+
+pub returns-in-WrongTag : goal.returns-in-WrongTag
+returns-in-WrongTag c = rw c.enum_told-1.given.1 c.plain.ensures
+
+pub returns-in-DoesNotFit : goal.returns-in-DoesNotFit
+returns-in-DoesNotFit c = rw c.enum_told-in-DoesNotFit-1.given.1 c.plain-in-DoesNotFit.ensures
+
+pub returns-in-PastEnd : goal.returns-in-PastEnd
+returns-in-PastEnd c = rw c.enum_told-in-PastEnd-1.given.1 c.plain-in-PastEnd.ensures
+
+pub returns-in-Field : goal.returns-in-Field
+returns-in-Field c = rw c.refusal-1.given.1 c.of_fault.ensures

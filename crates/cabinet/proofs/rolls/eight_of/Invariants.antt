@@ -1,0 +1,16 @@
+-- The invariant: the first i are there.
+use Prim.Native.Nat.{◌-◌, ◌≤◌}
+use mathlib.Core.Path.{◌≡◌, refl, ◌∙◌}
+use mathlib.Core.Bool.{false}
+use native.Mathlib.Omega.{arith}
+use lib.ListN.{length, get_or, length-set}
+use Prim.Native.Nat.{◌+◌, ◌*◌}
+use Rattle.cabinet.specs.Inner.Rolls.{eight_of}
+use Rattle.cabinet.proofs.TableLaws.{Filled, filled_none, filled_more, filled_all}
+use Rattle.cabinet.proofs.rolls.eight_of.Given as goal
+
+abbrev pub invariant-loop-i : goal.invariant-loop-i
+invariant-loop-i l = (l.i ≤ 8) × (length l.eight ≡ 8) × Filled (λ j. get_or l.flags (l.k * 8 + j) false) l.eight l.i
+
+abbrev pub decreases-loop-i : goal.decreases-loop-i
+decreases-loop-i l = 8 - l.i

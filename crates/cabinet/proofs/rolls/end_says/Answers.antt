@@ -1,0 +1,12 @@
+-- Case by case.
+use Rattle.cabinet.specs.Roll.{end_says}
+use borrow.Author.Rules.{rules}
+use Rattle.cabinet.proofs.rolls.end_says.Goals as goal
+
+pub returns-in-Unknown : goal.returns-in-Unknown
+unfolding end_says
+returns-in-Unknown c = rw c.enum_told-1.given.1
+
+pub returns-in-At : goal.returns-in-At
+unfolding end_says
+returns-in-At c = rw c.end-1.given.1

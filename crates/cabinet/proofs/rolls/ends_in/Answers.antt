@@ -1,0 +1,35 @@
+-- The invariant: the first k are there.
+use Prim.Native.Nat.{◌-◌, ◌≤◌}
+use mathlib.Core.Path.{◌≡◌, refl, ◌∙◌}
+use mathlib.Core.Logic.{⊎_elim}
+use native.Mathlib.Omega.{arith}
+use lib.ListN.{length, get_or, length-set}
+use Rattle.wire.specs.If.{if◌then◌else◌}
+use Rattle.cabinet.specs.Numbers.{is_set}
+use Rattle.cabinet.specs.Inner.Rolls.{ends_settled}
+use Rattle.cabinet.proofs.TableLaws.{Filled, filled_none, filled_more, filled_all}
+use borrow.Author.Tests.{eq-eqb, ne_eqb}
+use Rattle.cabinet.proofs.rolls.ends_in.Goals as goal
+use Rattle.cabinet.proofs.rolls.ends_in.Goals.{Joined-known-k-ne0}
+
+-- what is put there
+is : (b : Joined-known-k-ne0) → let args = b.args in
+    b.if-known-k-ne0.numbers ≡ (if is_set (get_or args.known.now b.loop-k.k 0) then get_or args.end.now b.loop-k.k 0 else 0)
+is b = ⊎_elim (λ w. rw (ne_eqb _ _ w.0.taken) w.2) (λ w. rw (eq-eqb _ _ w.0.left) w.1) b.if-known-k-ne0.branch
+
+pub loop-k-init : goal.loop-k-init
+loop-k-init c = (omega arith, refl, filled_none _)
+
+pub loop-k-preserved : goal.loop-k-preserved
+loop-k-preserved c =
+    let l = c.loop-k in (
+      omega arith,
+      length-set l.numbers l.k _ ∙ l.inv.1,
+      filled_more _ l.numbers l.k _ (omega arith) (is (goal.at.loop-k-preserved c).Joined-known-k-ne0) l.inv.2,
+    )
+
+pub returns : goal.returns
+unfolding ends_settled
+returns c =
+    let l = c.loop-k in
+    filled_all _ l.numbers l.k 32 l.invariant.1 (omega arith) (omega arith) l.invariant.2

@@ -1,0 +1,36 @@
+-- The invariant: the first k are there.
+use Prim.Native.Nat.{◌-◌, ◌≤◌}
+use mathlib.Core.Path.{◌≡◌, refl, ap, ◌∙◌}
+use mathlib.Core.Logic.{⊎_elim}
+use mathlib.Core.Bool.{false}
+use native.Mathlib.Omega.{arith}
+use lib.ListN.{length, get_or, length-set}
+use Rattle.wire.specs.If.{if◌then◌else◌}
+use Rattle.cabinet.specs.Numbers.{bit, is_set}
+use Rattle.cabinet.specs.Inner.Rolls.{known_kept}
+use Rattle.cabinet.proofs.TableLaws.{Filled, filled_none, filled_more, filled_all}
+use borrow.Author.Rules.{rules}
+use Rattle.cabinet.proofs.rolls.known_in.Goals as goal
+use Rattle.cabinet.proofs.rolls.known_in.Goals.{Joined-keep}
+
+-- whether it is set there
+is : (b : Joined-keep) → let args = b.args in
+    b.if-keep.of-flag ≡ (if args.keep then is_set (get_or args.known.now b.loop-k.k 0) else false)
+is b = ⊎_elim (λ w. rw w.0.taken w.2) (λ w. rw w.0.left w.1) b.if-keep.branch
+
+pub loop-k-init : goal.loop-k-init
+loop-k-init c = (omega arith, refl, filled_none _)
+
+pub loop-k-preserved : goal.loop-k-preserved
+loop-k-preserved c =
+    let l = c.loop-k in (
+      omega arith,
+      length-set l.numbers l.k _ ∙ l.inv.1,
+      filled_more _ l.numbers l.k _ (omega arith) (c.of_flag.ensures ∙ ap bit (is (goal.at.loop-k-preserved c).Joined-keep)) l.inv.2,
+    )
+
+pub returns : goal.returns
+unfolding known_kept
+returns c =
+    let l = c.loop-k in
+    filled_all _ l.numbers l.k 32 l.invariant.1 (omega arith) (omega arith) l.invariant.2

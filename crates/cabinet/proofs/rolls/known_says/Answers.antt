@@ -1,0 +1,12 @@
+-- Case by case.
+use Rattle.cabinet.specs.Roll.{known_says}
+use borrow.Author.Rules.{rules}
+use Rattle.cabinet.proofs.rolls.known_says.Goals as goal
+
+pub returns-in-Unknown : goal.returns-in-Unknown
+unfolding known_says
+returns-in-Unknown c = rw c.enum_told-1.given.1
+
+pub returns-in-At : goal.returns-in-At
+unfolding known_says
+returns-in-At c = rw c.enum_told-in-At-1.given.1

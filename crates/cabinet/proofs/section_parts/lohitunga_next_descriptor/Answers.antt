@@ -1,0 +1,14 @@
+-- A descriptor, or none, as the walk tells it.
+use borrow.Author.Rules.{rules}
+use Rattle.cabinet.proofs.section_parts.lohitunga_next_descriptor.Goals as goal
+
+pub returns : goal.returns
+returns c =
+    rw (
+      c.part_says-3.ensures,
+      c.part_says-2.ensures,
+      c.part_Says.ensures,
+      c.of_flag.ensures,
+      c.next_descriptor-next.ensures,
+      c.part_in.ensures,
+    )

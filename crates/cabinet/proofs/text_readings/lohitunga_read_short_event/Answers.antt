@@ -1,0 +1,11 @@
+-- The language, the name and the text, or the refusal.
+use borrow.Author.Rules.{rules}
+use Rattle.cabinet.proofs.text_readings.lohitunga_read_short_event.Goals as goal
+
+pub returns-in-Is : goal.returns-in-Is
+returns-in-Is c =
+    rw (← c.read.ensures, c.read-1.given.1, c.short_event_of.ensures)
+
+pub returns-in-Refused : goal.returns-in-Refused
+returns-in-Refused c =
+    rw (← c.read.ensures, c.why-1.given.1, c.of_refusal.ensures, c.no_short_event.ensures)

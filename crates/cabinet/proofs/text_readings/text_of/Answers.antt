@@ -1,0 +1,9 @@
+-- The bytes, or the refusal.
+use borrow.Author.Rules.{rules}
+use Rattle.cabinet.proofs.text_readings.text_of.Goals as goal
+
+pub returns-in-Is : goal.returns-in-Is
+returns-in-Is c = rw (c.answer-1.given.1, c.part_of.ensures)
+
+pub returns-in-Refused : goal.returns-in-Refused
+returns-in-Refused c = rw (c.answer-in-Refused-1.given.1, c.of_refusal.ensures, c.no_part.ensures)

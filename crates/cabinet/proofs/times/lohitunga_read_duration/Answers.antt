@@ -1,0 +1,6 @@
+-- The duration that is read, as an answer.
+use borrow.Author.Rules.{rules}
+use Rattle.cabinet.proofs.times.lohitunga_read_duration.Goals as goal
+
+pub returns : goal.returns
+returns c = rw (← c.read.ensures) c.duration_answer.ensures

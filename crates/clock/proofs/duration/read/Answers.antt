@@ -1,0 +1,12 @@
+-- A duration is the clock with hours to 99.
+use Rattle.clock.specs.Duration.{duration_of}
+use borrow.Author.Rules.{rules}
+use Rattle.clock.proofs.duration.read.Goals as goal
+
+pub returns-in-Refused : goal.returns-in-Refused
+unfolding duration_of
+returns-in-Refused c = rw (← c.six_digits.ensures, c.f-1.given.1)
+
+pub returns-in-Is : goal.returns-in-Is
+unfolding duration_of
+returns-in-Is c = rw (← c.six_digits.ensures, c.clock-1.given.1)

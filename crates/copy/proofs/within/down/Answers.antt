@@ -1,0 +1,51 @@
+-- The invariant: the first i bytes are moved, in whole blocks.
+use mathlib.Core.Path.{◌≡◌, refl, ◌∙◌}
+use mathlib.Core.List.{List}
+use Prim.Native.Nat.{ℕ, ◌-◌, ◌≤◌}
+use native.Mathlib.Omega.{arith}
+use borrow.Author.Rules.{rules}
+use lib.ListN.{length, drop}
+use lib.Seq.{paste, paste-zero}
+use Rattle.copy.proofs.Moves.{down_on, down_ends}
+use Rattle.copy.proofs.within.down.Goals as goal
+use Rattle.copy.proofs.within.down.Goals.{After-singly, At-loop-i, Start}
+
+-- at the loop
+module _ (w : At-loop-i) where
+  abbrev o : List ℕ
+
+  o = w.args.room.now
+
+  abbrev from : ℕ
+
+  from = w.args.from
+
+  abbrev to : ℕ
+
+  to = w.args.to
+
+  abbrev n : ℕ
+
+  n = w.args.n
+
+pub loop-i-init : goal.loop-i-init
+loop-i-init c =
+    let a = c.args in
+    (omega arith, paste-zero a.room.now a.to (drop a.from a.room.now), refl)
+
+pub loop-i-preserved : goal.loop-i-preserved
+loop-i-preserved c =
+    let l = c.loop-i in (
+      omega arith,
+      c.block.ensures
+          ∙ down_on (o (goal.at.loop-i-preserved c).At-loop-i) (from (goal.at.loop-i-preserved c).At-loop-i) (to (goal.at.loop-i-preserved c).At-loop-i) ((goal.at.loop-i-preserved c).Start).requires.1 l.room l.i (omega arith) l.invariant.1,
+      search rules,
+    )
+
+pub returns : goal.returns
+returns c =
+    let l = c.loop-i in
+    let p = ((goal.at.returns c).Start).requires in
+    c.singly-2.ensures
+    ∙ down_ends (o (goal.at.returns c).At-loop-i) (from (goal.at.returns c).At-loop-i) (to (goal.at.returns c).At-loop-i) p.1 l.room _ l.i (n (goal.at.returns c).At-loop-i) p.0 p.2 l.invariant.0 (omega arith)
+    l.invariant.1 ((goal.at.returns c).After-singly).singly.ensures

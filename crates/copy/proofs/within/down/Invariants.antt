@@ -1,0 +1,17 @@
+-- The invariant: the first i bytes are moved, in whole blocks.
+use mathlib.Core.Path.{◌≡◌, refl, ◌∙◌}
+use mathlib.Core.List.{List}
+use Prim.Native.Nat.{ℕ, ◌-◌, ◌≤◌}
+use native.Mathlib.Omega.{arith}
+use borrow.Author.Rules.{rules}
+use lib.ListN.{length, drop}
+use lib.Seq.{paste, paste-zero}
+use Rattle.copy.proofs.Moves.{down_on, down_ends}
+use Rattle.copy.proofs.within.down.Given as goal
+
+abbrev pub invariant-loop-i : goal.invariant-loop-i
+invariant-loop-i l = (l.i ≤ l.to) × (l.room ≡ paste l.from l.last (drop l.n l.from) l.i)
+    × (length l.room ≡ length l.from)
+
+abbrev pub decreases-loop-i : goal.decreases-loop-i
+decreases-loop-i l = l.to - l.i

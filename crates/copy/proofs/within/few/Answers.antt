@@ -1,0 +1,13 @@
+-- Through a room of 32 bytes.
+use mathlib.Core.Path.{◌∙◌}
+use borrow.Author.Rules.{rules}
+use Rattle.copy.proofs.Moves.{through_held}
+use Rattle.copy.proofs.within.few.Goals as goal
+use Rattle.copy.proofs.within.few.Goals.{Start}
+
+pub returns : goal.returns
+returns c =
+    let start = (goal.at.returns c).Start in
+    let a = start.args in
+    c.singly-2.ensures
+    ∙ through_held a.room.now a.room.now _ a.from a.to a.n 32 start.requires.1 c.singly.ensures

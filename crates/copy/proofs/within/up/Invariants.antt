@@ -1,0 +1,17 @@
+-- The invariant: the bytes from i on are moved, in whole blocks.
+use mathlib.Core.Path.{◌≡◌, refl, ◌∙◌}
+use mathlib.Core.List.{List}
+use Prim.Native.Nat.{ℕ, ◌+◌, ◌-◌, ◌≤◌}
+use native.Mathlib.Omega.{arith}
+use borrow.Author.Rules.{rules}
+use lib.ListN.{length, drop}
+use lib.Seq.{paste}
+use Rattle.copy.proofs.Moves.{none_moved, up_on, up_ends}
+use Rattle.copy.proofs.within.up.Given as goal
+
+abbrev pub invariant-loop-i : goal.invariant-loop-i
+invariant-loop-i l = (l.i ≤ l.to) × (l.room ≡ paste l.from (l.first + l.i) (drop (l.n + l.i) l.from) (l.to - l.i))
+    × (length l.room ≡ length l.from)
+
+abbrev pub decreases-loop-i : goal.decreases-loop-i
+decreases-loop-i l = l.i

@@ -1,0 +1,50 @@
+-- Frequency, position and symbol rate left to right, then the fields that cannot be refused.
+use Rattle.delivery.specs.Satellite.{fields}
+use borrow.Author.Rules.{rules}
+use Rattle.delivery.proofs.satellite.fields_of.Goals as goal
+
+pub returns-in-Refused : goal.returns-in-Refused
+unfolding fields
+returns-in-Refused c =
+    let digits-at = c.digits_at-frequency in
+    rw (← digits-at.ensures, c.frequency-1.given.1)
+
+pub returns-in-Refused-orbital : goal.returns-in-Refused-orbital
+unfolding fields
+returns-in-Refused-orbital c =
+    let digits-at = c.digits_at-frequency in
+    rw (
+      ← digits-at.ensures,
+      c.frequency-in-Is-1.given.1,
+      ← c.digits_at-orbital.ensures,
+      c.orbital-1.given.1,
+    )
+
+pub returns-in-Refused-rate : goal.returns-in-Refused-rate
+unfolding fields
+returns-in-Refused-rate c =
+    let digits-at2 = c.digits_at-orbital in
+    let digits-at = c.digits_at-frequency in
+    rw (
+      ← digits-at.ensures,
+      c.frequency-in-Is-1.given.1,
+      ← digits-at2.ensures,
+      c.orbital-in-Is-1.given.1,
+      ← c.digits_at-rate.ensures,
+      c.rate-1.given.1,
+    )
+
+pub returns-in-Is-rate : goal.returns-in-Is-rate
+unfolding fields
+returns-in-Is-rate c =
+    let digits-at2 = c.digits_at-orbital in
+    let digits-at = c.digits_at-frequency in
+    rw (
+      ← digits-at.ensures,
+      c.frequency-in-Is-1.given.1,
+      ← digits-at2.ensures,
+      c.orbital-in-Is-1.given.1,
+      ← c.digits_at-rate.ensures,
+      c.rate-in-Is-orbital-1.given.1,
+      c.satellite_of.ensures,
+    )

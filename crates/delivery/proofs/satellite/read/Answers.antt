@@ -1,0 +1,19 @@
+-- The layout's refusal, or the fields of the body.
+use Rattle.delivery.specs.Satellite.{satellite}
+use borrow.Author.Rules.{rules}
+use Rattle.delivery.proofs.satellite.read.Goals as goal
+
+pub returns-in-Refused : goal.returns-in-Refused
+unfolding satellite
+returns-in-Refused c = rw (← c.sized.ensures, c.why-1.given.1)
+
+pub returns-in-Fits : goal.returns-in-Fits
+unfolding satellite
+returns-in-Fits c =
+    let sized = c.sized in
+    rw (
+      ← sized.ensures,
+      c.enum_told-1.given.1,
+      ← c.after.ensures,
+    )
+    c.fields_of.ensures

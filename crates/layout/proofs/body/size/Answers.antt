@@ -1,0 +1,8 @@
+-- What follows the first two bytes, counted.
+use lib.ListN.{length}
+use mathlib.Core.Path.{ap}
+use borrow.Author.Rules.{rules}
+use Rattle.layout.proofs.body.size.Goals as goal
+
+pub returns : goal.returns
+returns c = ap length c.after.ensures

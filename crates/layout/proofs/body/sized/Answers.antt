@@ -1,0 +1,21 @@
+-- A body of a fixed size fits exactly if it has that size.
+use borrow.Author.Tests.{eq-eqb, ne_eqb}
+use Rattle.layout.specs.Body.{fixed}
+use borrow.Author.Rules.{rules}
+use Rattle.layout.proofs.body.sized.Goals as goal
+
+pub returns-in-Refused : goal.returns-in-Refused
+unfolding fixed
+returns-in-Refused c = rw (← c.any.ensures, c.why-1.given.1)
+
+pub returns-then-size-n : goal.returns-then-size-n
+unfolding fixed
+returns-then-size-n c =
+    let any = c.any in
+    rw (← any.ensures, c.enum_told-1.given.1, ← c.size.ensures, eq-eqb _ _ c.if-size-n.true)
+
+pub returns-else-size-n : goal.returns-else-size-n
+unfolding fixed
+returns-else-size-n c =
+    let any = c.any in
+    rw (← any.ensures, c.enum_told-1.given.1, ← c.size.ensures, ne_eqb _ _ c.if-size-n.false)

@@ -1,0 +1,15 @@
+-- The layout's refusal, or the fields of the item.
+use Rattle.layout.specs.Items.{item}
+use Rattle.lists.specs.ParentalRating.{parental_rating}
+use borrow.Author.Rules.{rules}
+use Rattle.lists.proofs.parental_rating.read.Goals as goal
+
+pub returns-in-Refused : goal.returns-in-Refused
+unfolding parental_rating item
+returns-in-Refused c = rw (← c.item_at.ensures, c.why-1.given.1)
+
+pub returns-in-At : goal.returns-in-At
+unfolding parental_rating item
+returns-in-At c =
+    let item-at = c.item_at in
+    rw (← item-at.ensures, c.at-1.given.1, c.fields_of.ensures, c.part.ensures)

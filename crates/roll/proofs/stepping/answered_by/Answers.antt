@@ -1,0 +1,7 @@
+-- `roll::stepping::answered_by` meets its contract.
+use Rattle.roll.proofs.Outcomes.{told_and_asked}
+use borrow.Author.Rules.{rules}
+use Rattle.roll.proofs.stepping.answered_by.Goals as goal
+
+pub returns : goal.returns
+returns c = told_and_asked _ c.ask-answer.result c.ask-answer.ensures

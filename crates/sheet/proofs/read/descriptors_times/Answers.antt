@@ -1,0 +1,27 @@
+-- `sheet::read::descriptors_times` meets its contract.
+use borrow.Author.Rules.{rules}
+use native.Mathlib.Omega.{arith}
+use Rattle.sheet.specs.Sheet.{descriptor}
+use Rattle.sheet.proofs.ReadLaws.{Rest, item_on, item_early, item_wide, items_done}
+use Rattle.sheet.proofs.read.descriptors_times.Goals as goal
+
+pub loop-left-init : goal.loop-left-init
+loop-left-init c = λ r h. h
+
+pub returns-in-EndsEarly : goal.returns-in-EndsEarly
+returns-in-EndsEarly c =
+    item_early descriptor c.loop-left.invariant c.loop-left-test.true c.enum_told-1.given.1
+    c.descriptor_at-end.ensures
+
+pub returns-in-TooWide : goal.returns-in-TooWide
+returns-in-TooWide c =
+    item_wide descriptor c.loop-left.invariant c.loop-left-test.true c.enum_told-in-TooWide-1.given.1
+    c.descriptor_at-end.ensures
+
+pub loop-left-preserved : goal.loop-left-preserved
+loop-left-preserved c =
+    item_on descriptor c.loop-left.invariant c.loop-left-test.true c.end-1.given.1
+    c.descriptor_at-end.ensures
+
+pub returns : goal.returns
+returns c = items_done descriptor c.loop-left.invariant (omega (arith, c.loop-left-test.false))

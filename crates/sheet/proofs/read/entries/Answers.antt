@@ -1,0 +1,13 @@
+-- `sheet::read::entries` meets its contract.
+use Rattle.sheet.proofs.ReadLaws.{follows_on, still_early, still_wide}
+use borrow.Author.Rules.{rules}
+use Rattle.sheet.proofs.read.entries.Goals as goal
+
+pub returns-in-At : goal.returns-in-At
+returns-in-At c = follows_on _ c.from-1.given.1 c.entries_at.ensures
+
+pub returns-in-EndsEarly : goal.returns-in-EndsEarly
+returns-in-EndsEarly c = still_early _ c.enum_told-1.given.1
+
+pub returns-in-TooWide : goal.returns-in-TooWide
+returns-in-TooWide c = still_wide _ c.enum_told-in-TooWide-1.given.1

@@ -1,0 +1,16 @@
+-- `sheet::read::entries_at` meets its contract.
+use native.Mathlib.Omega.{arith}
+use Rattle.sheet.proofs.ReadLaws.{follows_counted, follows_early}
+use borrow.Author.Rules.{rules}
+use Rattle.sheet.proofs.read.entries_at.Goals as goal
+
+pub returns-then-less-lt2 : goal.returns-then-less-lt2
+returns-then-less-lt2 c =
+    let args = c.args in
+    follows_early _ args.s.now args.at (omega (arith, c.less.ensures))
+
+pub returns : goal.returns
+returns c =
+    let less = c.less in
+    let args = c.args in
+    follows_counted _ args.s.now args.at (omega (arith, less.ensures)) c.number16_at-count.ensures c.entries_times.ensures

@@ -1,0 +1,27 @@
+-- `tables::row_of` meets its contract: the first row among those left is the first of all.
+use Prim.Native.Nat.{◌≤◌, ◌-◌}
+use mathlib.Core.Path.{◌≡◌, refl, ◌∙◌, sym}
+use mathlib.Core.List.{[]}
+use native.Mathlib.Omega.{arith}
+use lib.ListN.{get_or}
+use borrow.Author.Rules.{rules}
+use Rattle.tables.specs.Tables.{first, row_of, holds, rows as table}
+use Rattle.tables.proofs.FirstOf.{first_here, first_on, first_none}
+use Rattle.tables.proofs.row_of.Goals as goal
+
+pub loop-i-init : goal.loop-i-init
+unfolding row_of
+loop-i-init c = (omega arith, refl)
+
+pub returns-then-held_by : goal.returns-then-held_by
+returns-then-held_by c =
+    let l = c.loop-i in
+    sym (l.invariant.1 ∙ first_here 6 l.i _ (omega arith) (sym c.held_by.ensures ∙ c.if-held_by.true))
+
+pub loop-i-preserved : goal.loop-i-preserved
+loop-i-preserved c =
+    let l = c.loop-i in
+    (omega arith, l.invariant.1 ∙ first_on 6 l.i _ (omega arith) (sym c.held_by.ensures ∙ c.if-held_by.false))
+
+pub returns : goal.returns
+returns c = sym (c.loop-i.invariant.1 ∙ first_none 6 c.loop-i.i _ (omega arith))

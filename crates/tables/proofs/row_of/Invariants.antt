@@ -1,0 +1,16 @@
+-- `tables::row_of` meets its contract: the first row among those left is the first of all.
+use Prim.Native.Nat.{◌≤◌, ◌-◌}
+use mathlib.Core.Path.{◌≡◌, refl, ◌∙◌, sym}
+use mathlib.Core.List.{[]}
+use native.Mathlib.Omega.{arith}
+use lib.ListN.{get_or}
+use borrow.Author.Rules.{rules}
+use Rattle.tables.specs.Tables.{first, row_of, holds, rows as table}
+use Rattle.tables.proofs.FirstOf.{first_here, first_on, first_none}
+use Rattle.tables.proofs.row_of.Given as goal
+
+abbrev pub invariant-loop-i : goal.invariant-loop-i
+invariant-loop-i l = (l.i ≤ 6) × (row_of l.table_id ≡ first (6 - l.i) l.i (λ n. holds (get_or table n []) l.table_id))
+
+abbrev pub decreases-loop-i : goal.decreases-loop-i
+decreases-loop-i l = 6 - l.i

@@ -1,0 +1,19 @@
+-- The language, and the two texts that fill the rest.
+use Rattle.texts.specs.ShortEvent.{fields}
+use borrow.Author.Rules.{rules}
+use Rattle.texts.proofs.short_event.fields_of.Goals as goal
+
+pub returns-in-DoNotFit : goal.returns-in-DoNotFit
+unfolding fields
+returns-in-DoNotFit c = rw (← c.two_texts.ensures, c.enum_told-1.given.1)
+
+pub returns-in-Are : goal.returns-in-Are
+unfolding fields
+returns-in-Are c =
+    let two-texts = c.two_texts in
+    let number24-at = c.number24_at-language_code in
+    rw (
+      ← two-texts.ensures,
+      c.texts-1.given.1,
+      number24-at.ensures,
+    )

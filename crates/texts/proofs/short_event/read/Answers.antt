@@ -1,0 +1,19 @@
+-- The layout's refusal, or the fields of the body.
+use Rattle.texts.specs.ShortEvent.{short_event}
+use borrow.Author.Rules.{rules}
+use Rattle.texts.proofs.short_event.read.Goals as goal
+
+pub returns-in-Refused : goal.returns-in-Refused
+unfolding short_event
+returns-in-Refused c = rw (← c.any.ensures, c.why-1.given.1)
+
+pub returns-in-Fits : goal.returns-in-Fits
+unfolding short_event
+returns-in-Fits c =
+    let any = c.any in
+    rw (
+      ← any.ensures,
+      c.enum_told-1.given.1,
+      ← c.after.ensures,
+    )
+    c.fields_of.ensures

@@ -1,0 +1,8 @@
+-- The body is the stuffing.
+use Rattle.texts.specs.Stuffing.{stuffing}
+use borrow.Author.Rules.{rules}
+use Rattle.texts.proofs.stuffing.read.Goals as goal
+
+pub returns : goal.returns
+unfolding stuffing
+returns c = c.read.ensures

@@ -1,0 +1,17 @@
+-- `turn::counts::descriptors_size` meets its contract.
+use native.Mathlib.Omega.{arith}
+use Rattle.turn.proofs.CountLaws.{Sizing, size_begins, size_on, size_ends}
+use borrow.Author.Rules.{rules}
+use Rattle.turn.proofs.counts.descriptors_size.Goals as goal
+
+pub loop-left-init : goal.loop-left-init
+loop-left-init c = search size_begins
+
+pub overflow_add-wide : goal.overflow_add-wide
+overflow_add-wide c = omega (arith, c.wide.ensures.small)
+
+pub loop-left-preserved : goal.loop-left-preserved
+loop-left-preserved c = search size_on
+
+pub returns : goal.returns
+returns c = search (size_ends, rules)

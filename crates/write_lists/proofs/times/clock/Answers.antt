@@ -1,0 +1,7 @@
+-- `write_lists::times::clock` meets its contract.
+use native.Mathlib.Omega.{arith}
+use borrow.Author.Rules.{rules}
+use Rattle.write_lists.proofs.times.clock.Goals as goal
+
+pub returns : goal.returns
+returns c = record { told = cc; small = omega arith }

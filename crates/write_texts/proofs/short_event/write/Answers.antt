@@ -1,0 +1,21 @@
+-- `write_texts::short_event::write` meets its contract.
+use Prim.Native.Nat.{suc-le-suc}
+use borrow.Author.Rules.{rules}
+use Rattle.writing.proofs.Answers.{room_short, field-outside}
+use Rattle.write_texts.specs.ShortEvent.{short_event_written}
+use Rattle.write_texts.proofs.Numbered.{written_outside, writes_inside}
+use Rattle.write_texts.proofs.short_event.write.Goals as goal
+
+pub returns-then-room-lt257 : goal.returns-then-room-lt257
+returns-then-room-lt257 c = room_short _ _ c.if-room-lt257.true
+
+pub returns-then-language_code-gt16777215 : goal.returns-then-language_code-gt16777215
+unfolding short_event_written
+returns-then-language_code-gt16777215 c = field-outside _ _ c.if-room-lt257.false (written_outside 0x4D 3 _ _ _ c.if-language_code-gt16777215.true)
+
+pub returns : goal.returns
+unfolding short_event_written
+returns c =
+    let a = c.args in
+    writes_inside 0x4D 3 _ a.name.now a.text.now a.room.now c.write.result _
+    c.write.ensures (suc-le-suc c.if-language_code-gt16777215.false)
