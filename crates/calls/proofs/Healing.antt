@@ -11,7 +11,7 @@ use Rattle.wire.proofs.IfLaws.{true_not_false}
 use Rattle.packet.specs.Ruling.{Before, joins, repeats}
 use Rattle.packet.specs.Refusals.{◌when◌, refusals, judged}
 use Rattle.tables.specs.Tables.{row_of, cell, first, holds}
-use Rattle.section.specs.Reading.{◌andThen◌, plain, inside, opening, wrong_syntax, length_outside, size_differs, crc_fails, above_last, header, read}
+use Rattle.section.specs.Reading.{◌and_then◌, plain, inside, opening, wrong_syntax, length_outside, size_differs, crc_fails, above_last, header, read}
 use Rattle.section.specs.Reading.{judged as verdict}
 use Rattle.collector.specs.Rules.{Kind, by_kind, done, size_of}
 use Rattle.collector.specs.Refusals.{cannot_stand, too_small}
@@ -264,7 +264,7 @@ histories_below packet starts t = record {
 }
 
 pub premises_met : PremisesMet
-unfolding judged size_of joins repeats cannot_stand flatten verdict read opening ◌andThen◌ row_of first holds cell header
+unfolding judged size_of joins repeats cannot_stand flatten verdict read opening ◌and_then◌ row_of first holds cell header
     wrong_syntax length_outside size_differs crc_fails above_last inside plain collecting
 premises_met = record {
   starts = record { payload = inr refl; flag = refl };
@@ -278,7 +278,7 @@ mark_first [] = 0
 mark_first (s ∷ more) = s.mark
 
 pub shut_out : ShutOut
-unfolding judged size_of joins repeats cannot_stand flatten verdict read opening ◌andThen◌ row_of first holds cell header
+unfolding judged size_of joins repeats cannot_stand flatten verdict read opening ◌and_then◌ row_of first holds cell header
     wrong_syntax length_outside size_differs crc_fails above_last inside plain collecting
 shut_out h =
     let a = alone mark_survives fresh hold₀ common refl refl in

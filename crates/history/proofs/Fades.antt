@@ -12,7 +12,7 @@ use Rattle.packet.specs.Ruling.{joins, repeats}
 use Rattle.collector.specs.Rules.{size_of}
 use Rattle.packet.specs.Refusals.{judged}
 use Rattle.tables.specs.Tables.{row_of, cell, first, holds}
-use Rattle.section.specs.Reading.{◌andThen◌, plain, inside, opening, wrong_syntax, length_outside, size_differs, crc_fails, above_last, header, read}
+use Rattle.section.specs.Reading.{◌and_then◌, plain, inside, opening, wrong_syntax, length_outside, size_differs, crc_fails, above_last, header, read}
 use Rattle.section.specs.Reading.{judged as verdict}
 use Rattle.collector.specs.Refusals.{cannot_stand}
 use Rattle.collector.specs.Rules.{accepted, by_kind, done}
@@ -26,7 +26,7 @@ use Rattle.history.specs.AtWork.{tdt, starts}
 use Rattle.history.specs.Fades.{tale, common, behind_it, begins, with-2, fresh, halfway, marked, busy, byHand, PremisesMet, LossOfSixteen, Stronger, forgets_to_break, counter_stays, first_byte_stays, mark_survives, counters_stop, falls_silent, ShutOut}
 
 pub premises_met : PremisesMet
-unfolding judged size_of joins repeats cannot_stand flatten verdict read opening ◌andThen◌ row_of first holds cell header
+unfolding judged size_of joins repeats cannot_stand flatten verdict read opening ◌and_then◌ row_of first holds cell header
     wrong_syntax length_outside size_differs crc_fails above_last inside plain
 premises_met = record {
   starts-11 = record { payload = inr refl; flag = refl };
@@ -44,7 +44,7 @@ premises_met = record {
 }
 
 pub loss_of_sixteen : LossOfSixteen
-unfolding judged size_of joins repeats cannot_stand flatten verdict read opening ◌andThen◌ row_of first holds cell header
+unfolding judged size_of joins repeats cannot_stand flatten verdict read opening ◌and_then◌ row_of first holds cell header
     wrong_syntax length_outside size_differs crc_fails above_last inside plain
 loss_of_sixteen = record {
   as_many = refl;
@@ -98,7 +98,7 @@ abbrev only_filler : List (List ℕ)
 only_filler = starts 5 (0 ∷ 0xFF ∷ []) ∷ []
 
 pub stronger : Stronger
-unfolding judged size_of joins repeats cannot_stand flatten verdict read opening ◌andThen◌ row_of first holds cell header
+unfolding judged size_of joins repeats cannot_stand flatten verdict read opening ◌and_then◌ row_of first holds cell header
     wrong_syntax length_outside size_differs crc_fails above_last inside plain
 stronger = record {
   counters_may_differ = λ k h.
@@ -168,7 +168,7 @@ stronger = record {
 -- ---- wrong collectors
 
 pub shut_out : ShutOut
-unfolding judged size_of joins repeats cannot_stand flatten verdict read opening ◌andThen◌ row_of first holds cell header
+unfolding judged size_of joins repeats cannot_stand flatten verdict read opening ◌and_then◌ row_of first holds cell header
     wrong_syntax length_outside size_differs crc_fails above_last inside plain
 shut_out = record {
   -- a section unfinished at the target, and behind it nothing but filler

@@ -15,7 +15,7 @@ use Rattle.collector.specs.Rules.{filler, size_of}
 use Rattle.packet.specs.Refusals.{judged}
 use Rattle.tables.specs.Tables.{row_of, cell, first, holds}
 use Rattle.verdict.specs.Verdict.{refused, is_accepted}
-use Rattle.section.specs.Reading.{◌andThen◌, plain, inside, opening, wrong_syntax, length_outside, size_differs, crc_fails, above_last, header, read}
+use Rattle.section.specs.Reading.{◌and_then◌, plain, inside, opening, wrong_syntax, length_outside, size_differs, crc_fails, above_last, header, read}
 use Rattle.section.specs.Reading.{judged as verdict}
 use Rattle.section.proofs.Exactly.{accepted_exactly_if}
 use Rattle.collector.specs.Refusals.{cannot_stand}
@@ -61,7 +61,7 @@ calls_repeated_shut_out h =
 
 -- one section was delivered
 pub does_nothing_shut_out : DeliveredInOrder DoesNothing → ⊥
-unfolding judged size_of joins repeats verdict read opening ◌andThen◌ row_of first holds cell header
+unfolding judged size_of joins repeats verdict read opening ◌and_then◌ row_of first holds cell header
     wrong_syntax length_outside size_differs crc_fails above_last inside plain
 does_nothing_shut_out h =
     let o : Outcome = record { rec = fresh_record 20; hold = hold₀; out = out₀; said = taken 0 0 } in
@@ -71,7 +71,7 @@ does_nothing_shut_out h =
 
 -- two sections were delivered
 pub pretends_shut_out : DeliveredInOrder Pretends → ⊥
-unfolding judged size_of joins repeats cannot_stand verdict read opening ◌andThen◌ row_of first holds cell header
+unfolding judged size_of joins repeats cannot_stand verdict read opening ◌and_then◌ row_of first holds cell header
     wrong_syntax length_outside size_differs crc_fails above_last inside plain
 pretends_shut_out h =
     let o : Outcome = collected (fresh_record 20) hold₀ out₀ (short 0) in
@@ -83,7 +83,7 @@ pretends_shut_out h =
 
 -- 175 bytes were filler
 pub invents_counters_shut_out : CountersAreFates InventsCounters → ⊥
-unfolding judged size_of joins repeats cannot_stand verdict read opening ◌andThen◌ row_of first holds cell header
+unfolding judged size_of joins repeats cannot_stand verdict read opening ◌and_then◌ row_of first holds cell header
     wrong_syntax length_outside size_differs crc_fails above_last inside plain
 invents_counters_shut_out h =
     let o : Outcome = collected (fresh_record 20) hold₀ out₀ (worked 0) in
@@ -93,7 +93,7 @@ invents_counters_shut_out h =
 
 -- eight bytes were delivered, and what stands in the out room is cut as a section of three
 pub hands_out_other_shut_out : OneFateEach HandsOutOther → ⊥
-unfolding judged size_of joins repeats cannot_stand flatten verdict read opening ◌andThen◌ row_of first holds cell header
+unfolding judged size_of joins repeats cannot_stand flatten verdict read opening ◌and_then◌ row_of first holds cell header
     wrong_syntax length_outside size_differs crc_fails above_last inside plain
 hands_out_other_shut_out h =
     let o : Outcome = collected (fresh_record 20) hold₀ out₀ (worked 0) in
@@ -151,7 +151,7 @@ places = (
 )
 
 pub joins_over_breaks_shut_out : NoSectionSpans JoinsOverBreaks → ⊥
-unfolding judged size_of joins repeats cannot_stand flatten verdict read opening ◌andThen◌ row_of first holds cell header
+unfolding judged size_of joins repeats cannot_stand flatten verdict read opening ◌and_then◌ row_of first holds cell header
     wrong_syntax length_outside size_differs crc_fails above_last inside plain
 joins_over_breaks_shut_out h =
     let o : Outcome = collected (followed (fresh_record 20) left_off) hold₀ out₀ left_off in
@@ -179,7 +179,7 @@ marked_between m e p u =
     (λ a b l left right v. v.0.0.1.0 (omega (arith, left)) (omega (arith, right)))
 
 pub overlooks_splices_shut_out : NoSectionSpans OverlooksSplices → ⊥
-unfolding judged size_of joins repeats cannot_stand flatten verdict read opening ◌andThen◌ row_of first holds cell header
+unfolding judged size_of joins repeats cannot_stand flatten verdict read opening ◌and_then◌ row_of first holds cell header
     wrong_syntax length_outside size_differs crc_fails above_last inside plain
 overlooks_splices_shut_out h =
     let o : Outcome = collected (fresh_record 20) hold₀ out₀ left_off in
@@ -190,7 +190,7 @@ overlooks_splices_shut_out h =
     marked_between x.made_of x.values_are (among_each InPlace x.once_in_order places) x.unmarked
 
 pub overlooks_bare_splices_shut_out : NoSectionSpans OverlooksBareSplices → ⊥
-unfolding judged size_of joins repeats cannot_stand flatten verdict read opening ◌andThen◌ row_of first holds cell header
+unfolding judged size_of joins repeats cannot_stand flatten verdict read opening ◌and_then◌ row_of first holds cell header
     wrong_syntax length_outside size_differs crc_fails above_last inside plain
 overlooks_bare_splices_shut_out h =
     let o : Outcome = collected (fresh_record 20) hold₀ out₀ left_off in
@@ -215,7 +215,7 @@ not_legal : (s : List ℕ) (k q : ℕ) → verdict s ≡ refused k q → Legal s
 not_legal s k q e x = true_not_false (ap is_accepted (sym ((accepted_exactly_if s).1 x) ∙ e))
 
 refused-with-3 : verdict (0x70 ∷ 0xF0 ∷ 0x00 ∷ []) ≡ refused 3 0
-unfolding verdict read opening ◌andThen◌ row_of first holds cell header wrong_syntax
+unfolding verdict read opening ◌and_then◌ row_of first holds cell header wrong_syntax
 refused-with-3 = refl
 
 pub accepts_everything_shut_out : OnlyAccepted AcceptsEverything → ⊥
@@ -234,7 +234,7 @@ hands_out_rejected_shut_out h =
 
 -- one section was accepted
 pub rejects_everything_shut_out : DeliveredInOrder RejectsEverything → ⊥
-unfolding judged size_of joins repeats cannot_stand flatten verdict read opening ◌andThen◌ row_of first holds cell header
+unfolding judged size_of joins repeats cannot_stand flatten verdict read opening ◌and_then◌ row_of first holds cell header
     wrong_syntax length_outside size_differs crc_fails above_last inside plain
 rejects_everything_shut_out h =
     let o : Outcome = collected_by rejects_all (fresh_record 20) hold₀ out₀ (worked 0) in
@@ -244,7 +244,7 @@ rejects_everything_shut_out h =
 
 -- the second was rejected with 4
 pub keeps_first_number_shut_out : KeptNumber KeepsFirstNumber → ⊥
-unfolding judged size_of joins repeats cannot_stand flatten verdict read opening ◌andThen◌ row_of first holds cell header
+unfolding judged size_of joins repeats cannot_stand flatten verdict read opening ◌and_then◌ row_of first holds cell header
     wrong_syntax length_outside size_differs crc_fails above_last inside plain
 keeps_first_number_shut_out h =
     let o : Outcome = collected_by keeps_first (fresh_record 20) hold₀ out₀ two_wrong in

@@ -9,7 +9,7 @@ use lib.Dec.{ltb}
 use borrow.Author.Tests.{lt-ltb, le-ltb}
 use Rattle.wire.specs.Trail.{run, trail}
 use Rattle.tables.specs.Tables.{cell, holds, first, row_of}
-use Rattle.section.specs.Reading.{◌andThen◌, opening, wrong_syntax, length_outside, size_differs, crc_fails, above_last, header, plain, inside, read, judged}
+use Rattle.section.specs.Reading.{◌and_then◌, opening, wrong_syntax, length_outside, size_differs, crc_fails, above_last, header, plain, inside, read, judged}
 use Rattle.collector.specs.Refusals.{cannot_stand}
 use Rattle.collector.specs.Rules.{Kind, done}
 use Rattle.collector.specs.Collected.{bytes_counted, fresh_record}
@@ -110,7 +110,7 @@ records_ready = record {
 -- ---- sections, and what the judge says of them
 
 pub mixed_judged : MixedJudged
-unfolding judged read opening ◌andThen◌ row_of first holds cell header wrong_syntax length_outside size_differs crc_fails
+unfolding judged read opening ◌and_then◌ row_of first holds cell header wrong_syntax length_outside size_differs crc_fails
     above_last inside plain
 mixed_judged = record {
   sendable = (

@@ -16,7 +16,7 @@ use Rattle.sheet.specs.Content.{head_of, entry_of, shape_of, side_of}
 use Rattle.sheet.specs.Sheet.{descriptor_read, read_for, shown_for}
 use Rattle.sheet.specs.Section.{section_length, front, seal, section_of, content_of, read_sheet_for}
 use Rattle.section.specs.Reading as section
-use Rattle.section.specs.Reading.{judged, read, opening, header, wrong_syntax, length_outside, size_differs, crc_fails, above_last, inside, topped, ◌andThen◌}
+use Rattle.section.specs.Reading.{judged, read, opening, header, wrong_syntax, length_outside, size_differs, crc_fails, above_last, inside, topped, ◌and_then◌}
 use Rattle.turn.specs.Turn.{gives, to_section, to_sheet}
 use Rattle.round_trips.specs.AtWork.{nit_sheet, nit_section, sdt_sheet, sdt_section, bat_sheet, bat_section, eit_sheet, eit_section, tdt_sheet, tdt_section, tot_sheet, tot_section, BothWays, AllSix, Unseen}
 use Rattle.round_trips.proofs.RoundTrips.{sheet_and_back, made_ones}
@@ -65,6 +65,6 @@ all_six = record {
 
 pub unseen : Unseen
 unfolding to_sheet content_of judged read opening header wrong_syntax length_outside size_differs crc_fails above_last inside
-    topped section.plain ◌andThen◌ shown_for raw_read both_read such_read each_read each_show room unpack head_of
+    topped section.plain ◌and_then◌ shown_for raw_read both_read such_read each_read each_show room unpack head_of
     shape_of cell holds first row_of
 unseen = refl

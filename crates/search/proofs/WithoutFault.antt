@@ -15,7 +15,7 @@ use Rattle.wire.specs.Trail.{ended, answer}
 use Rattle.verdict.specs.Verdict.{Said, accepted, refused, is_accepted}
 use Rattle.loops.specs.Descriptors.{Placed, descriptors}
 use Rattle.section.specs.Entries.{entries}
-use Rattle.section.specs.Reading.{LoopsRead, ◌andThen◌, fills, loop_then, second_loop, two_loops, topped, inside, opening, header, row_for, body, read, judged}
+use Rattle.section.specs.Reading.{LoopsRead, ◌and_then◌, fills, loop_then, second_loop, two_loops, topped, inside, opening, header, row_for, body, read, judged}
 use Rattle.tables.specs.declared.Row.{Row}
 use Rattle.section.proofs.Readings.{then-on, then-stop, fills_tells, room_tells, one_loop_lem, second_loop_lem, two_loops_lem, topped_one, topped_two}
 

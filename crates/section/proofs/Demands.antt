@@ -6,7 +6,7 @@ use native.Mathlib.Omega.{arith}
 use Rattle.tables.specs.Tables.{cell, holds, first, row_of}
 use Rattle.verdict.specs.Verdict.{Said, accepted, refused, told}
 use Rattle.verdict.specs.declared.Verdict.{Verdict}
-use Rattle.section.specs.Reading.{◌andThen◌, opening, wrong_syntax, length_outside, size_differs, crc_fails, above_last, header, plain, inside, read, judged}
+use Rattle.section.specs.Reading.{◌and_then◌, opening, wrong_syntax, length_outside, size_differs, crc_fails, above_last, header, plain, inside, read, judged}
 use Rattle.section.specs.Demands.{Claims, AcceptsExactlyIf, RefusesExactlyIf, RefusesEverything, SingleAnswer}
 use Rattle.section.proofs.Exactly.{verdict_true, accepted_exactly_if, refused_exactly_if}
 
@@ -15,11 +15,11 @@ abbrev tdt : List ℕ
 tdt = 0x70 ∷ 0x70 ∷ 0x05 ∷ 0xC0 ∷ 0x79 ∷ 0x12 ∷ 0x45 ∷ 0x00 ∷ []
 
 tdt_accepted : judged tdt ≡ accepted
-unfolding judged read opening ◌andThen◌ row_of first holds cell header wrong_syntax length_outside size_differs crc_fails above_last inside plain
+unfolding judged read opening ◌and_then◌ row_of first holds cell header wrong_syntax length_outside size_differs crc_fails above_last inside plain
 tdt_accepted = refl
 
 empty_refused : judged [] ≡ refused 1 0
-unfolding judged read opening ◌andThen◌
+unfolding judged read opening ◌and_then◌
 empty_refused = refl
 
 module _ (judge : List ℕ → Said) (accepts : AcceptsExactlyIf judge) where

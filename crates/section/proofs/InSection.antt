@@ -16,7 +16,7 @@ use Rattle.tables.specs.Tables.{FixedTwo}
 use Rattle.verdict.specs.Verdict.{Said, accepted, refused, is_accepted}
 use Rattle.loops.specs.Descriptors.{Placed, descriptors}
 use Rattle.section.specs.Entries.{entries}
-use Rattle.section.specs.Reading.{LoopsRead, ◌andThen◌, size_of, fills, leaves_room, loop_then, one_loop, second_loop, two_loops, inside}
+use Rattle.section.specs.Reading.{LoopsRead, ◌and_then◌, size_of, fills, leaves_room, loop_then, one_loop, second_loop, two_loops, inside}
 use Rattle.loops.specs.Grammar.{Descriptors, DescriptorFault}
 use Rattle.section.specs.Grammar as grammar
 use Rattle.section.specs.Grammar.{Inside, nothing, loop, loops}

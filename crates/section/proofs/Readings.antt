@@ -16,15 +16,15 @@ use Rattle.verdict.specs.Verdict.{Said, accepted, refused, is_accepted}
 use Rattle.loops.specs.Descriptors.{Placed, descriptors}
 use Rattle.section.specs.Entries.{entries}
 use Rattle.tables.specs.Tables.{row_of}
-use Rattle.section.specs.Reading.{LoopsRead, ◌andThen◌, size_of, fills, leaves_room, loop_then, one_loop, second_loop, two_loops, topped, plain, inside, opening, header, wrong_syntax, length_outside, size_differs, crc_fails, above_last, body, row_for, read, judged}
+use Rattle.section.specs.Reading.{LoopsRead, ◌and_then◌, size_of, fills, leaves_room, loop_then, one_loop, second_loop, two_loops, topped, plain, inside, opening, header, wrong_syntax, length_outside, size_differs, crc_fails, above_last, body, row_for, read, judged}
 use Rattle.tables.specs.declared.Row.{Row}
 
 pub then-on : (v : Said) (x : LoopsRead) → is_accepted v ≡ true → (v and_then x) ≡ x
-unfolding ◌andThen◌
+unfolding ◌and_then◌
 then-on v x q = rw q
 
 pub then-stop : (v : Said) (x : LoopsRead) → is_accepted v ≡ false → (v and_then x) ≡ ended v
-unfolding ◌andThen◌
+unfolding ◌and_then◌
 then-stop v x q = rw q
 
 -- the code's answer v, where it stands for what is read first and a test b says whether it is an acceptance

@@ -21,8 +21,8 @@ abbrev pub given◌when◌otherwise◌ : ℕ → Bool → Said → Said
 given k when b otherwise v = if b then refused k 0 else v
 
 -- reading goes on where nothing is refused
-infixr 2 ◌andThen◌
-unfoldable pub ◌andThen◌ : Said → LoopsRead → LoopsRead
+infixr 2 ◌and_then◌
+unfoldable pub ◌and_then◌ : Said → LoopsRead → LoopsRead
 v and_then x = if is_accepted v then x else ended v
 
 -- bytes that a loop takes whose 12-bit length stands at the front of m

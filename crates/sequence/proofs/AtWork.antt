@@ -12,7 +12,7 @@ use Rattle.wire.specs.Number.{number_at}
 use Rattle.wire.specs.Trail.{run, trail}
 use Rattle.loops.specs.Descriptors.{descriptors}
 use Rattle.section.specs.Entries.{entries}
-use Rattle.section.specs.Reading.{◌andThen◌, fills, leaves_room, second_loop, two_loops, topped, plain, inside}
+use Rattle.section.specs.Reading.{◌and_then◌, fills, leaves_room, second_loop, two_loops, topped, plain, inside}
 use Rattle.section.specs.Reading.{wrong_syntax, length_outside, size_differs, crc_fails, above_last, header, read, judged, opening as opened}
 use Rattle.roll.specs.Answer.{missing, complete, refusing}
 use Rattle.roll.specs.Marks.{blank, segment_at, has, unmarked, with_mark, marked, smallest, smallest_missing}
@@ -288,6 +288,6 @@ unfolding by_hand tdt coming second other opening lower higher longer services s
     is_schedule counting end_at came_by left_out_by come_or_left_out smallest_in_segments ending_by marked_until blank segment_at with_mark
     roll_after continued begun_with starts_afresh another has_no_sub_table is_current version_in same_ids compared sub_table_of
     number_at network_in ids_that_count smallest_missing smallest marked unmarked has judged read opened header wrong_syntax
-    length_outside size_differs crc_fails above_last inside topped plain two_loops second_loop leaves_room fills ◌andThen◌
+    length_outside size_differs crc_fails above_last inside topped plain two_loops second_loop leaves_room fills ◌and_then◌
     entries descriptors run trail cell holds first row_of crc feed_bytes feed_bits feed
 at_work = (refl, refl, refl, refl, refl, refl, refl, refl, refl, (refl, refl, refl, refl, refl), refl, (refl, refl, refl, refl))

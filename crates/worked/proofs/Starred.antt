@@ -6,7 +6,7 @@ use Rattle.wire.specs.Digits.{bcd_after, bcd_of}
 use Rattle.wire.specs.Trail.{run, trail}
 use Rattle.tables.specs.Tables.{cell, holds, first, row_of}
 use Rattle.loops.specs.Descriptors.{descriptors, step_at}
-use Rattle.section.specs.Reading.{◌andThen◌, opening, wrong_syntax, length_outside, size_differs, crc_fails, above_last, header, plain, inside, read, judged}
+use Rattle.section.specs.Reading.{◌and_then◌, opening, wrong_syntax, length_outside, size_differs, crc_fails, above_last, header, plain, inside, read, judged}
 use Rattle.clock.specs.Field.{field, hms}
 use Rattle.calendar.specs.Calendar.{dated}
 use Rattle.calendar.specs.Dates.{days_of_months, days_of_years, mjd_of, Valid}
@@ -34,7 +34,7 @@ in-2038 =
     record { year = omega arith; month = omega arith; twelve = omega arith; day = omega arith; inside = omega arith }
 
 pub starred_hold : All starred
-unfolding judged read opening ◌andThen◌ row_of first holds cell header wrong_syntax length_outside size_differs crc_fails
+unfolding judged read opening ◌and_then◌ row_of first holds cell header wrong_syntax length_outside size_differs crc_fails
     above_last inside plain mjd_of days_of_years days_of_months number_at hms field bcd_of bcd_after
     fixed framed digits_at cable cable_fields satellite satellite_fields system descriptors trail run step_at
 starred_hold =

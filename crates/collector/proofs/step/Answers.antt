@@ -12,7 +12,7 @@ use Rattle.collector.proofs.step.Goals as goal
 use Rattle.collector.proofs.step.Goals.{Start}
 
 -- the outcome, as the packet is judged
-abbrev outcome : tie.Start → Judged → Outcome
+abbrev outcome : (c : Start) → Judged → Outcome
 outcome s j = outcome_of s.args.rec s.args.hold.now s.args.out.now (ruled_by (before_of s.args.rec) s.args.packet.now j)
 
 pub carried-requires : goal.carried-requires
@@ -25,14 +25,14 @@ carried-requires c =
 
 pub returns-in-Refuse : goal.returns-in-Refuse
 returns-in-Refuse c =
-    ap (outcome ((goal.at.returns-in-Refuse c).Start)) (sym (ap meant c.v-1.given.1) ∙ c.judge-v.ensures)
+    ap (outcome ((goal.at.returns-in-Refuse c).Start)) (sym (ap meant c.in-Refuse.is) ∙ c.judge-v.ensures)
 
 pub returns-in-Bare : goal.returns-in-Bare
 returns-in-Bare c =
     let a = ((goal.at.returns-in-Bare c).Start).args in
     ap (λ (r : Record). unaltered r a.hold.now a.out.now (taken 0 0)) c.marked.ensures
-    ∙ ap (outcome ((goal.at.returns-in-Bare c).Start)) (sym (ap meant c.v-in-Bare-1.given.1) ∙ c.judge-v.ensures)
+    ∙ ap (outcome ((goal.at.returns-in-Bare c).Start)) (sym (ap meant c.in-Bare.is) ∙ c.judge-v.ensures)
 
 pub returns-in-Payload : goal.returns-in-Payload
 returns-in-Payload c =
-    c.carried.ensures ∙ ap (outcome ((goal.at.returns-in-Payload c).Start)) (sym (ap meant c.v-in-Payload-1.given.1) ∙ c.judge-v.ensures)
+    c.carried.ensures ∙ ap (outcome ((goal.at.returns-in-Payload c).Start)) (sym (ap meant c.in-Payload.is) ∙ c.judge-v.ensures)

@@ -9,8 +9,6 @@ use lib.ListN.{length, drop, get_or, set, length-drop}
 use lib.Seq.{paste, paste-zero, paste-suc, get_or-drop}
 use Rattle.copy.proofs.singly.Goals as goal
 
-)
-
 -- one store more
 more : (src d dst : List ℕ) (from at i : ℕ) → dst ≡ paste d at (drop from src) i → at + i < length d
     → from + i < length src
@@ -26,6 +24,7 @@ loop-i-init c = (
   search rules,
   paste-zero c.args.dst.now c.args.at (drop c.args.from c.args.src.now),
   refl,
+)
 
 pub loop-i-preserved : goal.loop-i-preserved
 loop-i-preserved c =

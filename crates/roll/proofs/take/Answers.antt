@@ -16,13 +16,13 @@ came_to_lem b =
 pub returns-then-on : goal.returns-then-on
 returns-then-on c =
     c.answered_by.ensures ∙ ap answering c.with_section.ensures
-    ∙ sym (came_to_lem (goal.at.returns-then-on c).After-course_of-course ∙ rw (c.course-in-Taken-1.given.1, c.if-on.true))
+    ∙ sym (came_to_lem (goal.at.returns-then-on c).After-course_of-course ∙ rw (c.in-Taken.is, c.if-on.true))
 
 pub returns-in-Refused : goal.returns-in-Refused
 returns-in-Refused c =
-    sym (came_to_lem (goal.at.returns-in-Refused c).After-course_of-course ∙ rw c.course-1.given.1)
+    sym (came_to_lem (goal.at.returns-in-Refused c).After-course_of-course ∙ rw c.in-Refused.is)
 
 pub returns-else-on : goal.returns-else-on
 returns-else-on c =
     c.answered_by-in-Taken.ensures ∙ ap answering c.begun_with.ensures
-    ∙ sym (came_to_lem (goal.at.returns-else-on c).After-course_of-course ∙ rw (c.course-in-Taken-1.given.1, c.if-on.false))
+    ∙ sym (came_to_lem (goal.at.returns-else-on c).After-course_of-course ∙ rw (c.in-Taken.is, c.if-on.false))

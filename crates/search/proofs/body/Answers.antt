@@ -8,4 +8,4 @@ use Rattle.search.proofs.body.Goals as goal
 pub returns-in-Hit : goal.returns-in-Hit
 returns-in-Hit c =
     let args = c.args in
-    c.part.ensures ∙ sym (ap (λ x. body_of args.section.now (told_found x)) c.found-1.given.1)
+    c.part.ensures ∙ sym (ap (λ x. body_of args.section.now (told_found x)) c.in-Hit.is)

@@ -58,8 +58,8 @@ overflow_add-at c = omega (arith, (whole (goal.at.overflow_add-at c).After-share
 
 pub returns-then-fixed-eq0 : goal.returns-then-fixed-eq0
 returns-then-fixed-eq0 c =
-    ap told_found c.enum_told-in-Nothing-1.given.1
-    ∙ sym (lead (goal.at.returns-then-fixed-eq0 c).After-find_in_top-top _ c.enum_told-in-Nothing-1.given.1 ∙ rw (eq-eqb _ _ c.if-fixed-eq0.true))
+    ap told_found c.in-Nothing.is
+    ∙ sym (lead (goal.at.returns-then-fixed-eq0 c).After-find_in_top-top _ c.in-Nothing.is ∙ rw (eq-eqb _ _ c.if-fixed-eq0.true))
 
 pub overflow_add-end-in-Nothing : goal.overflow_add-end-in-Nothing
 overflow_add-end-in-Nothing c =
@@ -70,13 +70,13 @@ find_in_entries-requires c =
     (((goal.at.find_in_entries-requires c).Start).pre.0 c.if-fixed-eq0.false, (whole ((goal.at.find_in_entries-requires c).After-length12_at)).onward c.if-fixed-eq0.false)
 
 pub returns-in-Hit : goal.returns-in-Hit
-returns-in-Hit c = ap told_found c.enum_told-1.given.1 ∙ sym (lead (goal.at.returns-in-Hit c).After-find_in_top-top _ c.enum_told-1.given.1)
+returns-in-Hit c = ap told_found c.in-Hit.is ∙ sym (lead (goal.at.returns-in-Hit c).After-find_in_top-top _ c.in-Hit.is)
 
 pub returns-in-Refused : goal.returns-in-Refused
-returns-in-Refused c = ap told_found c.enum_told-in-Refused-1.given.1 ∙ sym (lead (goal.at.returns-in-Refused c).After-find_in_top-top _ c.enum_told-in-Refused-1.given.1)
+returns-in-Refused c = ap told_found c.in-Refused.is ∙ sym (lead (goal.at.returns-in-Refused c).After-find_in_top-top _ c.in-Refused.is)
 
 pub returns-else-fixed-eq0 : goal.returns-else-fixed-eq0
 returns-else-fixed-eq0 c =
     sym
-    (lead (goal.at.returns-else-fixed-eq0 c).After-find_in_top-top _ c.enum_told-in-Nothing-1.given.1
+    (lead (goal.at.returns-else-fixed-eq0 c).After-find_in_top-top _ c.in-Nothing.is
     ∙ rw (ne_eqb _ _ c.if-fixed-eq0.false) (sym c.find_in_entries.ensures))

@@ -70,15 +70,11 @@ module _ (c : At-descriptors) where
 module _ (c : Else-t-tag) where
   abbrev past : ℕ
 
-  past = c.step-1.given.0.1.0 + c.step-1.given.0.1.1.0
+  past = c.in-Descriptor.body + c.in-Descriptor.size
 
   further : (c.descriptors.q < past) × (past ≤ next c.BARE-After-length12_at)
 
-  further = told_within _ _ _ _ _ _ _ (own c.BARE-After-length12_at).inside c.step_at-step.ensures c.step-1.given.1
-
--- The entry's loop has come to its end.
-module _ (c : Joined-step) where
-
+  further = told_within _ _ _ _ _ _ _ (own c.BARE-After-length12_at).inside c.step_at-step.ensures c.in-Descriptor.is
 
 pub entries-init : goal.entries-init
 entries-init c = (refl, c.requires.1, refl, omega arith)
@@ -152,5 +148,5 @@ returns-then-t-tag c =
     let loop = c.descriptors in
     sym
     (hit_here _ loop.q (tag (goal.at.returns-then-t-tag c).After-length12_at) (number (goal.at.returns-then-t-tag c).After-length12_at) _ _ c.step_at-step.ensures (in_loop (goal.at.returns-then-t-tag c).After-length12_at) _ _ _
-    c.step-1.given.1 c.if-t-tag.true)
+    c.in-Descriptor.is c.if-t-tag.true)
     ∙ loop.invariant.0

@@ -37,12 +37,12 @@ module _ (c : After-step_at-step) where
 module _ (c : Else-t-tag) where
   abbrev past : ℕ
 
-  past = c.step-1.given.0.1.0 + c.step-1.given.0.1.1.0
+  past = c.in-Descriptor.start + c.in-Descriptor.size
 
   further : (p c.BARE-After-step_at-step < past) × (past ≤ length (bytes c.BARE-After-step_at-step))
 
   further =
-      let f = told_on (bytes c.BARE-After-step_at-step) (p c.BARE-After-step_at-step) _ _ c.step_at-step.ensures c.step-1.given.1 _ _ _ refl in
+      let f = told_on (bytes c.BARE-After-step_at-step) (p c.BARE-After-step_at-step) _ _ c.step_at-step.ensures c.in-Descriptor.is _ _ _ refl in
       (f.0, f.1)
 
 pub loop-p-init : goal.loop-p-init
@@ -52,7 +52,7 @@ pub returns-then-t-tag : goal.returns-then-t-tag
 returns-then-t-tag c =
     sym
     (hit_here (bytes (goal.at.returns-then-t-tag c).After-step_at-step) (p (goal.at.returns-then-t-tag c).After-step_at-step) (tag (goal.at.returns-then-t-tag c).After-step_at-step) 0 none _ c.step_at-step.ensures (in_loop (goal.at.returns-then-t-tag c).After-step_at-step) _ _ _
-    c.step-1.given.1 c.if-t-tag.true)
+    c.in-Descriptor.is c.if-t-tag.true)
     ∙ ((goal.at.returns-then-t-tag c).At-loop-p).loop.invariant
 
 pub overflow_add-p : goal.overflow_add-p
@@ -70,13 +70,13 @@ loop-p-preserved c =
 pub returns-in-End : goal.returns-in-End
 returns-in-End c =
     sym
-    (hit-end (bytes (goal.at.returns-in-End c).After-step_at-step) (p (goal.at.returns-in-End c).After-step_at-step) (tag (goal.at.returns-in-End c).After-step_at-step) 0 none _ c.step_at-step.ensures (in_loop (goal.at.returns-in-End c).After-step_at-step) c.enum_told-1.given.1)
+    (hit-end (bytes (goal.at.returns-in-End c).After-step_at-step) (p (goal.at.returns-in-End c).After-step_at-step) (tag (goal.at.returns-in-End c).After-step_at-step) 0 none _ c.step_at-step.ensures (in_loop (goal.at.returns-in-End c).After-step_at-step) c.in-End.is)
     ∙ ((goal.at.returns-in-End c).At-loop-p).loop.invariant
 
 pub returns-in-Cut : goal.returns-in-Cut
 returns-in-Cut c =
     sym
-    (hit_cut (bytes (goal.at.returns-in-Cut c).After-step_at-step) (p (goal.at.returns-in-Cut c).After-step_at-step) (tag (goal.at.returns-in-Cut c).After-step_at-step) 0 none _ c.step_at-step.ensures (in_loop (goal.at.returns-in-Cut c).After-step_at-step) _ c.enum_told-in-Cut-1.given.1)
+    (hit_cut (bytes (goal.at.returns-in-Cut c).After-step_at-step) (p (goal.at.returns-in-Cut c).After-step_at-step) (tag (goal.at.returns-in-Cut c).After-step_at-step) 0 none _ c.step_at-step.ensures (in_loop (goal.at.returns-in-Cut c).After-step_at-step) _ c.in-Cut.is)
     ∙ ((goal.at.returns-in-Cut c).At-loop-p).loop.invariant
 
 pub returns : goal.returns

@@ -32,13 +32,12 @@ module _ (c : After-before_crc) where
       read_inside _ _ _ (c.row_at-row.ensures ∙ ap row_at (c.row_of.ensures ∙ ap row_of c.byte_at.ensures))
       c.before_crc.ensures (ok c.BARE-Then-is_accepted)
 
-)
-
 pub find_inside-requires : goal.find_inside-requires
 unfolding judged
 find_inside-requires c = (
   subst (λ (r : Row). FixedTwo r.fixed) (sym c.row_at-row.ensures) (fixed_two _),
   sym (ap answer (all_read (goal.at.find_inside-requires c).After-before_crc)) ∙ ok ((goal.at.find_inside-requires c).Then-is_accepted),
+)
 
 pub returns-then-is_accepted : goal.returns-then-is_accepted
 unfolding sought

@@ -15,7 +15,7 @@ returns-then-e-sheet c =
     let args = c.args in
     let pre = c.requires in
     sym (judged_after args.row args.sheet.now pre
-    (seen c.end-1.given.1 c.behind_id-end.ensures pre.there) c.if-e-sheet.true)
+    (seen c.in-At.is c.behind_id-end.ensures pre.there) c.if-e-sheet.true)
 
 pub returns-else-e-sheet : goal.returns-else-e-sheet
 returns-else-e-sheet c =
@@ -23,7 +23,7 @@ returns-else-e-sheet c =
     let pre = c.requires in
     c.judge_length.ensures
     ∙ ap₂ judged_length (ap (λ r. r.most) c.row_at-table.ensures) c.section_length.ensures
-    ∙ sym (judged_whole args.row args.sheet.now pre (seen c.end-1.given.1 c.behind_id-end.ensures pre.there)
+    ∙ sym (judged_whole args.row args.sheet.now pre (seen c.in-At.is c.behind_id-end.ensures pre.there)
     (omega (arith, c.if-e-sheet)))
 
 pub returns-in-EndsEarly : goal.returns-in-EndsEarly
@@ -31,11 +31,11 @@ returns-in-EndsEarly c =
     let args = c.args in
     let pre = c.requires in
     sym (judged_refused args.row args.sheet.now 22 pre
-    (seen c.enum_told-1.given.1 c.behind_id-end.ensures pre.there))
+    (seen c.in-EndsEarly.is c.behind_id-end.ensures pre.there))
 
 pub returns-in-TooWide : goal.returns-in-TooWide
 returns-in-TooWide c =
     let args = c.args in
     let pre = c.requires in
     sym (judged_refused args.row args.sheet.now 24 pre
-    (seen c.enum_told-in-TooWide-1.given.1 c.behind_id-end.ensures pre.there))
+    (seen c.in-TooWide.is c.behind_id-end.ensures pre.there))

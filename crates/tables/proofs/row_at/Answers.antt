@@ -14,27 +14,27 @@ three-on k i h a b c = omega arith
 
 pub returns-in-0 : goal.returns-in-0
 unfolding cell
-returns-in-0 c = c.beside_ids.ensures ∙ ap row_at (sym c.in-0.keys1)
+returns-in-0 c = c.beside_ids.ensures ∙ ap row_at (sym c.in-0.is)
 
 pub returns-in-1 : goal.returns-in-1
 unfolding cell
-returns-in-1 c = c.beside_ids-in-1.ensures ∙ ap row_at (sym c.in-1.keys2)
+returns-in-1 c = c.beside_ids-in-1.ensures ∙ ap row_at (sym c.in-1.is)
 
 pub returns-in-2 : goal.returns-in-2
 unfolding cell
-returns-in-2 c = c.beside_ids-in-2.ensures ∙ ap row_at (sym c.in-2.keys3)
+returns-in-2 c = c.beside_ids-in-2.ensures ∙ ap row_at (sym c.in-2.is)
 
 pub returns-in-3 : goal.returns-in-3
 unfolding cell
-returns-in-3 c = c.beside_ids-in-3.ensures ∙ ap row_at (sym c.in-3.keys4)
+returns-in-3 c = c.beside_ids-in-3.ensures ∙ ap row_at (sym c.in-3.is)
 
 pub returns-in-4 : goal.returns-in-4
 unfolding cell
-returns-in-4 c = c.beside_ids-in-4.ensures ∙ ap row_at (sym c.in-4.keys5)
+returns-in-4 c = c.beside_ids-in-4.ensures ∙ ap row_at (sym c.in-4.is)
 
 pub returns-in-5 : goal.returns-in-5
 unfolding cell
-returns-in-5 c = c.beside_ids-in-5.ensures ∙ ap row_at (sym c.in-5.keys6)
+returns-in-5 c = c.beside_ids-in-5.ensures ∙ ap row_at (sym c.in-5.is)
 
 pub returns-in_default : goal.returns-in_default
 unfolding cell

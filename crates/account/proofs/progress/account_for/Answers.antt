@@ -6,7 +6,7 @@ use Rattle.account.specs.declared.tally.Account.{Account}
 use Rattle.account.proofs.progress.account_for.Goals as goal
 use Rattle.account.proofs.progress.account_for.Goals.{Start}
 
-abbrev account : tie.Start → Bool → Account
+abbrev account : (c : Start) → Bool → Account
 account s begun = if begun then s.args.p.account else fresh_account (first_pid s.args.bytes.now)
 
 pub returns-then-p : goal.returns-then-p

@@ -13,9 +13,9 @@ by_both p s t e w = sym (λ i. ended_by (e i) (w i) p.account)
 pub returns-then-not-p : goal.returns-then-not-p
 returns-then-not-p c =
     let args = c.args in
-    by_both args.p Over false c.enum_told-in-Over-1.given.1 (not-true _ c.if-not-p.true)
+    by_both args.p Over false c.in-Over.is (not-true _ c.if-not-p.true)
 
 pub returns-else-not-p : goal.returns-else-not-p
 returns-else-not-p c =
     let args = c.args in
-    by_both args.p Over true c.enum_told-in-Over-1.given.1 (not-false _ c.if-not-p.false)
+    by_both args.p Over true c.in-Over.is (not-false _ c.if-not-p.false)

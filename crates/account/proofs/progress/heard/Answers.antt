@@ -6,9 +6,9 @@ use Rattle.account.specs.declared.reading.Got.TheVariants.{Bytes, Again, End, Fa
 use Rattle.account.proofs.progress.heard.Goals as goal
 use Rattle.account.proofs.progress.heard.Goals.{After-finish-arg-in-End-1, After-got_of-got, In-Bytes-2, Start}
 
-abbrev at : tie.After-got-of → State
+abbrev at : (c : After-got_of-got) → State
 at m =
-    let a = (start m).args in
+    let a = (m.BARE-Start).args in
     state_as a.p a.buf.now a.hold.now a.out.now
 
 module _ (m : tie.After-got-of) (g : Got) (e : m.got_of.result ≡ g) where
@@ -24,9 +24,9 @@ module _ (m : tie.After-got-of) (g : Got) (e : m.got_of.result ≡ g) where
 
 -- in the arm of some bytes: they fit behind what is left
 module _ (g : In-Bytes-2) where
-  bytes_fit : Fits (g.BARE-Start).args.p.left (Bytes g.got-1.given.0.0) (length (g.BARE-Start).args.buf.now)
+  bytes_fit : Fits (g.BARE-Start).args.p.left (Bytes g.in-Bytes.n) (length (g.BARE-Start).args.buf.now)
 
-  bytes_fit = fits g.BARE-After-got_of-got (Bytes g.got-1.given.0.0) g.got-1.given.1
+  bytes_fit = fits g.BARE-After-got_of-got (Bytes g.in-Bytes.n) g.in-Bytes.is
 
 abbrev end-arm : tie.After-finish-arg3 → tie.After-enum-told2
 end-arm c = c.before.before.before
@@ -44,10 +44,10 @@ finish-requires c =
 
 pub returns-in-Bytes : goal.returns-in-Bytes
 returns-in-Bytes c =
-    c.absorb.ensures ∙ as-heard ((goal.at.returns-in-Bytes c).After-got_of-got) (Bytes c.got-1.given.0.0) c.got-1.given.1
+    c.absorb.ensures ∙ as-heard ((goal.at.returns-in-Bytes c).After-got_of-got) (Bytes c.in-Bytes.n) c.in-Bytes.is
 
 pub returns-in-Again : goal.returns-in-Again
-returns-in-Again c = as-heard (goal.at.returns-in-Again c).After-got_of-got Again c.enum_told-1.given.1
+returns-in-Again c = as-heard (goal.at.returns-in-Again c).After-got_of-got Again c.in-Again.is
 
 pub returns-in-End : goal.returns-in-End
 returns-in-End c =
@@ -55,4 +55,4 @@ returns-in-End c =
     c.finish.ensures ∙ as-heard (met t) End t.enum-told2.given.1
 
 pub returns-in-Failed : goal.returns-in-Failed
-returns-in-Failed c = as-heard (goal.at.returns-in-Failed c).After-got_of-got Failed c.enum_told-in-Failed-1.given.1
+returns-in-Failed c = as-heard (goal.at.returns-in-Failed c).After-got_of-got Failed c.in-Failed.is

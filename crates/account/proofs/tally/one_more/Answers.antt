@@ -7,7 +7,7 @@ use Rattle.account.specs.declared.tally.Account.{Account}
 use Rattle.account.proofs.tally.one_more.Goals as goal
 use Rattle.account.proofs.tally.one_more.Goals.{Start}
 
-abbrev after : tie.Start → Answer → Account
+abbrev after : (c : Start) → Answer → Account
 after s answer = tallied s.args.a s.args.rec (told answer)
 
 pub returns-in-Refused : goal.returns-in-Refused
@@ -21,7 +21,7 @@ returns-in-Refused c =
       refused = c.wrapping_add_u64.ensures i;
       sections = a.sections;
     })
-    ∙ sym (ap (after (goal.at.returns-in-Refused c).Start) c.enum_told-1.given.1)
+    ∙ sym (ap (after (goal.at.returns-in-Refused c).Start) c.in-Refused.is)
 
 pub returns-in-Repeated : goal.returns-in-Repeated
 returns-in-Repeated c =
@@ -34,7 +34,7 @@ returns-in-Repeated c =
       refused = a.refused;
       sections = a.sections;
     })
-    ∙ sym (ap (after (goal.at.returns-in-Repeated c).Start) c.enum_told-in-Repeated-1.given.1)
+    ∙ sym (ap (after (goal.at.returns-in-Repeated c).Start) c.in-Repeated.is)
 
 pub returns-in-Taken : goal.returns-in-Taken
 returns-in-Taken c =
@@ -47,4 +47,4 @@ returns-in-Taken c =
       refused = a.refused;
       sections = c.wrapping_add_u64-in-Taken-2.ensures i;
     })
-    ∙ sym (ap (after (goal.at.returns-in-Taken c).Start) c.answer-1.given.1)
+    ∙ sym (ap (after (goal.at.returns-in-Taken c).Start) c.in-Taken.is)

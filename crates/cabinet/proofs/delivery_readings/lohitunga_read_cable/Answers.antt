@@ -4,8 +4,8 @@ use Rattle.cabinet.proofs.delivery_readings.lohitunga_read_cable.Goals as goal
 
 pub returns-in-Is : goal.returns-in-Is
 returns-in-Is c =
-    rw (← c.read.ensures, c.read-1.given.1, c.cable_of.ensures)
+    rw (← c.read.ensures, c.in-Is.is, c.cable_of.ensures)
 
 pub returns-in-Refused : goal.returns-in-Refused
 returns-in-Refused c =
-    rw (← c.read.ensures, c.refusal-1.given.1, c.why_of-why.ensures, c.no_cable.ensures)
+    rw (← c.read.ensures, c.in-Refused.is, c.why_of-why.ensures, c.no_cable.ensures)

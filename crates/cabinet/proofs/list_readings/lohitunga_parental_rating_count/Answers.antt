@@ -2,9 +2,8 @@
 use borrow.Author.Rules.{rules}
 use Rattle.cabinet.proofs.list_readings.lohitunga_parental_rating_count.Statement.{
   statement,
-use Rattle.cabinet.proofs.list_readings.lohitunga_parental_rating_count.Goals as goal
-
 }
+use Rattle.cabinet.proofs.list_readings.lohitunga_parental_rating_count.Goals as goal
 
 pub returns : goal.returns
 returns c = rw (c.count_of.ensures, c.count.ensures)

@@ -4,8 +4,8 @@ use Rattle.cabinet.proofs.list_readings.lohitunga_read_content.Goals as goal
 
 pub returns-in-Is : goal.returns-in-Is
 returns-in-Is c =
-    rw (← c.read.ensures, c.item-1.given.1, c.content_of.ensures)
+    rw (← c.read.ensures, c.in-Is.is, c.content_of.ensures)
 
 pub returns-in-Refused : goal.returns-in-Refused
 returns-in-Refused c =
-    rw (← c.read.ensures, c.why-1.given.1, c.of_refusal.ensures, c.no_content.ensures)
+    rw (← c.read.ensures, c.in-Refused.is, c.of_refusal.ensures, c.no_content.ensures)

@@ -4,8 +4,8 @@ use Rattle.cabinet.proofs.list_readings.lohitunga_read_local_time_offset.Goals a
 
 pub returns-in-Is : goal.returns-in-Is
 returns-in-Is c =
-    rw (← c.read.ensures, c.item-1.given.1, c.local_time_offset_of.ensures)
+    rw (← c.read.ensures, c.in-Is.is, c.local_time_offset_of.ensures)
 
 pub returns-in-Refused : goal.returns-in-Refused
 returns-in-Refused c =
-    rw (← c.read.ensures, c.refusal-1.given.1, c.why_of-why.ensures, c.no_local_time_offset.ensures)
+    rw (← c.read.ensures, c.in-Refused.is, c.why_of-why.ensures, c.no_local_time_offset.ensures)

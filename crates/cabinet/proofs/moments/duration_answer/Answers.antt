@@ -3,9 +3,9 @@ use borrow.Author.Rules.{rules}
 use Rattle.cabinet.proofs.moments.duration_answer.Goals as goal
 
 pub returns-in-Is : goal.returns-in-Is
-returns-in-Is c = rw (c.answer-1.given.1, c.duration_of.ensures)
+returns-in-Is c = rw (c.in-Is.is, c.duration_of.ensures)
 
 pub returns-in-Refused : goal.returns-in-Refused
 returns-in-Refused c =
     let why = c.of_fault-why.ensures in
-    rw (c.answer-in-Refused-1.given.1, why, c.no_duration.ensures)
+    rw (c.in-Refused.is, why, c.no_duration.ensures)

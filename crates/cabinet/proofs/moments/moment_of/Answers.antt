@@ -3,7 +3,7 @@ use borrow.Author.Rules.{rules}
 use Rattle.cabinet.proofs.moments.moment_of.Goals as goal
 
 pub returns-in-Undefined : goal.returns-in-Undefined
-returns-in-Undefined c = rw c.enum_told-1.given.1
+returns-in-Undefined c = rw c.in-Undefined.is
 
 pub returns-in-At : goal.returns-in-At
-returns-in-At c = rw c.moment-1.given.1
+returns-in-At c = rw c.in-At.is

@@ -3,13 +3,13 @@ use borrow.Author.Rules.{rules}
 use Rattle.cabinet.proofs.numbers.why_of.Goals as goal
 
 pub returns-in-WrongTag : goal.returns-in-WrongTag
-returns-in-WrongTag c = rw c.enum_told-1.given.1 c.plain.ensures
+returns-in-WrongTag c = rw c.in-WrongTag.is c.plain.ensures
 
 pub returns-in-DoesNotFit : goal.returns-in-DoesNotFit
-returns-in-DoesNotFit c = rw c.enum_told-in-DoesNotFit-1.given.1 c.plain-in-DoesNotFit.ensures
+returns-in-DoesNotFit c = rw c.in-DoesNotFit.is c.plain-in-DoesNotFit.ensures
 
 pub returns-in-PastEnd : goal.returns-in-PastEnd
-returns-in-PastEnd c = rw c.enum_told-in-PastEnd-1.given.1 c.plain-in-PastEnd.ensures
+returns-in-PastEnd c = rw c.in-PastEnd.is c.plain-in-PastEnd.ensures
 
 pub returns-in-Field : goal.returns-in-Field
-returns-in-Field c = rw c.refusal-1.given.1 c.of_fault.ensures
+returns-in-Field c = rw c.in-Field.is c.of_fault.ensures

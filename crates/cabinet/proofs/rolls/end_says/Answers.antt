@@ -5,8 +5,8 @@ use Rattle.cabinet.proofs.rolls.end_says.Goals as goal
 
 pub returns-in-Unknown : goal.returns-in-Unknown
 unfolding end_says
-returns-in-Unknown c = rw c.enum_told-1.given.1
+returns-in-Unknown c = rw c.in-Unknown.is
 
 pub returns-in-At : goal.returns-in-At
 unfolding end_says
-returns-in-At c = rw c.end-1.given.1
+returns-in-At c = rw c.in-At.is

@@ -5,8 +5,8 @@ use Rattle.cabinet.proofs.rolls.known_says.Goals as goal
 
 pub returns-in-Unknown : goal.returns-in-Unknown
 unfolding known_says
-returns-in-Unknown c = rw c.enum_told-1.given.1
+returns-in-Unknown c = rw c.in-Unknown.is
 
 pub returns-in-At : goal.returns-in-At
 unfolding known_says
-returns-in-At c = rw c.enum_told-in-At-1.given.1
+returns-in-At c = rw c.in-At.is

@@ -19,16 +19,16 @@ pub taken-requires : goal.taken-requires
 taken-requires c =
     let args = c.args in
     course_on (is_set args.roll.begun) (sub_table_in args.roll) args.roll.version args.roll.last args.section.now
-    (does (goal.at.taken-requires c).After-course_of-course ∙ ap told_course c.course-in-Taken-1.given.1 ∙ ap takes keep)
+    (does (goal.at.taken-requires c).After-course_of-course ∙ ap told_course c.in-Taken.is ∙ ap takes keep)
 
 pub returns-in-Refused : goal.returns-in-Refused
 returns-in-Refused c =
     let args = c.args in
     ap (holds args.roll) c.answer_says.ensures
-    ∙ refused_says args.roll args.section.now (does (goal.at.returns-in-Refused c).After-course_of-course ∙ ap told_course c.course-1.given.1)
+    ∙ refused_says args.roll args.section.now (does (goal.at.returns-in-Refused c).After-course_of-course ∙ ap told_course c.in-Refused.is)
 
 pub returns-in-Taken : goal.returns-in-Taken
 returns-in-Taken c =
     let args = c.args in
     c.taken.ensures
-    ∙ answering_says args.roll args.section.now _ (does (goal.at.returns-in-Taken c).After-course_of-course ∙ ap told_course c.course-in-Taken-1.given.1)
+    ∙ answering_says args.roll args.section.now _ (does (goal.at.returns-in-Taken c).After-course_of-course ∙ ap told_course c.in-Taken.is)

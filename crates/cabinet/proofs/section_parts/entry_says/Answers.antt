@@ -11,7 +11,7 @@ returns c =
       c.duration_in.ensures,
       c.part_says-2.ensures,
       c.start_in.ensures,
-      c.part_Says.ensures,
+      c.part_says.ensures,
       c.network_in.ensures,
       c.stream_in.ensures,
       c.id_if-2.ensures,

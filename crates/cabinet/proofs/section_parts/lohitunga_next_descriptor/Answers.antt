@@ -7,7 +7,7 @@ returns c =
     rw (
       c.part_says-3.ensures,
       c.part_says-2.ensures,
-      c.part_Says.ensures,
+      c.part_says.ensures,
       c.of_flag.ensures,
       c.next_descriptor-next.ensures,
       c.part_in.ensures,

@@ -6,7 +6,7 @@ pub returns : goal.returns
 returns c =
     rw (
       c.part_says-2.ensures,
-      c.part_Says.ensures,
+      c.part_says.ensures,
       c.of_flag.ensures,
       c.next_section-next.ensures,
       c.part_in.ensures,

@@ -7,10 +7,10 @@ use borrow.Author.Rules.{rules}
 use Rattle.cabinet.proofs.sheets.sheet_told.Goals as goal
 
 pub returns-in-Wrote : goal.returns-in-Wrote
-returns-in-Wrote c = ap (λ x. sheet_says (toldSheet x)) (sym c.a-1.given.1)
+returns-in-Wrote c = ap (λ x. sheet_says (toldSheet x)) (sym c.in-Wrote.is)
 
 pub returns-in-Room : goal.returns-in-Room
-returns-in-Room c = ap (λ x. sheet_says (toldSheet x)) (sym c.enum_told-1.given.1)
+returns-in-Room c = ap (λ x. sheet_says (toldSheet x)) (sym c.in-Room.is)
 
 pub returns-in-Refused : goal.returns-in-Refused
-returns-in-Refused c = refused_numbers c.a-in-Refused-1.given.1 c.number.ensures c.place.ensures
+returns-in-Refused c = refused_numbers c.in-Refused.is c.number.ensures c.place.ensures

@@ -4,8 +4,8 @@ use Rattle.cabinet.proofs.text_readings.lohitunga_read_short_event.Goals as goal
 
 pub returns-in-Is : goal.returns-in-Is
 returns-in-Is c =
-    rw (← c.read.ensures, c.read-1.given.1, c.short_event_of.ensures)
+    rw (← c.read.ensures, c.in-Is.is, c.short_event_of.ensures)
 
 pub returns-in-Refused : goal.returns-in-Refused
 returns-in-Refused c =
-    rw (← c.read.ensures, c.why-1.given.1, c.of_refusal.ensures, c.no_short_event.ensures)
+    rw (← c.read.ensures, c.in-Refused.is, c.of_refusal.ensures, c.no_short_event.ensures)

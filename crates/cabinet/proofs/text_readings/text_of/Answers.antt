@@ -3,7 +3,7 @@ use borrow.Author.Rules.{rules}
 use Rattle.cabinet.proofs.text_readings.text_of.Goals as goal
 
 pub returns-in-Is : goal.returns-in-Is
-returns-in-Is c = rw (c.answer-1.given.1, c.part_of.ensures)
+returns-in-Is c = rw (c.in-Is.is, c.part_of.ensures)
 
 pub returns-in-Refused : goal.returns-in-Refused
-returns-in-Refused c = rw (c.answer-in-Refused-1.given.1, c.of_refusal.ensures, c.no_part.ensures)
+returns-in-Refused c = rw (c.in-Refused.is, c.of_refusal.ensures, c.no_part.ensures)

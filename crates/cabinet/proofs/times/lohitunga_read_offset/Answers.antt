@@ -7,9 +7,9 @@ use Rattle.cabinet.proofs.times.lohitunga_read_offset.Goals as goal
 
 pub returns-in-Minutes : goal.returns-in-Minutes
 returns-in-Minutes c =
-    let n : SFits w16 c.minutes-1.given.0.0 = search rules in
-    rw (← c.read.ensures, c.minutes-1.given.1, to_z-of_z n)
+    let n : SFits w16 c.in-Minutes.minutes = search rules in
+    rw (← c.read.ensures, c.in-Minutes.is, to_z-of_z n)
 
 pub returns-in-Refused : goal.returns-in-Refused
 returns-in-Refused c =
-    rw (← c.read.ensures, c.fault-1.given.1, c.of_fault-why.ensures)
+    rw (← c.read.ensures, c.in-Refused.is, c.of_fault-why.ensures)

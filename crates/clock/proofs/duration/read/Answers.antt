@@ -5,8 +5,8 @@ use Rattle.clock.proofs.duration.read.Goals as goal
 
 pub returns-in-Refused : goal.returns-in-Refused
 unfolding duration_of
-returns-in-Refused c = rw (← c.six_digits.ensures, c.f-1.given.1)
+returns-in-Refused c = rw (← c.six_digits.ensures, c.in-Refused.is)
 
 pub returns-in-Is : goal.returns-in-Is
 unfolding duration_of
-returns-in-Is c = rw (← c.six_digits.ensures, c.clock-1.given.1)
+returns-in-Is c = rw (← c.six_digits.ensures, c.in-Is.is)

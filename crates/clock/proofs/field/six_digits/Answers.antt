@@ -7,13 +7,13 @@ pub returns-in-Refused : goal.returns-in-Refused
 unfolding hms
 returns-in-Refused c =
     let two_digits = c.two_digits-h in
-    rw (← two_digits.ensures, c.h-1.given.1)
+    rw (← two_digits.ensures, c.in-Refused.is)
 
 pub returns-in-Refused-m : goal.returns-in-Refused-m
 unfolding hms
 returns-in-Refused-m c =
     let two_digits = c.two_digits-h in
-    rw (← two_digits.ensures, c.h-in-Is-1.given.1, ← c.two_digits-m.ensures, c.m-1.given.1)
+    rw (← two_digits.ensures, c.in-Is.is, ← c.two_digits-m.ensures, c.in-Refused-m.is)
 
 pub returns-in-Refused-s : goal.returns-in-Refused-s
 unfolding hms
@@ -22,11 +22,11 @@ returns-in-Refused-s c =
     let two_digits = c.two_digits-h in
     rw (
       ← two_digits.ensures,
-      c.h-in-Is-1.given.1,
+      c.in-Is.is,
       ← two-digits2.ensures,
-      c.m-in-Is-1.given.1,
+      c.in-Is-m.is,
       ← c.two_digits-s.ensures,
-      c.s-1.given.1,
+      c.in-Refused-s.is,
     )
 
 pub returns-in-Is-s : goal.returns-in-Is-s
@@ -36,9 +36,9 @@ returns-in-Is-s c =
     let two_digits = c.two_digits-h in
     rw (
       ← two_digits.ensures,
-      c.h-in-Is-1.given.1,
+      c.in-Is.is,
       ← two-digits2.ensures,
-      c.m-in-Is-1.given.1,
+      c.in-Is-m.is,
       ← c.two_digits-s.ensures,
-      c.s-in-Is-m-1.given.1,
+      c.in-Is-s.is,
     )

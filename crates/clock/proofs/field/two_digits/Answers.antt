@@ -6,16 +6,16 @@ use Rattle.clock.proofs.field.two_digits.Goals as goal
 
 pub returns-in-Bad : goal.returns-in-Bad
 unfolding field
-returns-in-Bad c = rw (← c.bcd.ensures, c.digit-1.given.1)
+returns-in-Bad c = rw (← c.bcd.ensures, c.in-Bad.is)
 
 pub returns-then-n-limit : goal.returns-then-n-limit
 unfolding field
 returns-then-n-limit c =
     let bcd = c.bcd in
-    rw (← bcd.ensures, c.n-1.given.1, lt-ltb _ _ c.if-n-limit.true)
+    rw (← bcd.ensures, c.in-Value.is, lt-ltb _ _ c.if-n-limit.true)
 
 pub returns-else-n-limit : goal.returns-else-n-limit
 unfolding field
 returns-else-n-limit c =
     let bcd = c.bcd in
-    rw (← bcd.ensures, c.n-1.given.1, le-ltb _ _ c.if-n-limit.false)
+    rw (← bcd.ensures, c.in-Value.is, le-ltb _ _ c.if-n-limit.false)

@@ -11,17 +11,17 @@ pub returns-in-Refused : goal.returns-in-Refused
 unfolding offset_at
 returns-in-Refused c =
     let two_digits = c.two_digits-h in
-    rw (← two_digits.ensures, c.h-1.given.1)
+    rw (← two_digits.ensures, c.in-Refused.is)
 
 pub returns-in-Refused-m : goal.returns-in-Refused-m
 unfolding offset_at
 returns-in-Refused-m c =
     let two_digits = c.two_digits-h in
-    rw (← two_digits.ensures, c.h-in-Is-1.given.1, ← c.two_digits-m.ensures, c.m-1.given.1)
+    rw (← two_digits.ensures, c.in-Is.is, ← c.two_digits-m.ensures, c.in-Refused-m.is)
 
 pub returns-in-Is-m : goal.returns-in-Is-m
 unfolding offset_at
 returns-in-Is-m c =
     let two_digits = c.two_digits-h in
-    rw (← two_digits.ensures, c.h-in-Is-1.given.1, ← c.two_digits-m.ensures, c.m-in-Is-1.given.1)
+    rw (← two_digits.ensures, c.in-Is.is, ← c.two_digits-m.ensures, c.in-Is-m.is)
     (ap value (to_z-of_z (sfits_of {w = w16} c.signed_minutes.type_inv) ∙ c.signed_minutes.ensures))

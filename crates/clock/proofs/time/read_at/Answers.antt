@@ -17,11 +17,11 @@ unfolding time_at
 returns-in-Refused c =
     let if2 = c.if-mjd-lt15079 in
     let if1 = c.if-mjd-hour-eq1099511627775 in
-    rw (ne_eqb _ _ if1.false, le-ltb _ _ if2.false, ← c.six_digits.ensures, c.f-1.given.1)
+    rw (ne_eqb _ _ if1.false, le-ltb _ _ if2.false, ← c.six_digits.ensures, c.in-Refused.is)
 
 pub returns-in-Is : goal.returns-in-Is
 unfolding time_at
 returns-in-Is c =
     let if2 = c.if-mjd-lt15079 in
     let if1 = c.if-mjd-hour-eq1099511627775 in
-    rw (ne_eqb _ _ if1.false, le-ltb _ _ if2.false, ← c.six_digits.ensures, c.clock-1.given.1)
+    rw (ne_eqb _ _ if1.false, le-ltb _ _ if2.false, ← c.six_digits.ensures, c.in-Is.is)

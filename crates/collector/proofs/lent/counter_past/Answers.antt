@@ -4,4 +4,4 @@ use Rattle.collector.specs.Refusals.{counter_past}
 use Rattle.collector.proofs.lent.counter_past.Goals as goal
 
 pub returns-in-Counter : goal.returns-in-Counter
-returns-in-Counter c = sym (ap counter_past c.last-1.given.1)
+returns-in-Counter c = sym (ap counter_past c.in-Counter.is)

@@ -11,10 +11,6 @@ module _ (e : Else-none) where
 
   some = omega (arith, e.if-n-eq0.false)
 
--- from where the section's bytes are known
-module _ (k : After-total_of-total) where
-
-
 pub returns-then-n-eq0 : goal.returns-then-n-eq0
 returns-then-n-eq0 c =
     let a = c.args in

@@ -6,7 +6,7 @@ use Rattle.collector.proofs.payload.front_of.Goals as goal
 use Rattle.collector.proofs.payload.front_of.Goals.{Start}
 
 -- the stretch, with the start flag as given
-abbrev front : tie.Start → Bool → Front
+abbrev front : (c : Start) → Bool → Front
 front s start = front_of start s.args.packet.now s.args.from
 
 pub returns-then-start : goal.returns-then-start

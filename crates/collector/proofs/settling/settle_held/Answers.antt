@@ -52,7 +52,7 @@ module _ (f : After-window_at-at) where
 module _ (g : After-laid_of-laid) where
   abbrev laid : ℕ
 
-  laid = g.Laid-of.result
+  laid = g.laid_of-laid.result
 
   -- the section's end, no more than the packet has, and all of it in the window
 
@@ -63,9 +63,9 @@ module _ (g : After-laid_of-laid) where
       let fits = window-fits g.BARE-After-window_at-at in
       let w =
       within a.k (length a.packet.now - a.from) (at g.BARE-After-window_at-at + 224 - a.n) (omega arith) (omega (arith, fits)) in (
-        omega (arith, w, g.Laid-of.ensures),
-        omega (arith, w, g.Laid-of.ensures, length-drop a.from a.packet.now),
-        omega (arith, w, g.Laid-of.ensures, fits),
+        omega (arith, w, g.laid_of-laid.ensures),
+        omega (arith, w, g.laid_of-laid.ensures, length-drop a.from a.packet.now),
+        omega (arith, w, g.laid_of-laid.ensures, fits),
       )
 
 -- from where the section stands in the hold

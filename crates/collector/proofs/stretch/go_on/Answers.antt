@@ -22,14 +22,14 @@ module _ (w : In-Whole-2) where
 
   abbrev long : ℕ
 
-  long = w.look-1.given.0.0
+  long = w.in-Whole.t
 
   there : ((w.BARE-Start).args.n < long) × (long ≤ (w.BARE-Start).args.n + (w.BARE-Start).args.m) × (long ≤ 4096)
 
   there =
       let a = (w.BARE-Start).args in
       whole_in (given w.BARE-After-none_yet-r) a.out.now a.keep a.was _ w.none_yet-r.ensures (w.BARE-Else-n-eq0).if1.left
-      w.looked-look.result w.looked-look.ensures long w.look-1.given.1
+      w.looked-look.result w.looked-look.ensures long w.in-Whole.is
 
 pub returns-then-n-eq0 : goal.returns-then-n-eq0
 returns-then-n-eq0 c =
@@ -40,14 +40,14 @@ pub copy_payload-requires : goal.copy_payload-requires
 copy_payload-requires c =
     let a = ((goal.at.copy_payload-requires c).Start).args in
     let f = going_in (given (goal.at.copy_payload-requires c).After-none_yet-r) a.out.now a.keep a.was _ c.none_yet-r.ensures ((goal.at.copy_payload-requires c).Else-n-eq0).if1.false
-    c.looked-look.result c.looked-look.ensures c.enum_told-1.given.1 in
+    c.looked-look.result c.looked-look.ensures c.in-Going.is in
     (omega arith, omega arith)
 
 pub returns-then-keep : goal.returns-then-keep
 returns-then-keep c =
     let a = ((goal.at.returns-then-keep c).Start).args in
     end_kept (given (goal.at.returns-then-keep c).After-none_yet-r) a.out.now a.keep a.was _ c.none_yet-r.ensures ((goal.at.returns-then-keep c).Else-n-eq0).if1.false
-    c.looked-look.result c.looked-look.ensures c.if-keep.true c.enum_told-1.given.1 _
+    c.looked-look.result c.looked-look.ensures c.if-keep.true c.in-Going.is _
     c.copy_payload.ensures
 
 pub overflow_sub-t : goal.overflow_sub-t
@@ -77,17 +77,17 @@ pub returns-else-keep : goal.returns-else-keep
 returns-else-keep c =
     let a = ((goal.at.returns-else-keep c).Start).args in
     end_dropped (given (goal.at.returns-else-keep c).After-none_yet-r) a.out.now a.keep a.was _ c.none_yet-r.ensures ((goal.at.returns-else-keep c).Else-n-eq0).if1.false
-    c.looked-look.result c.looked-look.ensures c.if-keep.false c.enum_told-1.given.1
+    c.looked-look.result c.looked-look.ensures c.if-keep.false c.in-Going.is
 
 pub returns-in-Over : goal.returns-in-Over
 returns-in-Over c =
     let a = ((goal.at.returns-in-Over c).Start).args in
     end_over (given (goal.at.returns-in-Over c).After-none_yet-r) a.out.now a.keep a.was _ c.none_yet-r.ensures ((goal.at.returns-in-Over c).Else-n-eq0).if1.false
-    c.looked-look.result c.looked-look.ensures c.enum_told-in-Over-1.given.1
+    c.looked-look.result c.looked-look.ensures c.in-Over.is
 
 pub returns-in-Whole : goal.returns-in-Whole
 returns-in-Whole c =
     let a = ((goal.at.returns-in-Whole c).Start).args in
     end_whole (given (goal.at.returns-in-Whole c).After-none_yet-r) a.out.now a.keep a.was _ c.none_yet-r.ensures ((goal.at.returns-in-Whole c).Else-n-eq0).if1.left
-    c.looked-look.result c.looked-look.ensures (long (goal.at.returns-in-Whole c).In-Whole-2) c.look-1.given.1 _ c.settle_held-number.ensures.0 _
+    c.looked-look.result c.looked-look.ensures (long (goal.at.returns-in-Whole c).In-Whole-2) c.in-Whole.is _ c.settle_held-number.ensures.0 _
     c.settle_held-number.ensures.1.0 _ c.settle_held-number.ensures.1.1 _ c.with_section-r.ensures

@@ -11,13 +11,13 @@ module _ (w : In-Whole-2) where
 
   abbrev long : ℕ
 
-  long = w.look-1.given.0.0
+  long = w.in-Whole.t
 
   there : (3 ≤ long) × (long ≤ length w.args.packet.now - w.loop-i.i)
 
   there =
-      whole_in w.loop-i.inv (omega arith) w.if-packet-i.false w.looked-look.result
-      w.looked-look.ensures long w.look-1.given.1
+      whole_in w.loop-i.invariant (omega arith) w.if-packet-i.false w.looked-look.result
+      w.looked-look.ensures long w.in-Whole.is
 
 pub loop-i-init : goal.loop-i-init
 loop-i-init c =
@@ -31,12 +31,12 @@ returns-then-packet-i c = end_filler c.loop-i.invariant (omega arith) c.if-packe
 pub returns-in-Going : goal.returns-in-Going
 returns-in-Going c =
     end_going ((goal.at.returns-in-Going c).In-loop-i).before.loop.invariant (omega arith) c.if-packet-i.false c.looked-look.result
-    c.looked-look.ensures c.enum_told-1.given.1 _ c.copy_at.ensures
+    c.looked-look.ensures c.in-Going.is _ c.copy_at.ensures
 
 pub returns-in-Over : goal.returns-in-Over
 returns-in-Over c =
     end_over ((goal.at.returns-in-Over c).In-loop-i).before.loop.invariant (omega arith) c.if-packet-i.false c.looked-look.result
-    c.looked-look.ensures c.enum_told-in-Over-1.given.1
+    c.looked-look.ensures c.in-Over.is
 
 pub overflow_add-at : goal.overflow_add-at
 overflow_add-at c =
@@ -49,7 +49,7 @@ settle-number-requires c =
 
 pub with_section-g-requires : goal.with_section-g-requires
 with_section-g-requires c =
-    let x = ((goal.at.with_section-g-requires c).In-loop-i).before.loop.inv in
+    let x = ((goal.at.with_section-g-requires c).In-loop-i).before.loop.invariant in
     record {
       sections = omega (arith, x.few, x.passed, x.inside_packet, ((goal.at.with_section-g-requires c).Start).pre);
       bytes = omega (arith, there (goal.at.with_section-g-requires c).In-Whole-2, x.passed, x.inside_packet, ((goal.at.with_section-g-requires c).Start).pre);
@@ -65,9 +65,9 @@ loop-i-smaller c = omega (arith, there ((goal.at.loop-i-smaller c).In-Whole-2))
 
 pub loop-i-preserved : goal.loop-i-preserved
 loop-i-preserved c =
-    again ((goal.at.loop-i-preserved c).In-loop-i).before.loop.inv (omega arith) c.if-packet-i.false c.looked-look.result c.looked-look.ensures
+    again ((goal.at.loop-i-preserved c).In-loop-i).before.loop.invariant (omega arith) c.if-packet-i.false c.looked-look.result c.looked-look.ensures
     (long (goal.at.loop-i-preserved c).In-Whole-2)
-    c.look-1.given.1 (omega arith) _ c.settle-number.ensures.0 _ c.with_section-g.ensures _ c.settle-number.ensures.1
+    c.in-Whole.is (omega arith) _ c.settle-number.ensures.0 _ c.with_section-g.ensures _ c.settle-number.ensures.1
 
 pub returns : goal.returns
 returns c = end_all c.loop-i.invariant (omega arith)

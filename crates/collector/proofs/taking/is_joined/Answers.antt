@@ -13,7 +13,7 @@ returns-then-spliced c =
 pub returns-in-None : goal.returns-in-None
 unfolding joins
 returns-in-None c =
-    sym (λ i. joins (last_of (c.enum_told-1.given.1 i)) (c.if-spliced.false i) c.args.counter)
+    sym (λ i. joins (last_of (c.in-None.is i)) (c.if-spliced.false i) c.args.counter)
 
 pub returns-in-Counter : goal.returns-in-Counter
 unfolding joins
@@ -21,4 +21,4 @@ returns-in-Counter c =
     let a = c.args in
     ap (λ (n : ℕ). eqb n ((c.wide-in-Counter.result + 1) % 16)) c.wide.ensures.same
     ∙ ap (λ (n : ℕ). eqb a.counter ((n + 1) % 16)) c.wide-in-Counter.ensures.same
-    ∙ sym (λ i. joins (last_of (c.last-1.given.1 i)) (c.if-spliced.false i) a.counter)
+    ∙ sym (λ i. joins (last_of (c.in-Counter.is i)) (c.if-spliced.false i) a.counter)

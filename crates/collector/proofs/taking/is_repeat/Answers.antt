@@ -13,9 +13,9 @@ returns-then-spliced c =
 pub returns-in-None : goal.returns-in-None
 unfolding repeats
 returns-in-None c =
-    sym (λ i. repeats (last_of (c.enum_told-1.given.1 i)) (c.if-spliced.false i) c.args.counter)
+    sym (λ i. repeats (last_of (c.in-None.is i)) (c.if-spliced.false i) c.args.counter)
 
 pub returns-in-Counter : goal.returns-in-Counter
 unfolding repeats
 returns-in-Counter c =
-    sym (λ i. repeats (last_of (c.last-1.given.1 i)) (c.if-spliced.false i) c.args.counter)
+    sym (λ i. repeats (last_of (c.in-Counter.is i)) (c.if-spliced.false i) c.args.counter)

@@ -7,7 +7,7 @@ pub returns-in-Refused : goal.returns-in-Refused
 unfolding fields
 returns-in-Refused c =
     let digits-at = c.digits_at-frequency in
-    rw (← digits-at.ensures, c.frequency-1.given.1)
+    rw (← digits-at.ensures, c.in-Refused.is)
 
 pub returns-in-Refused-rate : goal.returns-in-Refused-rate
 unfolding fields
@@ -16,9 +16,9 @@ returns-in-Refused-rate c =
     let digits-at = c.digits_at-frequency in
     rw (
       ← digits-at.ensures,
-      c.frequency-in-Is-1.given.1,
+      c.in-Is.is,
       ← digits-at2.ensures,
-      c.rate-1.given.1,
+      c.in-Refused-rate.is,
     )
 
 pub returns-in-Is-rate : goal.returns-in-Is-rate
@@ -28,9 +28,9 @@ returns-in-Is-rate c =
     let digits-at = c.digits_at-frequency in
     rw (
       ← digits-at.ensures,
-      c.frequency-in-Is-1.given.1,
+      c.in-Is.is,
       ← digits-at2.ensures,
-      c.rate-in-Is-1.given.1,
+      c.in-Is-rate.is,
       c.bits_at.ensures,
       c.byte_at.ensures,
       c.bits_at-in-Is-rate.ensures,

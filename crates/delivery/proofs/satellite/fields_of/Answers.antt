@@ -7,7 +7,7 @@ pub returns-in-Refused : goal.returns-in-Refused
 unfolding fields
 returns-in-Refused c =
     let digits-at = c.digits_at-frequency in
-    rw (← digits-at.ensures, c.frequency-1.given.1)
+    rw (← digits-at.ensures, c.in-Refused.is)
 
 pub returns-in-Refused-orbital : goal.returns-in-Refused-orbital
 unfolding fields
@@ -15,9 +15,9 @@ returns-in-Refused-orbital c =
     let digits-at = c.digits_at-frequency in
     rw (
       ← digits-at.ensures,
-      c.frequency-in-Is-1.given.1,
+      c.in-Is.is,
       ← c.digits_at-orbital.ensures,
-      c.orbital-1.given.1,
+      c.in-Refused-orbital.is,
     )
 
 pub returns-in-Refused-rate : goal.returns-in-Refused-rate
@@ -27,11 +27,11 @@ returns-in-Refused-rate c =
     let digits-at = c.digits_at-frequency in
     rw (
       ← digits-at.ensures,
-      c.frequency-in-Is-1.given.1,
+      c.in-Is.is,
       ← digits-at2.ensures,
-      c.orbital-in-Is-1.given.1,
+      c.in-Is-orbital.is,
       ← c.digits_at-rate.ensures,
-      c.rate-1.given.1,
+      c.in-Refused-rate.is,
     )
 
 pub returns-in-Is-rate : goal.returns-in-Is-rate
@@ -41,10 +41,10 @@ returns-in-Is-rate c =
     let digits-at = c.digits_at-frequency in
     rw (
       ← digits-at.ensures,
-      c.frequency-in-Is-1.given.1,
+      c.in-Is.is,
       ← digits-at2.ensures,
-      c.orbital-in-Is-1.given.1,
+      c.in-Is-orbital.is,
       ← c.digits_at-rate.ensures,
-      c.rate-in-Is-orbital-1.given.1,
+      c.in-Is-rate.is,
       c.satellite_of.ensures,
     )

@@ -5,7 +5,7 @@ use Rattle.delivery.proofs.satellite.read.Goals as goal
 
 pub returns-in-Refused : goal.returns-in-Refused
 unfolding satellite
-returns-in-Refused c = rw (← c.sized.ensures, c.why-1.given.1)
+returns-in-Refused c = rw (← c.sized.ensures, c.in-Refused.is)
 
 pub returns-in-Fits : goal.returns-in-Fits
 unfolding satellite
@@ -13,7 +13,7 @@ returns-in-Fits c =
     let sized = c.sized in
     rw (
       ← sized.ensures,
-      c.enum_told-1.given.1,
+      c.in-Fits.is,
       ← c.after.ensures,
     )
     c.fields_of.ensures

@@ -6,16 +6,16 @@ use Rattle.layout.proofs.body.sized.Goals as goal
 
 pub returns-in-Refused : goal.returns-in-Refused
 unfolding fixed
-returns-in-Refused c = rw (← c.any.ensures, c.why-1.given.1)
+returns-in-Refused c = rw (← c.any.ensures, c.in-Refused.is)
 
 pub returns-then-size-n : goal.returns-then-size-n
 unfolding fixed
 returns-then-size-n c =
     let any = c.any in
-    rw (← any.ensures, c.enum_told-1.given.1, ← c.size.ensures, eq-eqb _ _ c.if-size-n.true)
+    rw (← any.ensures, c.in-Fits.is, ← c.size.ensures, eq-eqb _ _ c.if-size-n.true)
 
 pub returns-else-size-n : goal.returns-else-size-n
 unfolding fixed
 returns-else-size-n c =
     let any = c.any in
-    rw (← any.ensures, c.enum_told-1.given.1, ← c.size.ensures, ne_eqb _ _ c.if-size-n.false)
+    rw (← any.ensures, c.in-Fits.is, ← c.size.ensures, ne_eqb _ _ c.if-size-n.false)

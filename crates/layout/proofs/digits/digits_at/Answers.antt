@@ -14,11 +14,11 @@ unfolding digits_at
 returns-in-Bad c =
     let number32-at = c.number32_at in
     let left_over = c.left_over-left in
-    rw (← number32-at.ensures, ← left_over.ensures, ← c.bcd.ensures, c.digit-1.given.1)
+    rw (← number32-at.ensures, ← left_over.ensures, ← c.bcd.ensures, c.in-Bad.is)
 
 pub returns-in-Value : goal.returns-in-Value
 unfolding digits_at
 returns-in-Value c =
     let number32-at = c.number32_at in
     let left_over = c.left_over-left in
-    rw (← number32-at.ensures, ← left_over.ensures, ← c.bcd.ensures, c.a-1.given.1)
+    rw (← number32-at.ensures, ← left_over.ensures, ← c.bcd.ensures, c.in-Value.is)

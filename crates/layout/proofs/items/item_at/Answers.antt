@@ -25,18 +25,18 @@ overflow_add-result c = omega (arith, in_body (goal.at.overflow_add-result c).Th
 
 pub returns-in-Refused : goal.returns-in-Refused
 unfolding place
-returns-in-Refused c = rw (← c.whole.ensures, c.why-1.given.1)
+returns-in-Refused c = rw (← c.whole.ensures, c.in-Refused.is)
 
 pub returns-then-index-quotient : goal.returns-then-index-quotient
 unfolding place
 returns-then-index-quotient c =
     let size = c.size in
     let whole = c.whole in
-    rw (← whole.ensures, c.enum_told-1.given.1, ← size.ensures, ← c.quotient.ensures, lt-ltb _ _ c.if-index-quotient.true)
+    rw (← whole.ensures, c.in-Fits.is, ← size.ensures, ← c.quotient.ensures, lt-ltb _ _ c.if-index-quotient.true)
 
 pub returns-else-index-quotient : goal.returns-else-index-quotient
 unfolding place
 returns-else-index-quotient c =
     let size = c.size in
     let whole = c.whole in
-    rw (← whole.ensures, c.enum_told-1.given.1, ← size.ensures, ← c.quotient.ensures, le-ltb _ _ c.if-index-quotient.false)
+    rw (← whole.ensures, c.in-Fits.is, ← size.ensures, ← c.quotient.ensures, le-ltb _ _ c.if-index-quotient.false)

@@ -5,10 +5,10 @@ use Rattle.layout.proofs.items.number_of.Goals as goal
 
 pub returns-in-Refused : goal.returns-in-Refused
 unfolding count
-returns-in-Refused c = rw (← c.whole.ensures, c.why-1.given.1)
+returns-in-Refused c = rw (← c.whole.ensures, c.in-Refused.is)
 
 pub returns-in-Fits : goal.returns-in-Fits
 unfolding count
 returns-in-Fits c =
     let whole = c.whole in
-    rw (← whole.ensures, c.enum_told-1.given.1, ← c.size.ensures, ← c.quotient.ensures)
+    rw (← whole.ensures, c.in-Fits.is, ← c.size.ensures, ← c.quotient.ensures)

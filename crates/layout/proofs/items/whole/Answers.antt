@@ -6,18 +6,18 @@ use Rattle.layout.proofs.items.whole.Goals as goal
 
 pub returns-in-Refused : goal.returns-in-Refused
 unfolding items
-returns-in-Refused c = rw (← c.any.ensures, c.why-1.given.1)
+returns-in-Refused c = rw (← c.any.ensures, c.in-Refused.is)
 
 pub returns-then-remainder-eq0 : goal.returns-then-remainder-eq0
 unfolding items
 returns-then-remainder-eq0 c =
     let size = c.size in
     let any = c.any in
-    rw (← any.ensures, c.enum_told-1.given.1, ← size.ensures, ← c.remainder.ensures, eq-eqb _ _ c.if-remainder-eq0.true)
+    rw (← any.ensures, c.in-Fits.is, ← size.ensures, ← c.remainder.ensures, eq-eqb _ _ c.if-remainder-eq0.true)
 
 pub returns-else-remainder-eq0 : goal.returns-else-remainder-eq0
 unfolding items
 returns-else-remainder-eq0 c =
     let size = c.size in
     let any = c.any in
-    rw (← any.ensures, c.enum_told-1.given.1, ← size.ensures, ← c.remainder.ensures, ne_eqb _ _ c.if-remainder-eq0.false)
+    rw (← any.ensures, c.in-Fits.is, ← size.ensures, ← c.remainder.ensures, ne_eqb _ _ c.if-remainder-eq0.false)

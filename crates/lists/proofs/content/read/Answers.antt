@@ -6,10 +6,10 @@ use Rattle.lists.proofs.content.read.Goals as goal
 
 pub returns-in-Refused : goal.returns-in-Refused
 unfolding content item
-returns-in-Refused c = rw (← c.item_at.ensures, c.why-1.given.1)
+returns-in-Refused c = rw (← c.item_at.ensures, c.in-Refused.is)
 
 pub returns-in-At : goal.returns-in-At
 unfolding content item
 returns-in-At c =
     let item-at = c.item_at in
-    rw (← item-at.ensures, c.at-1.given.1, c.fields_of.ensures, c.part.ensures)
+    rw (← item-at.ensures, c.in-At.is, c.fields_of.ensures, c.part.ensures)

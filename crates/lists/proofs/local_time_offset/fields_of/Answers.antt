@@ -10,13 +10,13 @@ pub returns-in-Refused : goal.returns-in-Refused
 unfolding fields
 returns-in-Refused c =
     let offset-in = c.offset_in-local in
-    rw (← offset-in.ensures, c.local-1.given.1)
+    rw (← offset-in.ensures, c.in-Refused.is)
 
 pub returns-in-Refused-change : goal.returns-in-Refused-change
 unfolding fields
 returns-in-Refused-change c =
     let offset-in = c.offset_in-local in
-    rw (← offset-in.ensures, c.local-in-Minutes-1.given.1, ← c.time_in-change.ensures, c.change-1.given.1)
+    rw (← offset-in.ensures, c.in-Minutes.is, ← c.time_in-change.ensures, c.in-Refused-change.is)
 
 pub returns-in-Refused-next : goal.returns-in-Refused-next
 unfolding fields
@@ -25,25 +25,25 @@ returns-in-Refused-next c =
     let offset-in = c.offset_in-local in
     rw (
       ← offset-in.ensures,
-      c.local-in-Minutes-1.given.1,
+      c.in-Minutes.is,
       ← time-in.ensures,
-      c.change-in-Minutes-1.given.1,
+      c.in-Is.is,
       ← c.offset_in-next.ensures,
-      c.next-1.given.1,
+      c.in-Refused-next.is,
     )
 
 pub returns-in-Minutes-next : goal.returns-in-Minutes-next
 unfolding fields
 returns-in-Minutes-next c =
-    let local : SFits w16 c.local-in-Minutes-1.given.0.0 = search rules in
-    let next : SFits w16 c.next-in-Is-1.given.0.0 = search rules in
+    let local : SFits w16 c.in-Minutes.local_time_offset = search rules in
+    let next : SFits w16 c.in-Minutes-next.next_time_offset = search rules in
     rw (
       ← c.offset_in-local.ensures,
-      c.local-in-Minutes-1.given.1,
+      c.in-Minutes.is,
       ← c.time_in-change.ensures,
-      c.change-in-Minutes-1.given.1,
+      c.in-Is.is,
       ← c.offset_in-next.ensures,
-      c.next-in-Is-1.given.1,
+      c.in-Minutes-next.is,
       c.bits_at-country_region_id.ensures,
       c.number24_at-country_code.ensures,
       to_z-of_z local,

@@ -15,7 +15,7 @@ use Rattle.lists.proofs.local_time_offset.read.Goals.{In-At-2}
 module _ (b : In-At-2) where
   abbrev At : ℕ
 
-  At = b.at-1.given.0.0
+  At = b.in-At.at
 
   abbrev S : List ℕ
 
@@ -27,7 +27,7 @@ module _ (b : In-At-2) where
 
   placed : place S 0x58 13 Index ≡ value At
 
-  placed = sym b.item_at.ensures ∙ ap told_place b.at-1.given.1
+  placed = sym b.item_at.ensures ∙ ap told_place b.in-At.is
 
   where-it-stands : At ≡ 2 + 13 * Index
 
@@ -48,12 +48,12 @@ fields_of-requires c = omega (arith, low (goal.at.fields_of-requires c).In-At-2)
 
 pub returns-in-Refused : goal.returns-in-Refused
 unfolding localTimeOffset item
-returns-in-Refused c = rw (← c.item_at.ensures, c.why-1.given.1)
+returns-in-Refused c = rw (← c.item_at.ensures, c.in-Refused.is)
 
 pub returns-in-At : goal.returns-in-At
 unfolding localTimeOffset item
 returns-in-At c =
     let item-at = c.item_at in
     let at = where-it-stands (goal.at.returns-in-At c).In-At-2 in
-    rw (← item-at.ensures, c.at-1.given.1, ← c.part.ensures)
+    rw (← item-at.ensures, c.in-At.is, ← c.part.ensures)
     (c.fields_of.ensures ∙ ap (λ from. fields from c.part.result.now) (omega arith))

@@ -30,21 +30,21 @@ module _ (c : After-step_at-step) where
 
   by-its-step : (v : Step) → c.step_at-step.result ≡ v → (descriptors at (drop at bytes)).ends ≡ (by_step bytes p (told_step v)).ends
 
-  by-its-step v q = c.loop-p.inv ∙ ap answer (by_told bytes p _ v c.step_at-step.ensures q (omega arith))
+  by-its-step v q = c.loop-p.invariant ∙ ap answer (by_told bytes p _ v c.step_at-step.ensures q (omega arith))
 
 -- A descriptor stands at p: its body is of n bytes from b on, and the next is further on.
 module _ (c : In-Descriptor) where
   abbrev b : ℕ
 
-  b = c.step-1.given.0.1.0
+  b = c.in-Descriptor.start
 
   abbrev n : ℕ
 
-  n = c.step-1.given.0.1.1.0
+  n = c.in-Descriptor.size
 
   further : (p c.BARE-After-step_at-step < b + n) × (b + n ≤ length (bytes c.BARE-After-step_at-step)) × (b ≡ p c.BARE-After-step_at-step + 2)
 
-  further = told_on (bytes c.BARE-After-step_at-step) (p c.BARE-After-step_at-step) _ _ c.step_at-step.ensures c.step-1.given.1 _ _ _ refl
+  further = told_on (bytes c.BARE-After-step_at-step) (p c.BARE-After-step_at-step) _ _ c.step_at-step.ensures c.in-Descriptor.is _ _ _ refl
 
 pub loop-p-init : goal.loop-p-init
 loop-p-init c = refl
@@ -56,13 +56,13 @@ pub loop-p-smaller : goal.loop-p-smaller
 loop-p-smaller c = omega (arith, further (goal.at.loop-p-smaller c).In-Descriptor)
 
 pub loop-p-preserved : goal.loop-p-preserved
-loop-p-preserved c = by-its-step ((goal.at.loop-p-preserved c).After-step_at-step) _ c.step-1.given.1
+loop-p-preserved c = by-its-step ((goal.at.loop-p-preserved c).After-step_at-step) _ c.in-Descriptor.is
 
 pub returns-in-End : goal.returns-in-End
-returns-in-End c = sym (by-its-step (goal.at.returns-in-End c).After-step_at-step _ c.enum_told-1.given.1)
+returns-in-End c = sym (by-its-step (goal.at.returns-in-End c).After-step_at-step _ c.in-End.is)
 
 pub returns-in-Cut : goal.returns-in-Cut
-returns-in-Cut c = sym (by-its-step (goal.at.returns-in-Cut c).After-step_at-step _ c.step-in-Cut-1.given.1)
+returns-in-Cut c = sym (by-its-step (goal.at.returns-in-Cut c).After-step_at-step _ c.in-Cut.is)
 
 pub returns : goal.returns
 returns c = let l = c.loop-p in sym (l.invariant ∙ ap answer (at-end _ l.p (omega arith)))

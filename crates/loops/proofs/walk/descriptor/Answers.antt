@@ -21,11 +21,11 @@ returns-then-bytes-size c =
     let args = c.args in
     c.part.ensures
     ∙ to_the_end args.bytes.now c.less-from.result _ _ c.less-from.ensures c.if-bytes-size.true
-    ∙ sym (ap (λ x. descriptor_of args.bytes.now (told_step x)) c.step-1.given.1)
+    ∙ sym (ap (λ x. descriptor_of args.bytes.now (told_step x)) c.in-Descriptor.is)
 
 pub returns-else-bytes-size : goal.returns-else-bytes-size
 returns-else-bytes-size c =
     let args = c.args in
     c.part-in-Descriptor.ensures
-    ∙ ap (λ (k : ℕ). take (c.step-1.given.0.1.1.0 + 2) (drop k args.bytes.now)) c.less-from.ensures
-    ∙ sym (ap (λ x. descriptor_of args.bytes.now (told_step x)) c.step-1.given.1)
+    ∙ ap (λ (k : ℕ). take (c.in-Descriptor.size + 2) (drop k args.bytes.now)) c.less-from.ensures
+    ∙ sym (ap (λ x. descriptor_of args.bytes.now (told_step x)) c.in-Descriptor.is)

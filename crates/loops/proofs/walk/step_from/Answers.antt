@@ -30,17 +30,17 @@ module _ (c : After-step_at-step) where
 
 pub overflow_add-result : goal.overflow_add-result
 overflow_add-result c =
-    omega (arith, told_on (bytes (goal.at.overflow_add-result c).After-step_at-step) (at (goal.at.overflow_add-result c).After-step_at-step) _ _ c.step_at-step.ensures c.step-1.given.1 _ _ _ refl)
+    omega (arith, told_on (bytes (goal.at.overflow_add-result c).After-step_at-step) (at (goal.at.overflow_add-result c).After-step_at-step) _ _ c.step_at-step.ensures c.in-Descriptor.is _ _ _ refl)
 
 pub returns-in-Descriptor : goal.returns-in-Descriptor
 returns-in-Descriptor c =
-    let step_is = c.step-1.given.1 in
+    let step_is = c.in-Descriptor.is in
     record { gives = tells (goal.at.returns-in-Descriptor c).After-step_at-step _ step_is; moves = moves (goal.at.returns-in-Descriptor c).After-step_at-step _ step_is }
 
 pub returns-in-End : goal.returns-in-End
 returns-in-End c =
-    record { gives = c.step_at-step.ensures; moves = moves (goal.at.returns-in-End c).After-step_at-step _ c.enum_told-1.given.1 }
+    record { gives = c.step_at-step.ensures; moves = moves (goal.at.returns-in-End c).After-step_at-step _ c.in-End.is }
 
 pub returns-in-Cut : goal.returns-in-Cut
 returns-in-Cut c =
-    record { gives = c.step_at-step.ensures; moves = moves (goal.at.returns-in-Cut c).After-step_at-step _ c.enum_told-in-Cut-1.given.1 }
+    record { gives = c.step_at-step.ensures; moves = moves (goal.at.returns-in-Cut c).After-step_at-step _ c.in-Cut.is }

@@ -11,7 +11,7 @@ use Rattle.parts.proofs.entries.next_entry.Goals as goal
 
 pub entry_at-requires : goal.entry_at-requires
 entry_at-requires c =
-    (rw c.row_at-row.ensures (fixed_two _), lies _ _ c.is_Within.ensures c.if-is_within.true)
+    (rw c.row_at-row.ensures (fixed_two _), lies _ _ c.is_within.ensures c.if-is_within.true)
 
 pub returns-then-is_within : goal.returns-then-is_within
 returns-then-is_within c =
@@ -19,7 +19,7 @@ returns-then-is_within c =
     let number = c.row_of.ensures ∙ ap row_of c.byte_at.ensures in
     c.entry_at.ensures
     ∙ ap (λ (w : Row). entry_at args.section.now w.fixed args.rest) (c.row_at-row.ensures ∙ ap row_at number)
-    ∙ sym (entry_in _ _ c.is_Within.ensures c.if-is_within.true)
+    ∙ sym (entry_in _ _ c.is_within.ensures c.if-is_within.true)
 
 pub returns : goal.returns
-returns c = c.no_entry.ensures ∙ sym (entry_out _ _ c.is_Within.ensures c.if-is_within.false)
+returns c = c.no_entry.ensures ∙ sym (entry_out _ _ c.is_within.ensures c.if-is_within.false)

@@ -5,10 +5,10 @@ use borrow.Author.Rules.{rules}
 use Rattle.parts.proofs.room.next_section.Goals as goal
 
 pub section_at-requires : goal.section_at-requires
-section_at-requires c = lies _ _ c.is_Within.ensures c.if-is_within.true
+section_at-requires c = lies _ _ c.is_within.ensures c.if-is_within.true
 
 pub returns-then-is_within : goal.returns-then-is_within
-returns-then-is_within c = c.section_at.ensures ∙ sym (section_in _ _ c.is_Within.ensures c.if-is_within.true)
+returns-then-is_within c = c.section_at.ensures ∙ sym (section_in _ _ c.is_within.ensures c.if-is_within.true)
 
 pub returns : goal.returns
-returns c = c.no_section.ensures ∙ sym (section_out _ _ c.is_Within.ensures c.if-is_within.false)
+returns c = c.no_section.ensures ∙ sym (section_out _ _ c.is_within.ensures c.if-is_within.false)

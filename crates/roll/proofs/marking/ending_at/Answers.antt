@@ -6,12 +6,12 @@ use Rattle.roll.proofs.marking.ending_at.Goals as goal
 
 pub returns-in-Unknown : goal.returns-in-Unknown
 unfolding ending_by
-returns-in-Unknown c = rw (c.blank_until.ensures, c.enum_told-1.given.1)
+returns-in-Unknown c = rw (c.blank_until.ensures, c.in-Unknown.is)
 
 pub returns-then-e-end : goal.returns-then-e-end
 unfolding ending_by
 returns-then-e-end c =
-    rw (c.kept-1.given.1, eq-eqb _ _ c.if-e-end.true)
+    rw (c.in-At.is, eq-eqb _ _ c.if-e-end.true)
 
 pub returns-else-e-end : goal.returns-else-e-end
 unfolding ending_by

@@ -8,12 +8,12 @@ use Rattle.roll.proofs.segments.wanted.Goals as goal
 pub returns-in-Unknown : goal.returns-in-Unknown
 unfolding wanted_of up_to
 returns-in-Unknown c =
-    rw (c.if-schedule.true, sym c.counting_end-known.ensures ∙ c.enum_told-1.given.1)
+    rw (c.if-schedule.true, sym c.counting_end-known.ensures ∙ c.in-Unknown.is)
 
 pub returns-in-At : goal.returns-in-At
 unfolding wanted_of up_to
 returns-in-At c =
-    rw (c.if-schedule.true, sym c.counting_end-known.ensures ∙ c.known-1.given.1)
+    rw (c.if-schedule.true, sym c.counting_end-known.ensures ∙ c.in-At.is)
 
 pub returns-then-last-segment : goal.returns-then-last-segment
 unfolding wanted_of up_to

@@ -52,7 +52,7 @@ returns-then-end-p c = sym (c.loop-p.invariant ∙ ap answer (at_short (begins (
 
 pub returns-then-end-start : goal.returns-then-end-start
 returns-then-end-start c =
-    sym (c.loop-p.inv ∙ ap answer (at_past (entry (goal.at.returns-then-end-start c).After-length12-size) (omega arith) (omega arith)))
+    sym (c.loop-p.invariant ∙ ap answer (at_past (entry (goal.at.returns-then-end-start c).After-length12-size) (omega arith) (omega arith)))
 
 pub slice_bounds-judge_descriptors-end : goal.slice_bounds-judge_descriptors-end
 slice_bounds-judge_descriptors-end c = sym (length-take-le _ _ (omega arith))

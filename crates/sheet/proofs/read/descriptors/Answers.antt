@@ -6,10 +6,10 @@ use borrow.Author.Rules.{rules}
 use Rattle.sheet.proofs.read.descriptors.Goals as goal
 
 pub returns-in-At : goal.returns-in-At
-returns-in-At c = follows_on (counted descriptor) c.from-1.given.1 c.descriptors_at.ensures
+returns-in-At c = follows_on (counted descriptor) c.in-At.is c.descriptors_at.ensures
 
 pub returns-in-EndsEarly : goal.returns-in-EndsEarly
-returns-in-EndsEarly c = still_early (counted descriptor) c.enum_told-1.given.1
+returns-in-EndsEarly c = still_early (counted descriptor) c.in-EndsEarly.is
 
 pub returns-in-TooWide : goal.returns-in-TooWide
-returns-in-TooWide c = still_wide (counted descriptor) c.enum_told-in-TooWide-1.given.1
+returns-in-TooWide c = still_wide (counted descriptor) c.in-TooWide.is

@@ -10,17 +10,17 @@ loop-left-init c = λ r h. h
 
 pub returns-in-EndsEarly : goal.returns-in-EndsEarly
 returns-in-EndsEarly c =
-    item_early descriptor c.loop-left.invariant c.loop-left-test.true c.enum_told-1.given.1
+    item_early descriptor c.loop-left.invariant c.loop-left-test.true c.in-EndsEarly.is
     c.descriptor_at-end.ensures
 
 pub returns-in-TooWide : goal.returns-in-TooWide
 returns-in-TooWide c =
-    item_wide descriptor c.loop-left.invariant c.loop-left-test.true c.enum_told-in-TooWide-1.given.1
+    item_wide descriptor c.loop-left.invariant c.loop-left-test.true c.in-TooWide.is
     c.descriptor_at-end.ensures
 
 pub loop-left-preserved : goal.loop-left-preserved
 loop-left-preserved c =
-    item_on descriptor c.loop-left.invariant c.loop-left-test.true c.end-1.given.1
+    item_on descriptor c.loop-left.invariant c.loop-left-test.true c.in-At.is
     c.descriptor_at-end.ensures
 
 pub returns : goal.returns

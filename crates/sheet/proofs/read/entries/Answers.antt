@@ -4,10 +4,10 @@ use borrow.Author.Rules.{rules}
 use Rattle.sheet.proofs.read.entries.Goals as goal
 
 pub returns-in-At : goal.returns-in-At
-returns-in-At c = follows_on _ c.from-1.given.1 c.entries_at.ensures
+returns-in-At c = follows_on _ c.in-At.is c.entries_at.ensures
 
 pub returns-in-EndsEarly : goal.returns-in-EndsEarly
-returns-in-EndsEarly c = still_early _ c.enum_told-1.given.1
+returns-in-EndsEarly c = still_early _ c.in-EndsEarly.is
 
 pub returns-in-TooWide : goal.returns-in-TooWide
-returns-in-TooWide c = still_wide _ c.enum_told-in-TooWide-1.given.1
+returns-in-TooWide c = still_wide _ c.in-TooWide.is

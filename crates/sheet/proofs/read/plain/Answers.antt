@@ -6,10 +6,10 @@ use Rattle.sheet.proofs.read.plain.Goals as goal
 
 pub returns-in-At : goal.returns-in-At
 returns-in-At c =
-    follows_on (raw c.args.n) c.from-1.given.1 c.plain_at.ensures
+    follows_on (raw c.args.n) c.in-At.is c.plain_at.ensures
 
 pub returns-in-EndsEarly : goal.returns-in-EndsEarly
-returns-in-EndsEarly c = still_early (raw c.args.n) c.enum_told-1.given.1
+returns-in-EndsEarly c = still_early (raw c.args.n) c.in-EndsEarly.is
 
 pub returns-in-TooWide : goal.returns-in-TooWide
-returns-in-TooWide c = still_wide (raw c.args.n) c.enum_told-in-TooWide-1.given.1
+returns-in-TooWide c = still_wide (raw c.args.n) c.in-TooWide.is

@@ -6,10 +6,10 @@ use borrow.Author.Rules.{rules}
 use Rattle.sheet.proofs.read.section_numbers.Goals as goal
 
 pub returns-in-At : goal.returns-in-At
-returns-in-At c = follows_on (sheet_item numbers) c.from-1.given.1 c.section_numbers_at.ensures
+returns-in-At c = follows_on (sheet_item numbers) c.in-At.is c.section_numbers_at.ensures
 
 pub returns-in-EndsEarly : goal.returns-in-EndsEarly
-returns-in-EndsEarly c = still_early (sheet_item numbers) c.enum_told-1.given.1
+returns-in-EndsEarly c = still_early (sheet_item numbers) c.in-EndsEarly.is
 
 pub returns-in-TooWide : goal.returns-in-TooWide
-returns-in-TooWide c = still_wide (sheet_item numbers) c.enum_told-in-TooWide-1.given.1
+returns-in-TooWide c = still_wide (sheet_item numbers) c.in-TooWide.is

@@ -5,7 +5,7 @@ use Rattle.texts.proofs.short_event.fields_of.Goals as goal
 
 pub returns-in-DoNotFit : goal.returns-in-DoNotFit
 unfolding fields
-returns-in-DoNotFit c = rw (← c.two_texts.ensures, c.enum_told-1.given.1)
+returns-in-DoNotFit c = rw (← c.two_texts.ensures, c.in-DoNotFit.is)
 
 pub returns-in-Are : goal.returns-in-Are
 unfolding fields
@@ -14,6 +14,6 @@ returns-in-Are c =
     let number24-at = c.number24_at-language_code in
     rw (
       ← two-texts.ensures,
-      c.texts-1.given.1,
+      c.in-Are.is,
       number24-at.ensures,
     )

@@ -5,7 +5,7 @@ use Rattle.texts.proofs.short_event.read.Goals as goal
 
 pub returns-in-Refused : goal.returns-in-Refused
 unfolding short_event
-returns-in-Refused c = rw (← c.any.ensures, c.why-1.given.1)
+returns-in-Refused c = rw (← c.any.ensures, c.in-Refused.is)
 
 pub returns-in-Fits : goal.returns-in-Fits
 unfolding short_event
@@ -13,7 +13,7 @@ returns-in-Fits c =
     let any = c.any in
     rw (
       ← any.ensures,
-      c.enum_told-1.given.1,
+      c.in-Fits.is,
       ← c.after.ensures,
     )
     c.fields_of.ensures

@@ -5,8 +5,8 @@ use Rattle.texts.proofs.whole.read.Goals as goal
 
 pub returns-in-Refused : goal.returns-in-Refused
 unfolding whole
-returns-in-Refused c = rw (← c.any.ensures, c.why-1.given.1)
+returns-in-Refused c = rw (← c.any.ensures, c.in-Refused.is)
 
 pub returns-in-Fits : goal.returns-in-Fits
 unfolding whole
-returns-in-Fits c = rw (← c.any.ensures, c.enum_told-1.given.1, c.size.ensures)
+returns-in-Fits c = rw (← c.any.ensures, c.in-Fits.is, c.size.ensures)

@@ -23,13 +23,13 @@ overflow_add-size c =
 
 pub overflow_add-k : goal.overflow_add-k
 overflow_add-k c =
-    omega (arith, c.loop-p.invariant.few, c.loop-p-test.true, c.well-formed.0.0)
+    omega (arith, c.loop-p.invariant.few, c.loop-p-test.true, c.well_formed.0.0)
 
 pub loop-p-smaller : goal.loop-p-smaller
 loop-p-smaller c =
     let a = c.args in
     count_less (length a.bytes.now) c.past-p.ensures
-    (omega (arith, fixed_small a.fixed a.row c.requires)) c.loop-p-test.true c.well-formed.0.0
+    (omega (arith, fixed_small a.fixed a.row c.requires)) c.loop-p-test.true c.well_formed.0.0
 
 pub loop-p-preserved : goal.loop-p-preserved
 loop-p-preserved c =
@@ -40,8 +40,8 @@ loop-p-preserved c =
     (omega (arith, fixed_small a.fixed a.row c.requires))
     (λ e o t.
     ap (λ x. a.fixed + x) (c.length12_at.ensures.same ∙ ap (len12_at l) c.past.ensures)
-    ∙ entry_says_lem a.fixed a.row c.requires l q c.well-formed.0.0 e o t)
-    c.loop-p-test.true c.well-formed.0.0 c.loop-p.invariant
+    ∙ entry_says_lem a.fixed a.row c.requires l q c.well_formed.0.0 e o t)
+    c.loop-p-test.true c.well_formed.0.0 c.loop-p.invariant
 
 pub returns : goal.returns
 returns c = search (count_ends, rules)

@@ -14,6 +14,6 @@ body_forth-requires c =
 pub returns : goal.returns
 returns c =
     section_written c.args.sheet.now c.args.room.now (λ k. (c.shared_slice_known-1.given k).fits)
-    c.well-formed.1.1.1.0.0 c.args.n c.args.number c.row_at-row.ensures c.past.ensures
+    c.well_formed.1.1.1.0.0 c.args.n c.args.number c.row_at-row.ensures c.past.ensures
     c.body_end-end.ensures c.byte_at.ensures c.begin.ensures c.body_forth.ensures
     c.seal.ensures

@@ -33,8 +33,6 @@ module _ {all : ℕ} {sizes : List ℕ} {a : Ahead} {rest n : ℕ} (i : Counted 
   all-counted : rest ≤ 0 → n ≡ length (turns_from (unbegun sizes))
   all-counted k = omega (arith, i.so_far, ap length (turns_stop (ahead_of sizes a) (omega (arith, i.ahead))))
 
-}
-
 -- some packets more
 module _ (b : After-some_more-l) where
   goes_on : Leaps b.args.sizes.now b.loop-rest.a b.loop-rest.rest
@@ -48,6 +46,7 @@ loop-rest-init c = record {
   ahead = zero-add _ ∙ sym c.requires.0;
   few = omega arith;
   so_far = zero-add _;
+}
 
 pub some_more-l-requires : goal.some_more-l-requires
 some_more-l-requires c =

@@ -57,4 +57,4 @@ open_next-requires c =
 pub returns : goal.returns
 returns c =
     one _ c.args.a c.args.rest c.requires.1 c.requires.0 c.next_turn-t.result c.next_turn-t.ensures
-    c.Open-next.result c.Open-next.ensures.0 c.Open-next.ensures.1
+    c.open_next.result c.open_next.ensures.0 c.open_next.ensures.1

@@ -160,24 +160,24 @@ put_next-p-requires c =
 
 pub overflow_add-place : goal.overflow_add-place
 overflow_add-place c =
-    let there = in-sections ((goal.at.overflow_add-place c).At-loop-place).loop.inv (some_left (goal.at.overflow_add-place c).After-put_next-p) c.put_next-p.result _ c.put_next-p.ensures in
+    let there = in-sections ((goal.at.overflow_add-place c).At-loop-place).loop.invariant (some_left (goal.at.overflow_add-place c).After-put_next-p) c.put_next-p.result _ c.put_next-p.ensures in
     omega (arith, there, ((goal.at.overflow_add-place c).Start).good)
 
 pub overflow_add-at : goal.overflow_add-at
 overflow_add-at c =
-    omega (arith, fits_in ((goal.at.overflow_add-at c).At-loop-place).loop.inv (some_left (goal.at.overflow_add-at c).After-put_next-p), ((goal.at.overflow_add-at c).At-loop-place).loop.inv.same, ((goal.at.overflow_add-at c).Start).good)
+    omega (arith, fits_in ((goal.at.overflow_add-at c).At-loop-place).loop.invariant (some_left (goal.at.overflow_add-at c).After-put_next-p), ((goal.at.overflow_add-at c).At-loop-place).loop.inv.same, ((goal.at.overflow_add-at c).Start).good)
 
 pub overflow_add-c : goal.overflow_add-c
 overflow_add-c c = omega (arith, ((goal.at.overflow_add-c c).At-loop-place).loop.inv.small)
 
 pub loop-place-smaller : goal.loop-place-smaller
 loop-place-smaller c =
-    let more = some_bytes ((goal.at.loop-place-smaller c).At-loop-place).loop.inv (some_left (goal.at.loop-place-smaller c).After-put_next-p) c.put_next-p.result _ c.put_next-p.ensures in
+    let more = some_bytes ((goal.at.loop-place-smaller c).At-loop-place).loop.invariant (some_left (goal.at.loop-place-smaller c).After-put_next-p) c.put_next-p.result _ c.put_next-p.ensures in
     omega (arith, more, some_left (goal.at.loop-place-smaller c).After-put_next-p)
 
 pub loop-place-preserved : goal.loop-place-preserved
 loop-place-preserved c =
-    one_more ((goal.at.loop-place-preserved c).At-loop-place).loop.inv (some_left (goal.at.loop-place-preserved c).After-put_next-p) c.put_next-p.result _ c.put_next-p.ensures
+    one_more ((goal.at.loop-place-preserved c).At-loop-place).loop.invariant (some_left (goal.at.loop-place-preserved c).After-put_next-p) c.put_next-p.result _ c.put_next-p.ensures
 
 pub shape_of-room : goal.shape_of-room
 shape_of-room c = c.loop-place.invariant.same

@@ -97,5 +97,5 @@ open_next-requires c =
 
 pub returns : goal.returns
 returns c =
-    turned ((goal.at.returns c).Start).requires c.next_turn-t.result c.next_turn-t.ensures c.Open-next.result
-    c.Open-next.ensures.0 c.Open-next.ensures.1 _ c.put_packet.ensures
+    turned ((goal.at.returns c).Start).requires c.next_turn-t.result c.next_turn-t.ensures c.open_next.result
+    c.open_next.ensures.0 c.open_next.ensures.1 _ c.put_packet.ensures

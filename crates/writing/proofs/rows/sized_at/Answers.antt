@@ -62,8 +62,8 @@ module _ {z : ℤ} (f : SFits w32 z) where
     turned-held = to_z-of_z turned-fits ∙ turned-is
 
 -- the number that is read
-abbrev read : tie.After-z → ℤ
-read c = let a = c.before.before.args in get_or a.numbers.now a.at (pos 0)
+abbrev read : (c : After-z-1) → ℤ
+read c = let a = c.args in get_or a.numbers.now a.at (pos 0)
 
 read_fits : (c : After-z-1) → SFits w32 (read c)
 read_fits c = sfits_of c.z-1.given
