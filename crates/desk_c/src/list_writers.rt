@@ -1,0 +1,36 @@
+// The lists, as rows of numbers.
+ghost use Rattle.desk.specs.Answers.{Called};
+ghost use Rattle.write_lists.specs.ServiceList.{service_list_written};
+ghost use Rattle.write_lists.specs.Content.{content_written};
+ghost use Rattle.write_lists.specs.ParentalRating.{parental_rating_written};
+ghost use Rattle.write_lists.specs.LocalTimeOffset.{local_time_offset_written};
+
+use desk::answers::WriteAnswer;
+
+#[unsafe(no_mangle)]
+pub extern "C" fn lohitunga_write_service_list(numbers: &[i32], room: &mut [u8]) -> WriteAnswer
+    ensures { Called (service_list_written numbers.now) room.old result room.new }
+{
+    desk::list_writers::lohitunga_write_service_list(numbers, room)
+}
+
+#[unsafe(no_mangle)]
+pub extern "C" fn lohitunga_write_content(numbers: &[i32], room: &mut [u8]) -> WriteAnswer
+    ensures { Called (content_written numbers.now) room.old result room.new }
+{
+    desk::list_writers::lohitunga_write_content(numbers, room)
+}
+
+#[unsafe(no_mangle)]
+pub extern "C" fn lohitunga_write_parental_rating(numbers: &[i32], room: &mut [u8]) -> WriteAnswer
+    ensures { Called (parental_rating_written numbers.now) room.old result room.new }
+{
+    desk::list_writers::lohitunga_write_parental_rating(numbers, room)
+}
+
+#[unsafe(no_mangle)]
+pub extern "C" fn lohitunga_write_local_time_offset(numbers: &[i32], room: &mut [u8]) -> WriteAnswer
+    ensures { Called (local_time_offset_written numbers.now) room.old result room.new }
+{
+    desk::list_writers::lohitunga_write_local_time_offset(numbers, room)
+}
