@@ -6,20 +6,20 @@
 
 ghost use Rattle.loops.specs.Descriptors.{Steps};
 
-use libc::{STDIN_FILENO, STDOUT_FILENO};
 use loops::walk::{Step, Stepped};
 use search::Found;
+use std::io;
+use std::io::{Read, Write};
 
-fn word(bytes: &[u8]) {
-    io::write_all(STDOUT_FILENO, bytes);
+fn word(out: &mut impl Write, bytes: &[u8]) -> io::Result<()> {
+    out.write_all(bytes)
 }
 
-fn number(n: usize) {
-    word(b" ");
-    io::print_decimal(STDOUT_FILENO, n as u64);
+fn number(out: &mut impl Write, n: usize) -> io::Result<()> {
+    write!(out, " {n}")
 }
 
-fn tell_found(section: &[u8], tag: u8) {
+fn tell_found(out: &mut impl Write, section: &[u8], tag: u8) -> io::Result<()> {
     let found = search::search(section, tag);
     match found {
         Found::Hit {
@@ -27,30 +27,26 @@ fn tell_found(section: &[u8], tag: u8) {
             start,
             size,
         } => {
-            word(b"accepted, found");
-            number(k);
-            number(start);
-            number(size);
+            word(out, b"accepted, found")?;
+            number(out, k)?;
+            number(out, start)?;
+            number(out, size)
         }
-        Found::Nothing => {
-            word(b"accepted, none");
-        }
-        Found::Refused(_) => {
-            word(b"refused by the search alone");
-        }
+        Found::Nothing => word(out, b"accepted, none"),
+        Found::Refused(_) => word(out, b"refused by the search alone"),
     }
 }
 
-fn tell(section: &[u8], tag: u8) {
+fn tell(out: &mut impl Write, section: &[u8], tag: u8) -> io::Result<()> {
     let verdict = section::judge::judge(section);
     if verdict::is_accepted(verdict) {
-        tell_found(section, tag);
+        tell_found(out, section, tag)?;
     } else {
-        word(b"refused");
-        number(wire::wide(verdict::number(verdict)));
-        number(verdict::place(verdict));
+        word(out, b"refused")?;
+        number(out, wire::wide(verdict::number(verdict)))?;
+        number(out, verdict::place(verdict))?;
     }
-    word(b"\n");
+    word(out, b"\n")
 }
 
 // A walk over the loop that stands at the place `at`, and one step of it.
@@ -63,16 +59,15 @@ fn step_of_walk(bytes: &[u8], at: usize) -> Stepped
     Stepped { step, at: walk.at }
 }
 
-fn bytes_in_turn(bytes: &[u8]) {
-    let mut i: usize = 0;
-    while i < bytes.len() {
-        number(wire::wide(bytes[i]));
-        i += 1;
+fn bytes_in_turn(out: &mut impl Write, bytes: &[u8]) -> io::Result<()> {
+    for b in bytes {
+        number(out, wire::wide(*b))?;
     }
+    Ok(())
 }
 
 // What the walk gave, the place at which it then stands, and each byte of the descriptor handed out; false where there is none.
-fn tell_step(bytes: &[u8], stepped: Stepped) -> bool {
+fn tell_step(out: &mut impl Write, bytes: &[u8], stepped: Stepped) -> io::Result<bool> {
     let step = stepped.step;
     match step {
         Step::Descriptor {
@@ -80,70 +75,85 @@ fn tell_step(bytes: &[u8], stepped: Stepped) -> bool {
             start: _,
             size: _,
         } => {
-            word(b"descriptor, then at");
-            number(stepped.at);
-            word(b":");
-            bytes_in_turn(loops::walk::descriptor(bytes, step));
-            word(b"\n");
-            true
+            word(out, b"descriptor, then at")?;
+            number(out, stepped.at)?;
+            word(out, b":")?;
+            bytes_in_turn(out, loops::walk::descriptor(bytes, step))?;
+            word(out, b"\n")?;
+            Ok(true)
         }
         Step::End => {
-            word(b"end, at");
-            number(stepped.at);
-            word(b"\n");
-            false
+            word(out, b"end, at")?;
+            number(out, stepped.at)?;
+            word(out, b"\n")?;
+            Ok(false)
         }
         Step::Cut(place) => {
-            word(b"refused 9");
-            number(place);
-            word(b", at");
-            number(stepped.at);
-            word(b"\n");
-            false
+            word(out, b"refused 9")?;
+            number(out, place)?;
+            word(out, b", at")?;
+            number(out, stepped.at)?;
+            word(out, b"\n")?;
+            Ok(false)
         }
     }
 }
 
-fn tell_walk(bytes: &[u8], at: usize) {
-    let mut turns: usize = 65536;
+fn tell_walk(out: &mut impl Write, bytes: &[u8], at: usize) -> io::Result<()> {
     let mut p = at;
-    while turns > 0 {
+    for _ in 0..65536u32 {
         let stepped = step_of_walk(bytes, p);
-        turns = if tell_step(bytes, stepped) {
-            turns - 1
-        } else {
-            0
-        };
+        if !tell_step(out, bytes, stepped)? {
+            break;
+        }
         p = stepped.at;
     }
+    Ok(())
+}
+
+// As many bytes as buf has, or as the input still has.
+fn read_full(input: &mut impl Read, buf: &mut [u8]) -> io::Result<usize> {
+    let mut done: usize = 0;
+    while done < buf.len() {
+        let n = input.read(&mut buf[done..])?;
+        if n == 0 {
+            break;
+        }
+        done += n;
+    }
+    Ok(done)
 }
 
 // One record; false where no whole one is left.
-fn turn(room: &mut [u8]) -> bool {
+fn turn(input: &mut impl Read, out: &mut impl Write, room: &mut [u8]) -> io::Result<bool> {
     let mut head = [0u8; 4];
-    if io::read_full(STDIN_FILENO, &mut head) < 4 {
-        return false;
+    if read_full(input, &mut head)? < 4 {
+        return Ok(false);
     }
     let size = wire::wide(head[2]) * 256 + wire::wide(head[3]);
     if room.len() < size {
-        return false;
+        return Ok(false);
     }
-    if io::read_full(STDIN_FILENO, &mut room[..size]) < size {
-        return false;
+    if read_full(input, &mut room[..size])? < size {
+        return Ok(false);
     }
     let bytes = wire::parts::part(room, 0, size);
     if head[0] == 0 {
-        tell(bytes, head[1]);
+        tell(out, bytes, head[1])?;
     } else {
-        tell_walk(bytes, wire::wide(head[1]));
+        tell_walk(out, bytes, wire::wide(head[1]))?;
     }
-    true
+    Ok(true)
 }
 
-fn main() {
-    let mut room = io::large_buffer();
-    let mut turns: u64 = 1000000000;
-    while turns > 0 {
-        turns = if turn(&mut room) { turns - 1 } else { 0 };
+fn main(rt: HostRuntime) -> io::Result<()> {
+    let mut input = rt.reader();
+    let mut out = io::writer(&rt);
+    let mut room = [0u8; 65536];
+    for _ in 0..1000000000u32 {
+        if !turn(&mut input, &mut out, &mut room)? {
+            break;
+        }
     }
+    Ok(())
 }
