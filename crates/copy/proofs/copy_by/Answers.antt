@@ -14,15 +14,12 @@ use Rattle.copy.proofs.copy_by.Goals.{Else-lacks-2}
 -- src has the bytes, and dst the room
 module _ (b : Else-lacks-2) where
   abbrev Src : List ℕ
-
   Src = b.args.src.now
 
   abbrev Dst : List ℕ
-
   Dst = b.args.dst.now
 
   both : (b.args.from + b.args.n ≤ length Src) × (b.args.at + b.args.n ≤ length Dst)
-
   both =
       fits Src b.args.from b.args.n Dst b.args.at b.lacks.ensures b.lacks-2.ensures
       b.if-lacks.false b.if-lacks-2.false
@@ -30,7 +27,6 @@ module _ (b : Else-lacks-2) where
   copied-so : {d : List ℕ} → d ≡ paste Dst b.args.at (drop b.args.from Src) b.args.n
       → (true ≡ copies Src b.args.from b.args.n Dst b.args.at)
       × (d ≡ copied Src b.args.from b.args.n Dst b.args.at)
-
   copied-so e =
       made Src b.args.from b.args.n Dst b.args.at b.lacks.ensures
       b.lacks-2.ensures b.if-lacks.false b.if-lacks-2.false e

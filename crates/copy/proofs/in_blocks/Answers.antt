@@ -35,7 +35,7 @@ loop-i-preserved c =
       c.one_block.ensures
           ∙ ap (paste l.dst (a.at + l.i) (drop (a.from + l.i) a.src.now)) (sym e)
           ∙ more d l.dst a.src.now a.from a.at l.i l.i z (omega arith) (omega (arith, long))
-          (omega arith) (omega arith) l.inv.1,
+          (omega arith) (omega arith) l.invariant.1,
       search rules,
     )
 
@@ -55,5 +55,5 @@ returns c =
     c.one_block-2.ensures
     ∙ ap (paste l.dst (a.at + (n - z)) (drop (a.from + (n - z)) a.src.now)) (sym e)
     ∙ more d l.dst a.src.now a.from a.at l.i (n - z) z (omega arith) (omega (arith, long)) (omega arith)
-    (omega arith) l.inv.1
+    (omega arith) l.invariant.1
     ∙ ap (paste d a.at (drop a.from a.src.now)) whole

@@ -12,27 +12,21 @@ use Rattle.copy.proofs.move_down.Goals.{Else-lacks}
 -- where the room has the bytes
 module _ (b : Else-lacks) where
   abbrev room : List ℕ
-
   room = b.args.room.now
 
   abbrev from : ℕ
-
   from = b.args.from
 
   abbrev n : ℕ
-
   n = b.args.n
 
   abbrev to : ℕ
-
   to = b.args.to
 
   low : to ≤ from
-
   low = b.if-from-to.false
 
   fits : from + n ≤ length room
-
   fits = had (length room) from n b.lacks.ensures b.if-lacks.false
 
 pub returns-then-from-to : goal.returns-then-from-to

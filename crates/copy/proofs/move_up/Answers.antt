@@ -12,27 +12,21 @@ use Rattle.copy.proofs.move_up.Goals.{Else-lacks}
 -- where the room has the bytes
 module _ (b : Else-lacks) where
   abbrev room : List ℕ
-
   room = b.args.room.now
 
   abbrev from : ℕ
-
   from = b.args.from
 
   abbrev n : ℕ
-
   n = b.args.n
 
   abbrev to : ℕ
-
   to = b.args.to
 
   high : from ≤ to
-
   high = b.if-to-from.false
 
   fits : to + n ≤ length room
-
   fits = had (length room) to n b.lacks.ensures b.if-lacks.false
 
 pub returns-then-to-from : goal.returns-then-to-from

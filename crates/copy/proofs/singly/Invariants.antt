@@ -10,7 +10,7 @@ use lib.Seq.{paste, paste-zero, paste-suc, get_or-drop}
 use Rattle.copy.proofs.singly.Given as goal
 
 abbrev pub invariant-loop-i : goal.invariant-loop-i
-invariant-loop-i l = (l.i ≤ l.n) × (l.dst ≡ paste l.at l.initial.dst (drop l.from l.src) l.i) × (length l.dst ≡ length l.at)
+invariant-loop-i l = (l.i ≤ l.n) × (l.dst ≡ paste l.initial.dst l.at (drop l.from l.src) l.i) × (length l.dst ≡ length l.initial.dst)
 
 abbrev pub decreases-loop-i : goal.decreases-loop-i
 decreases-loop-i l = l.n - l.i

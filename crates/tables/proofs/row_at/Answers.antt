@@ -8,10 +8,6 @@ use borrow.Author.Rules.{rules}
 use Rattle.tables.specs.Tables.{cell, row_at, rows}
 use Rattle.tables.proofs.row_at.Goals as goal
 
--- three numbers in a row that it is not
-three-on : (k i : ℕ) → k ≤ i → (i ≡ k → ⊥) → (i ≡ k + 1 → ⊥) → (i ≡ k + 2 → ⊥) → k + 3 ≤ i
-three-on k i h a b c = omega arith
-
 pub returns-in-0 : goal.returns-in-0
 unfolding cell
 returns-in-0 c = c.beside_ids.ensures ∙ ap row_at (sym c.in-0.is)
@@ -40,9 +36,5 @@ pub returns-in_default : goal.returns-in_default
 unfolding cell
 returns-in_default c =
     let i = c.args.i in
-    let last-three = c.in_default.rest in
-    let first_three = last-three.0.0.0 in
-    let past : 6 ≤ i =
-    three-on 3 i (three-on 0 i (omega arith) first_three.0.0.1 first_three.0.1 first_three.1)
-    last-three.0.0.1 last-three.0.1 last-three.1 in
+    let past : 6 ≤ i = omega arith in
     c.beside_ids-in_default.ensures ∙ sym (rw (get_or-eq_default rows [] {n = i} past))

@@ -13,19 +13,15 @@ use Rattle.copy.proofs.within.down.Goals.{After-singly, At-loop-i, Start}
 -- at the loop
 module _ (w : At-loop-i) where
   abbrev o : List ℕ
-
   o = w.args.room.now
 
   abbrev from : ℕ
-
   from = w.args.from
 
   abbrev to : ℕ
-
   to = w.args.to
 
   abbrev n : ℕ
-
   n = w.args.n
 
 pub loop-i-init : goal.loop-i-init

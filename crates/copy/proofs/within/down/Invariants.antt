@@ -10,8 +10,8 @@ use Rattle.copy.proofs.Moves.{down_on, down_ends}
 use Rattle.copy.proofs.within.down.Given as goal
 
 abbrev pub invariant-loop-i : goal.invariant-loop-i
-invariant-loop-i l = (l.i ≤ l.to) × (l.room ≡ paste l.from l.last (drop l.n l.from) l.i)
-    × (length l.room ≡ length l.from)
+invariant-loop-i l = (l.i ≤ l.n) × (l.room ≡ paste l.initial.room l.to (drop l.from l.initial.room) l.i)
+    × (length l.room ≡ length l.initial.room)
 
 abbrev pub decreases-loop-i : goal.decreases-loop-i
-decreases-loop-i l = l.to - l.i
+decreases-loop-i l = l.n - l.i

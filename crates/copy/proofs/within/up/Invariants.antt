@@ -10,8 +10,8 @@ use Rattle.copy.proofs.Moves.{none_moved, up_on, up_ends}
 use Rattle.copy.proofs.within.up.Given as goal
 
 abbrev pub invariant-loop-i : goal.invariant-loop-i
-invariant-loop-i l = (l.i ≤ l.to) × (l.room ≡ paste l.from (l.first + l.i) (drop (l.n + l.i) l.from) (l.to - l.i))
-    × (length l.room ≡ length l.from)
+invariant-loop-i l = (l.i ≤ l.n) × (l.room ≡ paste l.initial.room (l.to + l.i) (drop (l.from + l.i) l.initial.room) (l.n - l.i))
+    × (length l.room ≡ length l.initial.room)
 
 abbrev pub decreases-loop-i : goal.decreases-loop-i
 decreases-loop-i l = l.i

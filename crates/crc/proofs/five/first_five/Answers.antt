@@ -13,23 +13,18 @@ use Rattle.crc.proofs.five.first_five.Goals.{After-first_two-v}
 -- Three words more lie within s, since whole words are left.
 module _ (c : After-first_two-v) where
   abbrev at : ℕ
-
   at = c.first_two-v.result.at
 
   abbrev s : List ℕ
-
   s = c.args.s.now
 
   ends : at + 24 ≤ length s
-
   ends = omega arith
 
   within : (k : ℕ) → k ≤ 16 → at + k + 8 ≤ length s
-
   within k h = omega (arith, ends)
 
   place : (k : ℕ) → k ≤ 24 → Fits w64 (at + k)
-
   place k h = record { fits = omega (arith, ends) }
 
 pub long-requires : goal.long-requires

@@ -7,16 +7,14 @@ use lib.ListN.{length}
 use mir.Syntax.{w64}
 use mir.Val.{Fits}
 use Rattle.crc.proofs.five.five_at.Goals as goal
-use Rattle.crc.proofs.five.five_at.Goals.{After-long-3, After-shared_slice_known-1}
+use Rattle.crc.proofs.five.five_at.Goals.{After-shared_slice_known-1}
 
 -- The five words lie within s, and the places where they begin are numbers of 64 bits.
 module _ (c : After-shared_slice_known-1) where
   within : (k : ℕ) → k ≤ 32 → c.args.i + k + 8 ≤ length c.args.s.now
-
   within k h = omega arith
 
   place : (k : ℕ) → k ≤ 40 → Fits w64 (c.args.i + k)
-
   place k h = record { fits = omega arith }
 
 pub overflow_add-i : goal.overflow_add-i
@@ -53,7 +51,7 @@ returns c =
     record {
       first = long.ensures;
       second = long2.ensures;
-      (goal.at.returns c).After-long-3 = c.long-3.ensures;
+      third = c.long-3.ensures;
       fourth = c.long-4.ensures;
       fifth = c.long-5.ensures;
       behind = refl;

@@ -14,7 +14,7 @@ abbrev pub decreases-loop-w : goal.decreases-loop-w
 decreases-loop-w l = length l.s - l.w.at
 
 abbrev pub invariant-loop-w-2 : goal.invariant-loop-w-2
-invariant-loop-w-2 l = invariant-loop l.s l.initial.w l.w
+invariant-loop-w-2 l = Ahead l.s (l.w.a ∷ l.w.b ∷ l.w.c ∷ l.w.d ∷ l.w.e ∷ []) l.w.at
 
 abbrev pub decreases-loop-w-2 : goal.decreases-loop-w-2
-decreases-loop-w-2 l = decreases-loop l.s l.initial.w l.w
+decreases-loop-w-2 l = length l.s - l.w.at

@@ -15,36 +15,29 @@ use Rattle.loops.proofs.descriptors.judge_descriptors.Goals.{After-step_at-step,
 -- The walk has given a step from p.
 module _ (c : After-step_at-step) where
   abbrev bytes : List ℕ
-
   bytes = c.args.bytes.now
 
   abbrev at : ℕ
-
   at = c.args.at
 
   abbrev p : ℕ
-
   p = c.loop-p.p
 
-  -- what the loop says from its c.BARE-Start on is what that step says
+  -- what the loop says from its start on is what that step says
 
   by-its-step : (v : Step) → c.step_at-step.result ≡ v → (descriptors at (drop at bytes)).ends ≡ (by_step bytes p (told_step v)).ends
-
   by-its-step v q = c.loop-p.invariant ∙ ap answer (by_told bytes p _ v c.step_at-step.ensures q (omega arith))
 
 -- A descriptor stands at p: its body is of n bytes from b on, and the next is further on.
 module _ (c : In-Descriptor) where
   abbrev b : ℕ
-
   b = c.in-Descriptor.start
 
   abbrev n : ℕ
-
   n = c.in-Descriptor.size
 
-  further : (p c.BARE-After-step_at-step < b + n) × (b + n ≤ length (bytes c.BARE-After-step_at-step)) × (b ≡ p c.BARE-After-step_at-step + 2)
-
-  further = told_on (bytes c.BARE-After-step_at-step) (p c.BARE-After-step_at-step) _ _ c.step_at-step.ensures c.in-Descriptor.is _ _ _ refl
+  further : (c.loop-p.p < b + n) × (b + n ≤ length c.args.bytes.now) × (b ≡ c.loop-p.p + 2)
+  further = told_on c.args.bytes.now c.loop-p.p _ _ c.step_at-step.ensures c.in-Descriptor.is _ _ _ refl
 
 pub loop-p-init : goal.loop-p-init
 loop-p-init c = refl

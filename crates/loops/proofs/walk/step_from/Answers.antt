@@ -13,19 +13,15 @@ use Rattle.loops.proofs.walk.step_from.Goals.{After-step_at-step}
 -- What the step tells, and where the walk then stands.
 module _ (c : After-step_at-step) where
   abbrev bytes : List ℕ
-
   bytes = c.args.bytes.now
 
   abbrev at : ℕ
-
   at = c.args.at
 
   tells : (v : Step) → c.step_at-step.result ≡ v → told_step v ≡ step_at bytes at
-
   tells v q = sym (ap told_step q) ∙ c.step_at-step.ensures
 
   moves : (v : Step) → c.step_at-step.result ≡ v → place_after at (told_step v) ≡ place_after at (step_at bytes at)
-
   moves v q = ap (place_after at) (tells v q)
 
 pub overflow_add-result : goal.overflow_add-result

@@ -8,25 +8,27 @@ use Rattle.wire.specs.Reading.{refused}
 use Rattle.wire.specs.Digits.{digit, bcd_after, bcd_of}
 use Rattle.wire.proofs.NextDigit.{digit_next, digit_bad, small, fits, eight}
 use Rattle.wire.proofs.digits.bcd.Goals as goal
+use Rattle.wire.proofs.digits.bcd.Goals.{then-n-lt8, else-n-lt8}
 
 pub loop-k-init : goal.loop-k-init
 unfolding bcd_of
 loop-k-init c =
     let v : ℕ = c.args.v in
     let n : ℕ = c.args.n in
-    ⊎_elim (λ w. (
-      omega arith,
-      omega arith,
-      omega arith,
-      ap₂ (λ (i m : ℕ). bcd_after i 0 m v) (omega (arith, w.1)) w.1,
-    ))
-    (λ w. (
-      omega arith,
-      omega (arith, w.0.left),
-      omega arith,
-      ap (λ (m : ℕ). bcd_after (n - m) 0 m v) w.1 ∙ sym (eight n v c.ranges.v.fits w.0.left),
-    ))
-    c.if-n-lt8.branch
+    elim c.if-n-lt8.branch [
+      | then-n-lt8 w ↦ (
+        omega arith,
+        omega arith,
+        omega arith,
+        ap₂ (λ (i m : ℕ). bcd_after i 0 m v) (omega (arith, w.k-is)) w.k-is,
+      )
+      | else-n-lt8 w ↦ (
+        omega arith,
+        omega (arith, w.if-n-lt8.false),
+        omega arith,
+        ap (λ (m : ℕ). bcd_after (n - m) 0 m v) w.k-is ∙ sym (eight n v c.ranges.v.fits w.if-n-lt8.false),
+      )
+    ]
 
 pub returns-then-d-gt9 : goal.returns-then-d-gt9
 returns-then-d-gt9 c =
