@@ -16,8 +16,8 @@ loop-i-preserved c =
     let loop = c.loop-i in (
       omega arith,
       elim c.if-not-came-i.branch [
-        then-not-came-i w ↦ w.all-is ∙ sym (all_less came loop.i w.if-not-came-i.true) |
-        else-not-came-i w ↦ w.all-is ∙ loop.invariant.1 ∙ sym (all_more came loop.i w.if-not-came-i.false)
+        | then-not-came-i w ↦ w.all-is ∙ sym (all_less came loop.i w.if-not-came-i.true)
+        | else-not-came-i w ↦ w.all-is ∙ loop.invariant.1 ∙ sym (all_more came loop.i w.if-not-came-i.false)
       ],
     )
 

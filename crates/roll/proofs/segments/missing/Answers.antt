@@ -17,38 +17,29 @@ use Rattle.roll.proofs.segments.missing.Goals.{After-gap-first}
 -- What is known where the gap of segment `k` is found.
 module _ (b : After-gap-first) where
   abbrev schedule : Bool
-
   schedule = b.args.schedule
 
   abbrev marks : Marks
-
   marks = b.args.marks
 
   abbrev last : ℕ
-
   last = b.args.last
 
   abbrev k : ℕ
-
   k = b.loop-k.k
 
   abbrev first : ℕ
-
   first = b.gap-first.result
 
   reached : k * 8 ≤ last
-
   reached = omega arith
 
   gap_is : first ≡ gap_of schedule last k (segment_at marks k)
-
   unfolding segment_at
-
   gap_is = b.gap-first.ensures
 
   found : first < 8 → (k * 8 + first ≤ last)
       × (smallest (counted schedule marks last) (last + 1 - k * 8) (k * 8) ≡ missing (k * 8 + first))
-
   found = gap_missing schedule marks last k first reached gap_is
 
 pub loop-k-init : goal.loop-k-init
