@@ -25,7 +25,7 @@ entry_numbers (faults.EntryFault.past head l h g) = (omega arith, omega arith)
 entry_numbers (faults.EntryFault.own head body l h f) = (omega arith, omega arith)
 entry_numbers (faults.EntryFault.later head body h d f) = entry_numbers f
 
-filling_numbers : {p k q : ℕ} {m : List ℕ} → FillFault p m k q → Numbered k
+filling_numbers : {p k : ℕ} {m : List ℕ} {q : ℕ} → FillFault p m k q → Numbered k
 filling_numbers (faults.FillFault.beyond h) = (omega arith, omega arith)
 filling_numbers (faults.FillFault.short h) = (omega arith, omega arith)
 

@@ -232,4 +232,6 @@ stays_alike r q g s b o o' e f = rw (e, f) (taking_alike g s b)
 -- "two rolls that differ only there behave alike": the same answers to whatever sections follow
 pub alike_answers : {r q : Roll} → Alike r q → {l : List (List ℕ)} → AllBytes l → answers_to r l ≡ answers_to q l
 alike_answers g none = refl
-alike_answers g (more s b x) = let y = taking_alike g s b in ap₂ ◌∷◌ y.0 (alike_answers y.1 x)
+alike_answers {r = r} {q = q} g (more s b x) =
+    let y = taking_alike g s b in
+    ap₂ ◌∷◌ y.0 (alike_answers {r = (taking r s).roll} {q = (taking q s).roll} y.1 x)

@@ -10,7 +10,7 @@ use Rattle.head.proofs.sub_tables.ids_that_count.Goals as goal
 pub returns-then-row-eq-SDT : goal.returns-then-row-eq-SDT
 unfolding ids_that_count
 returns-then-row-eq-SDT c =
-    let sdt : row_of c.args.table-id ≡ 1 = omega (arith, c.row_of-row.ensures, c.if-row-eq-SDT.true) in
+    let sdt : row_of c.args.table_id ≡ 1 = omega (arith, c.row_of-row.ensures, c.if-row-eq-SDT.true) in
     rw (eq-eqb _ _ sdt)
 
 pub returns-then-row-eq-EIT : goal.returns-then-row-eq-EIT

@@ -16,5 +16,4 @@ returns-then-e-end c =
 pub returns-else-e-end : goal.returns-else-e-end
 unfolding ending_by
 returns-else-e-end c =
-    let kept = c.kept-1 in
-    rw (c.blank_until-else-e-end.ensures, kept.given.1, ne_eqb _ _ c.if-e-end.false)
+    rw (c.blank_until-else-e-end.ensures, c.in-At.is, ne_eqb _ _ c.if-e-end.false)

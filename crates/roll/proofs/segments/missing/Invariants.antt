@@ -15,8 +15,8 @@ use Rattle.roll.proofs.segments.missing.Given as goal
 
 abbrev pub invariant-loop-k : goal.invariant-loop-k
 invariant-loop-k l = (l.k ≤ 32)
-    × (smallest (counted l.schedule (record { l.segments = l.segments }) l.last) (l.last + 1 - l.k * 8) (l.k * 8)
-    ≡ smallest (counted l.schedule (record { l.segments = l.segments }) l.last) (l.last + 1) 0)
+    × (smallest (counted l.schedule (record { segments = l.segments }) l.last) (l.last + 1 - l.k * 8) (l.k * 8)
+    ≡ smallest (counted l.schedule (record { segments = l.segments }) l.last) (l.last + 1) 0)
 
 abbrev pub decreases-loop-k : goal.decreases-loop-k
 decreases-loop-k l = 32 - l.k

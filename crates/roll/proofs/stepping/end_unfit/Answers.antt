@@ -18,19 +18,15 @@ use Rattle.roll.proofs.stepping.end_unfit.Goals.{After-number_of-number}
 -- What is known where the section's number is read: it is one of a schedule.
 module _ (b : After-number_of-number) where
   abbrev section : List ℕ
-
   section = b.args.section.now
 
   is_one : is_schedule (get_or section 0 0) ≡ true
-
   is_one = cc
 
   end_is : b.segment_end_of-end.result ≡ segment_end_in section
-
   end_is = b.segment_end_of-end.ensures
 
   number_is : b.number_of-number.result ≡ number_in section
-
   number_is = b.number_of-number.ensures
 
 pub returns-then-end-number : goal.returns-then-end-number

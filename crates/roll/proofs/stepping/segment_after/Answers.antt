@@ -13,17 +13,14 @@ use Rattle.roll.proofs.stepping.segment_after.Goals.{After-is_schedule}
 -- What is known where the section's table_id is looked at.
 module _ (b : After-is_schedule) where
   abbrev section : List ℕ
-
   section = b.args.section.now
 
   -- it is that of a schedule, or not
 
   schedule : is_schedule (get_or section 0 0) ≡ b.is_schedule.result
-
   schedule = cc
 
   number : b.number_of-number.result ≡ number_in section
-
   number = b.number_of-number.ensures
 
 pub returns-then-is_schedule : goal.returns-then-is_schedule

@@ -1,5 +1,4 @@
 -- `sheet::read::head` meets its contract, row by row.
-use borrow.Author.Tests.{not-true, not-false}
 use Rattle.tables.proofs.RowLaws.{numbered_below, unnumbered_from}
 use Rattle.sheet.proofs.ReadLaws.{head_time, head_alone, head_service, head_event}
 use borrow.Author.Rules.{rules}
@@ -8,7 +7,7 @@ use Rattle.sheet.proofs.read.head.Goals as goal
 pub returns-then-not-is_numbered : goal.returns-then-not-is_numbered
 returns-then-not-is_numbered c =
     let row = c.args.row in
-    head_time row (unnumbered_from row c.is_numbered.ensures (not-true _ c.if-not-is_numbered.true))
+    head_time row (unnumbered_from row c.is_numbered.ensures c.if-not-is_numbered.true)
     c.requires c.plain.ensures
 
 pub returns-then-row-eq-SDT : goal.returns-then-row-eq-SDT
@@ -22,5 +21,5 @@ returns-then-row-eq-EIT c =
 pub returns : goal.returns
 returns c =
     let row = c.args.row in
-    head_alone row (numbered_below row c.is_numbered.ensures (not-false _ c.if-not-is_numbered.false))
+    head_alone row (numbered_below row c.is_numbered.ensures c.if-not-is_numbered.false)
     c.if-row-eq-SDT.false c.if-row-eq-EIT.false c.common-end.ensures
