@@ -202,7 +202,8 @@ module _ (p : ℕ) (h l l₂ : List ℕ) where
         counts = λ rest.
             let apart : one p (done (kind_of rest)) ≡ 0 =
             ap (λ (t : Bool). length (if t then p ∷ [] else [])) (rest_apart rest).0 in
-            gain_with_lem _ _ _ _ _ (λ r. gain_of a r + gain_of b r) rest
+            gain_with_lem b.in_hand (a.sections + b.sections) (a.bytes + b.bytes) (a.rejected + b.rejected) b.rejection
+            (λ r. gain_of a r + gain_of b r) rest
             ∙ omega
             (arith, x.counts rest, y.counts rest, count_both by_judge p h l l₂ (done (kind_of rest)) refl, apart);
         the_hold =

@@ -218,7 +218,9 @@ ends_made g was secs l hold out at hold' out' m long eh eo =
       rejected = refl;
       rejection = refl;
       counts = λ rest.
-          gain_with_lem _ _ _ _ _ (λ r. if same_fate (done (kind_of r)) g then m else 0) rest
+          gain_with_lem (if same_fate in-hand g then m else 0) (length (parted accepted secs))
+          (length (flatten (parted accepted secs))) (length (flatten (parted rejected secs)))
+          (last_number was (parted rejected secs)) (λ r. if same_fate (done (kind_of r)) g then m else 0) rest
           ∙ if-long (same_fate (done (kind_of rest)) g) l m long
           ∙ ap length (sym (rest_of by_judge (done (kind_of rest)) g secs l (by_judge_apart rest)));
       the_hold = eh ∙ ap (λ (x : List ℕ). over x hold) hand;

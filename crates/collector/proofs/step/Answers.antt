@@ -17,11 +17,10 @@ outcome s j = outcome_of s.args.rec s.args.hold.now s.args.out.now (ruled_by (be
 
 pub carried-requires : goal.carried-requires
 carried-requires c =
-    let a = ((goal.at.carried-requires c).Start).args in
-    let given = c.v-in-Payload-1.given in
-    let behind = given.0.1.1 in
-    fit_of a.rec a.hold.now a.out.now a.packet.now behind.1.0 given.0.1.0 behind.0 given.0.0
-    (sym c.judge-v.ensures ∙ ap meant given.1)
+    let a = c.args in
+    let w = c.in-Payload in
+    fit_of a.rec a.hold.now a.out.now a.packet.now w.from w.start w.counter w.splice
+    (sym c.judge-v.ensures ∙ ap meant w.is)
 
 pub returns-in-Refuse : goal.returns-in-Refuse
 returns-in-Refuse c =

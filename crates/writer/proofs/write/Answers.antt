@@ -8,21 +8,18 @@ use Rattle.writer.specs.Cut.{fit}
 use Rattle.writer.proofs.CutLaws.{fit_sum, fit_few}
 use Rattle.writer.proofs.Outcomes.{bad_pid, bad_counter, bad_section, room_short, room_enough, all_written}
 use Rattle.writer.proofs.write.Goals as goal
-use Rattle.writer.proofs.write.Goals.{Else-not-fits, Start}
+use Rattle.writer.proofs.write.Goals.{Else-not-fits}
 
 -- the sections can be sent
 module _ (b : Else-not-fits) where
   pid_small : b.args.pid ≤ 8191
-
   pid_small = b.if-pid-gt8191.false
 
   counter_small : b.args.counter ≤ 15
-
   counter_small = b.if-counter-gt15.false
 
   fits : fit b.args.sizes.now b.args.sections.now ≡ true
-
-  fits = let asked = b.fits2 in sym asked.ensures ∙ not-false asked.result b.if-not-fits.false
+  fits = sym b.fits.ensures ∙ b.if-not-fits.false
 
 pub returns-then-pid-gt8191 : goal.returns-then-pid-gt8191
 returns-then-pid-gt8191 c =
@@ -35,7 +32,7 @@ returns-then-counter-gt15 c = bad_counter _ _ _ _ _ c.if-pid-gt8191.false c.if-c
 pub returns-then-not-fits : goal.returns-then-not-fits
 returns-then-not-fits c =
     bad_section _ _ _ _ _ c.if-pid-gt8191.false c.if-counter-gt15.false
-    (sym c.fits2.ensures ∙ not-true c.fits2.result c.if-not-fits.true)
+    (sym c.fits.ensures ∙ c.if-not-fits.true)
 
 pub count-n-requires : goal.count-n-requires
 count-n-requires c = (fit_sum _ _ (fits (goal.at.count-n-requires c).Else-not-fits), fit_few _ _ (fits (goal.at.count-n-requires c).Else-not-fits))
@@ -47,7 +44,7 @@ returns-then-room-n c =
 
 pub put_all-requires : goal.put_all-requires
 put_all-requires c =
-    let a = ((goal.at.put_all-requires c).Start).args in (
+    let a = c.args in (
       pid_small (goal.at.put_all-requires c).Else-not-fits,
       counter_small (goal.at.put_all-requires c).Else-not-fits,
       fit_sum _ _ (fits (goal.at.put_all-requires c).Else-not-fits),

@@ -8,7 +8,6 @@ use Rattle.collector.proofs.lent.held_unfit.Goals.{After-total_of-total, Else-ho
 -- where something is in hand, and there is a counter
 module _ (e : Else-none) where
   some : 0 < e.args.n
-
   some = omega (arith, e.if-n-eq0.false)
 
 pub returns-then-n-eq0 : goal.returns-then-n-eq0
@@ -34,8 +33,8 @@ returns-then-total-n c =
     simp (
       lt-ltb _ _ (some (goal.at.returns-then-total-n c).Else-none),
       c.if-none.false,
-      ne_eqb _ _ ((goal.at.returns-then-total-n c).Else-hold).if3.false,
-      le-leb _ _ ((goal.at.returns-then-total-n c).Else-n-lt3).if4.false,
+      ne_eqb _ _ ((goal.at.returns-then-total-n c).Else-hold).if-hold.false,
+      le-leb _ _ ((goal.at.returns-then-total-n c).Else-n-lt3).if-n-lt3.false,
       ← c.total_of-total.ensures,
       le-leb _ _ c.if-total-n.true,
     )
@@ -45,8 +44,8 @@ returns c =
     simp (
       lt-ltb _ _ (some (goal.at.returns c).Else-none),
       c.if-none.false,
-      ne_eqb _ _ ((goal.at.returns c).Else-hold).if3.false,
-      le-leb _ _ ((goal.at.returns c).Else-n-lt3).if4.false,
+      ne_eqb _ _ ((goal.at.returns c).Else-hold).if-hold.false,
+      le-leb _ _ ((goal.at.returns c).Else-n-lt3).if-n-lt3.false,
       ← c.total_of-total.ensures,
       lt-leb _ _ c.if-total-n.false,
     )

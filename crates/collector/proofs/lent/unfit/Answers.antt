@@ -8,15 +8,12 @@ use Rattle.collector.proofs.lent.unfit.Goals.{After-counter_past, Start}
 -- from where the counter was looked at
 module _ (k : After-counter_past) where
   abbrev rec : Record
-
   rec = k.args.rec
 
   a-pid : ltb 8191 rec.pid ≡ false
-
   a-pid = le-ltb _ _ k.if-rec-gt8191.false
 
   counter_is : (b : Bool) → k.counter_past.result ≡ b → counter_past rec.last ≡ b
-
   counter_is b e = sym k.counter_past.ensures ∙ e
 
 pub returns-then-rec-gt8191 : goal.returns-then-rec-gt8191

@@ -8,7 +8,7 @@ use Rattle.section.specs.Reading.{judged}
 use Rattle.copy.proofs.LaidLaws.{pasted_front, window_back}
 use Rattle.collector.specs.Inner.Settling.{handedOut, laid_of}
 use Rattle.collector.proofs.settling.settle_held.Goals as goal
-use Rattle.collector.proofs.settling.settle_held.Goals.{After-copy_at, After-copy_behind, After-copy_behind-arg-1, After-laid_of-laid, After-window_at-at, Start}
+use Rattle.collector.proofs.settling.settle_held.Goals.{After-copy_behind, After-laid_of-laid}
 
 -- no more is laid than is left and has room, and no less than is asked for
 within : (k left room : ℕ) → k ≤ left → k ≤ room
@@ -18,108 +18,77 @@ within k left room h g =
     (λ e. (h, omega arith, leb-true left room e))
     (λ _. (omega arith, h, g))
 
--- from where the window's place is known
-module _ (f : After-window_at-at) where
-  abbrev hold : List ℕ
+-- the packet from the section's end on
+abbrev ahead : List ℕ → ℕ → List ℕ
+ahead packet from = drop from packet
 
-  hold = f.args.hold.now
-
-  abbrev n : ℕ
-
-  n = f.args.n
-
-  abbrev k : ℕ
-
-  k = f.args.k
-
-  -- the packet from the section's end on
-
-  abbrev ahead : List ℕ
-
-  ahead = drop f.args.from f.args.packet.now
-
-  abbrev at : ℕ
-
-  at = f.window_at-at.result
-
-  -- it begins no later than what is laid, has the section's end and ends in the room
-
-  window-fits : (at ≤ n) × (n + k ≤ at + 224) × (at + 224 ≤ length hold)
-
-  window-fits = (omega arith, omega arith, omega arith)
+-- the window begins no later than what is laid, has the section's end and ends in the room; of what is laid the section's end is
+-- a part, no more than the packet has, and all of it is in the window
+record Placed (at laid n k from : ℕ) (hold packet : List ℕ) : Type 0 where
+  before : at ≤ n
+  within_window : n + k ≤ at + 224
+  in_room : at + 224 ≤ length hold
+  enough : k ≤ laid
+  there : laid ≤ length (ahead packet from)
+  laid_in : n + laid ≤ at + 224
 
 -- from where it is known how much is laid
-module _ (g : After-laid_of-laid) where
-  abbrev laid : ℕ
+placed : (g : After-laid_of-laid)
+    → Placed g.window_at-at.result g.laid_of-laid.result g.args.n g.args.k g.args.from g.args.hold.now g.args.packet.now
+placed g =
+    let a = g.args in
+    let at = g.window_at-at.result in
+    let before : at ≤ a.n = omega arith in
+    let within_window : a.n + a.k ≤ at + 224 = omega arith in
+    let in_room : at + 224 ≤ length a.hold.now = omega arith in
+    let w = within a.k (length a.packet.now - a.from) (at + 224 - a.n) (omega arith) (omega arith) in
+    record {
+      before = before;
+      within_window = within_window;
+      in_room = in_room;
+      enough = omega (arith, w, g.laid_of-laid.ensures);
+      there = omega (arith, w, g.laid_of-laid.ensures, length-drop a.from a.packet.now);
+      laid_in = omega (arith, w, g.laid_of-laid.ensures);
+    }
 
-  laid = g.laid_of-laid.result
+module _ {at laid n k from : ℕ} {hold packet : List ℕ} (p : Placed at laid n k from hold packet) where
+  -- what stands in the hold where the section's end is laid
 
-  -- the section's end, no more than the packet has, and all of it in the window
-
-  laid-fits : (k g.BARE-After-window_at-at ≤ laid) × (laid ≤ length (ahead g.BARE-After-window_at-at)) × (n g.BARE-After-window_at-at + laid ≤ at g.BARE-After-window_at-at + 224)
-
-  laid-fits =
-      let a = (g.BARE-Start).args in
-      let fits = window-fits g.BARE-After-window_at-at in
-      let w =
-      within a.k (length a.packet.now - a.from) (at g.BARE-After-window_at-at + 224 - a.n) (omega arith) (omega (arith, fits)) in (
-        omega (arith, w, g.laid_of-laid.ensures),
-        omega (arith, w, g.laid_of-laid.ensures, length-drop a.from a.packet.now),
-        omega (arith, w, g.laid_of-laid.ensures, fits),
-      )
-
--- from where the section stands in the hold
-module _ (b : After-copy_behind) where
-  -- what stands in the hold then
-
-  now-held : take (n b.BARE-After-window_at-at + k b.BARE-After-window_at-at) (drop 0 b.copy_behind.last.1.1.1.0)
-      ≡ take (n b.BARE-After-window_at-at) (hold b.BARE-After-window_at-at) ++ take (k b.BARE-After-window_at-at) (ahead b.BARE-After-window_at-at)
-
-  now-held =
-      ap (take (n b.BARE-After-window_at-at + k b.BARE-After-window_at-at)) b.copy_behind.ensures
-      ∙ pasted_front (hold b.BARE-After-window_at-at) (ahead b.BARE-After-window_at-at) (n b.BARE-After-window_at-at) (k b.BARE-After-window_at-at) (laid b.BARE-After-laid_of-laid) (omega arith) (laid-fits b.BARE-After-laid_of-laid).0
-      (laid-fits b.BARE-After-laid_of-laid).1
-
-  abbrev window : List ℕ
-
-  window = (b.BARE-After-copy_at).copy_at.last.1.1.1.0
-
-  abbrev stood : List ℕ
-
-  stood = drop (at b.BARE-After-window_at-at) (hold b.BARE-After-window_at-at)
-
-  window-are : take 224 window ≡ take 224 (take 224 stood)
-
-  window-are =
-      ap (take 224) (b.BARE-After-copy_at).copy_at.ensures
-      ∙ take_at (take 224 stood) (drop (0 + 224) (replicate 224 0)) 224
-      (length-take-le 224 stood (omega (arith, length-drop (at b.BARE-After-window_at-at) (hold b.BARE-After-window_at-at), window-fits b.BARE-After-window_at-at)))
-      ∙ sym (take_all 224 (take 224 stood) (omega (arith, length-take 224 stood)))
+  now_held : (hold' : List ℕ) → hold' ≡ paste hold n (ahead packet from) laid
+      → take (n + k) (drop 0 hold') ≡ take n hold ++ take k (ahead packet from)
+  now_held hold' e =
+      ap (take (n + k)) e
+      ∙ pasted_front hold (ahead packet from) n k laid (omega (arith, p.before, p.in_room, p.laid_in, p.enough)) p.enough p.there
 
   -- put back, the hold is as it was
 
-  as_it_was : paste b.copy_behind.last.1.1.1.0 (at b.BARE-After-window_at-at) window 224 ≡ hold b.BARE-After-window_at-at
-
-  as_it_was =
-      let laid-over : List ℕ = paste (hold b.BARE-After-window_at-at) (n b.BARE-After-window_at-at) (ahead b.BARE-After-window_at-at) (laid b.BARE-After-laid_of-laid) in
-      ap (λ (l : List ℕ). paste l (at b.BARE-After-window_at-at) window 224) b.copy_behind.ensures
-      ∙ ap (λ (l : List ℕ). (take (at b.BARE-After-window_at-at) laid-over ++ l) ++ drop (at b.BARE-After-window_at-at + 224) laid-over) window-are
-      ∙ window_back (hold b.BARE-After-window_at-at) (at b.BARE-After-window_at-at) 224 (n b.BARE-After-window_at-at) (laid b.BARE-After-laid_of-laid) (ahead b.BARE-After-window_at-at) (window-fits b.BARE-After-window_at-at).0
-      (laid-fits b.BARE-After-laid_of-laid).2 (window-fits b.BARE-After-window_at-at).2 (laid-fits b.BARE-After-laid_of-laid).1
+  as_it_was : (hold' window : List ℕ) → hold' ≡ paste hold n (ahead packet from) laid
+      → window ≡ paste (replicate 224 0) 0 (drop at hold) 224 → paste hold' at window 224 ≡ hold
+  as_it_was hold' window e f =
+      let laid-over : List ℕ = paste hold n (ahead packet from) laid in
+      let stood : List ℕ = drop at hold in
+      let window-are : take 224 window ≡ take 224 (take 224 stood) =
+      ap (take 224) f
+      ∙ take_at (take 224 stood) (drop (0 + 224) (replicate 224 0)) 224
+      (length-take-le 224 stood (omega (arith, length-drop at hold, p.in_room)))
+      ∙ sym (take_all 224 (take 224 stood) (omega (arith, length-take 224 stood))) in
+      ap (λ (l : List ℕ). paste l at window 224) e
+      ∙ ap (λ (l : List ℕ). (take at laid-over ++ l) ++ drop (at + 224) laid-over) window-are
+      ∙ window_back hold at 224 n laid (ahead packet from) p.before p.laid_in p.in_room p.there
 
 pub copy_behind-requires : goal.copy_behind-requires
 copy_behind-requires c =
-    let a = ((goal.at.copy_behind-requires c).Start).args in (
-      omega (arith, laid-fits (goal.at.copy_behind-requires c).After-laid_of-laid, length-drop a.from a.packet.now),
-      omega (arith, laid-fits (goal.at.copy_behind-requires c).After-laid_of-laid, window-fits ((goal.at.copy_behind-requires c).After-window_at-at)),
-    )
+    let a = c.args in
+    let p = placed (goal.at.copy_behind-requires c).After-laid_of-laid in
+    (omega (arith, p.there, length-drop a.from a.packet.now), omega (arith, p.laid_in, p.in_room))
 
 pub returns : goal.returns
 returns c =
-    (
-      c.settle-number.ensures.0 ∙ ap (λ (l : List ℕ). number_of (judged l)) (now-held (goal.at.returns c).After-copy_behind-arg-1),
-      (
-        c.copy_at-2.ensures ∙ as_it_was (goal.at.returns c).After-copy_behind-arg-1,
-        c.settle-number.ensures.1 ∙ ap (handedOut ((goal.at.returns c).Start).args.out.now 0) (now-held (goal.at.returns c).After-copy_behind-arg-1),
-      ),
-    )
+    let a = c.args in
+    let p = placed (goal.at.returns c).After-laid_of-laid in
+    let held = now_held p _ c.copy_behind.ensures in
+    record {
+      value = c.settle-number.ensures.value ∙ ap (λ (l : List ℕ). number_of (judged l)) held;
+      hold_unchanged = c.copy_at-2.ensures ∙ as_it_was p _ _ c.copy_behind.ensures c.copy_at.ensures;
+      out_after = c.settle-number.ensures.out_after ∙ ap (handedOut a.out.now 0) held;
+    }

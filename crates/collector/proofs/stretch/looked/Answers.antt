@@ -22,17 +22,14 @@ sized-says bs total size h t z = by (ltb 4096 total) (ltb size total) refl refl
 
 module _ (s : Start) where
   abbrev bytes : List ℕ
-
   bytes = seam s.args.hold.now s.args.n s.args.packet.now s.args.from s.args.m
 
   long : length bytes ≡ s.args.n + s.args.m
-
   long = seam_length s.args.hold.now s.args.n s.args.packet.now s.args.from s.args.m (omega arith) (omega arith)
 
   -- a byte that is in hand
 
   held : (i : ℕ) → i < s.args.n → get_or s.args.hold.now i 0 ≡ get_or bytes i 0
-
   held i w =
       sym
       (seam_left s.args.hold.now s.args.n s.args.packet.now s.args.from s.args.m (omega arith) (omega arith)

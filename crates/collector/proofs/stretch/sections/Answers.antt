@@ -3,18 +3,16 @@
 use Rattle.std.proofs.Common.{ℕ, ◌-◌, ◌≤◌, length, arith, rules}
 use Rattle.collector.proofs.SectionLoop.{Reached, none_yet, end_all, end_filler, end_going, end_over, whole_in, again}
 use Rattle.collector.proofs.stretch.sections.Goals as goal
-use Rattle.collector.proofs.stretch.sections.Goals.{In-Whole-2, In-loop-i, Start}
+use Rattle.collector.proofs.stretch.sections.Goals.{In-Whole}
 
 -- in the arm of a whole section
-module _ (w : In-Whole-2) where
+module _ (w : In-Whole) where
   -- the section's bytes, and that they are there
 
   abbrev long : ℕ
-
   long = w.in-Whole.t
 
   there : (3 ≤ long) × (long ≤ length w.args.packet.now - w.loop-i.i)
-
   there =
       whole_in w.loop-i.invariant (omega arith) w.if-packet-i.false w.looked-look.result
       w.looked-look.ensures long w.in-Whole.is
@@ -30,44 +28,44 @@ returns-then-packet-i c = end_filler c.loop-i.invariant (omega arith) c.if-packe
 
 pub returns-in-Going : goal.returns-in-Going
 returns-in-Going c =
-    end_going ((goal.at.returns-in-Going c).In-loop-i).before.loop.invariant (omega arith) c.if-packet-i.false c.looked-look.result
+    end_going c.loop-i.invariant (omega arith) c.if-packet-i.false c.looked-look.result
     c.looked-look.ensures c.in-Going.is _ c.copy_at.ensures
 
 pub returns-in-Over : goal.returns-in-Over
 returns-in-Over c =
-    end_over ((goal.at.returns-in-Over c).In-loop-i).before.loop.invariant (omega arith) c.if-packet-i.false c.looked-look.result
+    end_over c.loop-i.invariant (omega arith) c.if-packet-i.false c.looked-look.result
     c.looked-look.ensures c.in-Over.is
 
 pub overflow_add-at : goal.overflow_add-at
 overflow_add-at c =
-    omega (arith, there (goal.at.overflow_add-at c).In-Whole-2, ((goal.at.overflow_add-at c).In-loop-i).before.loop.invariant.fits, ((goal.at.overflow_add-at c).Start).well-formed)
+    omega (arith, there (goal.at.overflow_add-at c).In-Whole, c.loop-i.invariant.fits, c.well_formed)
 
 pub settle-number-requires : goal.settle-number-requires
 settle-number-requires c =
-    let x = ((goal.at.settle-number-requires c).In-loop-i).before.loop.invariant in
-    (omega (arith, there (goal.at.settle-number-requires c).In-Whole-2), omega (arith, there (goal.at.settle-number-requires c).In-Whole-2, x.fits, x.long))
+    let x = c.loop-i.invariant in
+    (omega (arith, there (goal.at.settle-number-requires c).In-Whole), omega (arith, there (goal.at.settle-number-requires c).In-Whole, x.fits, x.long))
 
 pub with_section-g-requires : goal.with_section-g-requires
 with_section-g-requires c =
-    let x = ((goal.at.with_section-g-requires c).In-loop-i).before.loop.invariant in
+    let x = c.loop-i.invariant in
     record {
-      sections = omega (arith, x.few, x.passed, x.inside_packet, ((goal.at.with_section-g-requires c).Start).pre);
-      bytes = omega (arith, there (goal.at.with_section-g-requires c).In-Whole-2, x.passed, x.inside_packet, ((goal.at.with_section-g-requires c).Start).pre);
-      rejected = omega (arith, there (goal.at.with_section-g-requires c).In-Whole-2, x.passed, x.inside_packet, ((goal.at.with_section-g-requires c).Start).pre);
+      sections = omega (arith, x.few, x.passed, x.inside_packet, c.requires);
+      bytes = omega (arith, there (goal.at.with_section-g-requires c).In-Whole, x.passed, x.inside_packet, c.requires);
+      rejected = omega (arith, there (goal.at.with_section-g-requires c).In-Whole, x.passed, x.inside_packet, c.requires);
     }
 
 pub overflow_add-i : goal.overflow_add-i
 overflow_add-i c =
-    omega (arith, there (goal.at.overflow_add-i c).In-Whole-2, ((goal.at.overflow_add-i c).Start).pre)
+    omega (arith, there (goal.at.overflow_add-i c).In-Whole, c.requires)
 
 pub loop-i-smaller : goal.loop-i-smaller
-loop-i-smaller c = omega (arith, there ((goal.at.loop-i-smaller c).In-Whole-2))
+loop-i-smaller c = omega (arith, there ((goal.at.loop-i-smaller c).In-Whole))
 
 pub loop-i-preserved : goal.loop-i-preserved
 loop-i-preserved c =
-    again ((goal.at.loop-i-preserved c).In-loop-i).before.loop.invariant (omega arith) c.if-packet-i.false c.looked-look.result c.looked-look.ensures
-    (long (goal.at.loop-i-preserved c).In-Whole-2)
-    c.in-Whole.is (omega arith) _ c.settle-number.ensures.0 _ c.with_section-g.ensures _ c.settle-number.ensures.1
+    again c.loop-i.invariant (omega arith) c.if-packet-i.false c.looked-look.result c.looked-look.ensures
+    (long (goal.at.loop-i-preserved c).In-Whole)
+    c.in-Whole.is (omega arith) _ c.settle-number.ensures.value _ c.with_section-g.ensures _ c.settle-number.ensures.out_after
 
 pub returns : goal.returns
 returns c = end_all c.loop-i.invariant (omega arith)

@@ -5,7 +5,7 @@ use Rattle.collector.proofs.SectionLoop.{Reached, none_yet, end_all, end_filler,
 use Rattle.collector.proofs.stretch.sections.Given as goal
 
 abbrev pub invariant-loop-i : goal.invariant-loop-i
-invariant-loop-i l = Reached l.packet l.from l.initial.out l.at l.was l.initial.hold l.hold l.out l.i l.g
+invariant-loop-i l = Reached l.packet l.from l.was l.initial.hold l.initial.out l.at l.hold l.out l.i l.g
 
 abbrev pub decreases-loop-i : goal.decreases-loop-i
 decreases-loop-i l = length l.packet - l.i

@@ -8,19 +8,17 @@ use Rattle.packet.specs.Ruling.{mark_with, repeats, joins, repeated, takes, load
 use Rattle.collector.specs.Answer.{Outcome}
 use Rattle.collector.specs.Collected.{outcome_after, outcome_of}
 use Rattle.collector.proofs.taking.carried.Goals as goal
-use Rattle.collector.proofs.taking.carried.Goals.{After-is_repeat, After-is_set-spliced, Start}
+use Rattle.collector.proofs.taking.carried.Goals.{After-is_repeat, Start}
 
 module _ (s : Start) where
   -- is the mark set, by a packet before or by this one
 
   abbrev spliced : Bool
-
   spliced = mark_with (before_of s.args.rec) s.args.splice
 
   -- the outcome, as the packet is a repeated one or not
 
   abbrev ruled : Bool → Outcome
-
   ruled again =
       outcome_of s.args.rec s.args.hold.now s.args.out.now
       (if again then repeated else
@@ -29,33 +27,28 @@ module _ (s : Start) where
   -- and as it is joined to the last one or not
 
   abbrev outcome : Bool → Outcome
-
   outcome next =
       outcome_after s.args.rec s.args.hold.now s.args.out.now s.args.counter
       (payload by_judge plain s.args.start
       (joined next (holding (take s.args.rec.in_hand s.args.hold.now)))
       (drop s.args.from s.args.packet.now))
 
-module _ (r : After-is_repeat) where
-  -- the test for a repeated packet, by what the record and the packet say
-
-  again-is : r.is_repeat.result ≡ repeats (before_of r.args.rec).last (spliced r.BARE-Start) r.args.counter
-
-  again-is =
-      r.is_repeat.ensures
-      ∙ ap (λ (t : Bool). repeats (before_of r.args.rec).last t r.args.counter)
-      r.is_set-spliced.ensures
+-- the test for a repeated packet, by what the record and the packet say
+again-is : (r : After-is_repeat)
+    → r.is_repeat.result ≡ repeats (before_of r.args.rec).last (mark_with (before_of r.args.rec) r.args.splice) r.args.counter
+again-is r =
+    r.is_repeat.ensures
+    ∙ ap (λ (t : Bool). repeats (before_of r.args.rec).last t r.args.counter)
+    r.is_set-spliced.ensures
 
 pub returns-then-is_repeat : goal.returns-then-is_repeat
-returns-then-is_repeat c = ap (ruled ((goal.at.returns-then-is_repeat c).Start)) (sym c.if-is_repeat.true ∙ again-is (goal.at.returns-then-is_repeat c).After-is_repeat)
-
-pub taken-requires : goal.taken-requires
-taken-requires c =
-    ((goal.at.taken-requires c).Start).pre
+returns-then-is_repeat c =
+    ap (ruled (goal.at.returns-then-is_repeat c).Start)
+    (sym c.if-is_repeat.true ∙ again-is (goal.at.returns-then-is_repeat c).After-is_repeat)
 
 pub returns : goal.returns
 returns c =
     let next = c.is_joined-next.ensures
-    ∙ ap (λ (m : Bool). joins (before_of c.args.rec).last m c.args.counter)
-    ((goal.at.returns c).After-is_set-spliced).is_set.ensures in
-    c.taken.ensures ∙ ap (outcome (goal.at.returns c).Start) next ∙ ap (ruled (goal.at.returns c).Start) (sym c.if-is_repeat.false ∙ again-is (goal.at.returns c).After-is_repeat)
+    ∙ ap (λ (m : Bool). joins (before_of c.args.rec).last m c.args.counter) c.is_set-spliced.ensures in
+    c.taken.ensures ∙ ap (outcome (goal.at.returns c).Start) next
+    ∙ ap (ruled (goal.at.returns c).Start) (sym c.if-is_repeat.false ∙ again-is (goal.at.returns c).After-is_repeat)

@@ -6,23 +6,18 @@ use Rattle.collector.proofs.taking.taken.Goals.{Start}
 
 module _ (s : Start) where
   abbrev hand : List ℕ
-
   hand = take s.args.rec.in_hand s.args.hold.now
 
   abbrev bytes : List ℕ
-
   bytes = drop s.args.from s.args.packet.now
 
   hand_long : s.args.rec.in_hand ≡ length hand
-
   hand_long = sym (length-take-le s.args.rec.in_hand s.args.hold.now (omega (arith, s.requires.few, s.requires.hold_big)))
 
   bytes_long : (0 < length bytes) × (length bytes ≤ 188)
-
   bytes_long = (
     omega (arith, s.requires.from_within, length-drop s.args.from s.args.packet.now),
     omega (arith, s.requires.long, length-drop s.args.from s.args.packet.now),
-
   )
 
 pub overflow_sub-broken : goal.overflow_sub-broken

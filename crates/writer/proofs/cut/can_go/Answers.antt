@@ -49,7 +49,6 @@ module _ (bytes : List ℕ) (at size : ℕ) (k : at + size ≤ length bytes) whe
 -- the header is read
 module _ (b : After-length12) where
   three-there : 3 ≤ b.args.size
-
   three-there = b.if-size-lt3.false
 
 pub returns-then-size-lt3 : goal.returns-then-size-lt3

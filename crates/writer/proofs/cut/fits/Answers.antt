@@ -13,7 +13,6 @@ use borrow.Author.Tests.{eqb-true, eq-eqb, ne_eqb, not-true, not-false}
 use Rattle.writer.specs.Cut.{sendable, fit}
 use Rattle.writer.proofs.CutLaws.{fit_short, fit_stays, fit_goes, fit-end}
 use Rattle.writer.proofs.cut.fits.Goals as goal
-use Rattle.writer.proofs.cut.fits.Goals.{After-can_go, At-loop-i}
 
 module _ (bytes sizes : List ℕ) (at i : ℕ) (k : i < length sizes)
     (e : fit (drop i sizes) (drop at bytes) ≡ fit sizes bytes) where
@@ -42,12 +41,6 @@ module _ (bytes sizes : List ℕ) (at i : ℕ) (k : i < length sizes)
         ap (fit (drop (i + 1) sizes)) (sym (drop-drop size at bytes))
         ∙ sym (fit_goes size (drop (i + 1) sizes) (drop at bytes) there (sym says ∙ f))
         ∙ one
-
--- the section is asked
-module _ (b : After-can_go) where
-  abbrev Asked : Bool
-
-  Asked = b.can_go.result
 
 -- no section is left
 ended : (bytes sizes : List ℕ) (at i : ℕ) → at ≤ length bytes → length sizes ≤ i
@@ -78,17 +71,17 @@ returns-then-bytes-at c =
 
 pub returns-then-not-can_go : goal.returns-then-not-can_go
 returns-then-not-can_go c =
-    let l = ((goal.at.returns-then-not-can_go c).At-loop-i).loop in
-    stays _ _ l.at l.i (omega arith) l.inv.2 c.if-bytes-at.false (Asked (goal.at.returns-then-not-can_go c).After-can_go) c.can_go.ensures
-    (not-true (Asked (goal.at.returns-then-not-can_go c).After-can_go) c.if-not-can_go.true)
+    let l = c.loop-i in
+    stays _ _ l.at l.i (omega arith) l.invariant.2 c.if-bytes-at.false c.can_go.result c.can_go.ensures
+    c.if-not-can_go.true
 
 pub loop-i-preserved : goal.loop-i-preserved
 loop-i-preserved c =
-    let l = ((goal.at.loop-i-preserved c).At-loop-i).loop in (
+    let l = c.loop-i in (
       omega arith,
       omega arith,
-      goes _ _ l.at l.i (omega arith) l.inv.2 c.if-bytes-at.false (Asked (goal.at.loop-i-preserved c).After-can_go) c.can_go.ensures
-          (not-false (Asked (goal.at.loop-i-preserved c).After-can_go) c.if-not-can_go.false),
+      goes _ _ l.at l.i (omega arith) l.invariant.2 c.if-bytes-at.false c.can_go.result c.can_go.ensures
+          c.if-not-can_go.false,
     )
 
 pub returns : goal.returns

@@ -10,14 +10,8 @@ use Rattle.writer.specs.Inner.{ahead_of, Leaps}
 use Rattle.writer.specs.declared.layout.Ahead.{Ahead}
 use Rattle.writer.specs.declared.layout.Leap.{Leap}
 use Rattle.writer.proofs.TurnLaws.{turns_stop}
+use Rattle.writer.proofs.layout.count.Invariants.{Counted}
 use Rattle.writer.proofs.layout.count.Goals as goal
-use Rattle.writer.proofs.layout.count.Goals.{After-some_more-l, At-loop-rest}
-
-pub record Counted (all : ℕ) (sizes : List ℕ) (a : Ahead) (rest n : ℕ) : Type 0 where
-  pub next_there : a.next ≤ length sizes
-  pub ahead : bytes_ahead (ahead_of sizes a) ≡ rest
-  pub few : n + rest ≤ all
-  pub so_far : n + length (turns_from (ahead_of sizes a)) ≡ length (turns_from (unbegun sizes))
 
 module _ {all : ℕ} {sizes : List ℕ} {a : Ahead} {rest n : ℕ} (i : Counted all sizes a rest n) where
   -- some more are counted
@@ -32,13 +26,6 @@ module _ {all : ℕ} {sizes : List ℕ} {a : Ahead} {rest n : ℕ} (i : Counted 
   -- nothing is ahead
   all-counted : rest ≤ 0 → n ≡ length (turns_from (unbegun sizes))
   all-counted k = omega (arith, i.so_far, ap length (turns_stop (ahead_of sizes a) (omega (arith, i.ahead))))
-
--- some packets more
-module _ (b : After-some_more-l) where
-  goes_on : Leaps b.args.sizes.now b.loop-rest.a b.loop-rest.rest
-      b.some_more-l.result
-
-  goes_on = b.some_more-l.ensures
 
 pub loop-rest-init : goal.loop-rest-init
 loop-rest-init c = record {
@@ -55,19 +42,19 @@ some_more-l-requires c =
 
 pub overflow_add-n : goal.overflow_add-n
 overflow_add-n c =
-    omega (arith, (goes_on (goal.at.overflow_add-n c).After-some_more-l).few, (goes_on (goal.at.overflow_add-n c).After-some_more-l).falls, ((goal.at.overflow_add-n c).At-loop-rest).loop.invariant.few, c.fits.all.fits)
+    let x = c.some_more-l.ensures in
+    omega (arith, x.few, x.falls, c.loop-rest.invariant.few)
 
 pub overflow_sub-rest : goal.overflow_sub-rest
-overflow_sub-rest c = omega (arith, (goes_on (goal.at.overflow_sub-rest c).After-some_more-l).falls)
+overflow_sub-rest c = omega (arith, c.some_more-l.ensures.falls)
 
 pub loop-rest-smaller : goal.loop-rest-smaller
 loop-rest-smaller c =
-    let x = goes_on (goal.at.loop-rest-smaller c).After-some_more-l in
+    let x = c.some_more-l.ensures in
     omega (arith, x.falls, x.some, x.few)
 
 pub loop-rest-preserved : goal.loop-rest-preserved
-loop-rest-preserved c =
-    counted-on ((goal.at.loop-rest-preserved c).At-loop-rest).loop.invariant c.some_more-l.result (goes_on (goal.at.loop-rest-preserved c).After-some_more-l)
+loop-rest-preserved c = counted-on c.loop-rest.invariant c.some_more-l.result c.some_more-l.ensures
 
 pub returns : goal.returns
 returns c = all-counted c.loop-rest.invariant (omega arith)

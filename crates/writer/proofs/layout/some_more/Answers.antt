@@ -47,12 +47,11 @@ returns-then-a-ge184 c =
     filled _ c.args.a c.args.rest c.requires.1 c.requires.2 c.if-a-ge184.true
 
 pub open_next-requires : goal.open_next-requires
-open_next-requires c =
-    (
-      said_few _ c.args.a c.args.rest c.requires.1 c.next_turn-t.result c.next_turn-t.ensures,
-      c.requires.2,
-      c.requires.3,
-    )
+open_next-requires c = (
+  said_few _ c.args.a c.args.rest c.requires.1 c.next_turn-t.result c.next_turn-t.ensures,
+  c.requires.2,
+  c.requires.3,
+)
 
 pub returns : goal.returns
 returns c =

@@ -18,24 +18,10 @@ use Rattle.writer.specs.declared.packets.Put.{Put}
 use Rattle.writer.proofs.TurnLaws.{Takes, turn_takes, behind_ahead, turns_stop, turns_on}
 use Rattle.writer.proofs.PayloadLaws.{packet_long}
 use Rattle.writer.proofs.RoomLaws.{laid_length, laid_then}
+use Rattle.writer.proofs.packets.put_all.Invariants.{comingFrom, Placed}
 use Rattle.writer.proofs.packets.put_all.Goals as goal
-use Rattle.writer.proofs.packets.put_all.Goals.{After-put_next-p, At-loop-place, Start}
 
--- the bytes of the packets from a place on
-abbrev comingFrom : ℕ → ℕ → List ℕ → List ℕ → Layout.Ahead → ℕ → List ℕ
-comingFrom pid counter sections sizes a place =
-    flatten (packets_from pid counter (laid_out (turns_from a) (drop place sections)))
-
-pub record Placed (pid : ℕ) (all sections sizes room₀ room : List ℕ) (a : Ahead) (place at c : ℕ) : Type 0 where
-  pub next_there : a.next ≤ length sizes
-  pub ahead : place + bytes_ahead (ahead_of sizes a) ≡ length sections
-  pub small : c ≤ 15
-  pub same : length room ≡ length room₀
-  pub within : at ≤ length all
-  pub fits : at + length (turns_from (ahead_of sizes a)) * 188 ≤ length room₀
-  pub laid-down : room ≡ laid room₀ 0 (take at all)
-  pub to-come : comingFrom pid c sections sizes (ahead_of sizes a) place ≡ drop at all
-
+-- bytes in two parts, the first of which has 188
 module _ (all packet more : List ℕ) (at : ℕ) (k : at ≤ length all) (e : drop at all ≡ packet ++ more)
     (n : length packet ≡ 188) where
   next-in : at + 188 ≤ length all
@@ -126,12 +112,6 @@ module _ {pid : ℕ} {all sections sizes room₀ room : List ℕ} {a : Ahead} {p
       ∙ ap (laid room₀ 0) (take_all at all (omega (arith, end, length-drop at all)))
       ∙ ap (λ (n : ℕ). all ++ drop n room₀) (zero-add (length all))
 
--- a packet is there
-module _ (b : After-put_next-p) where
-  some_left : b.loop-place.place < length b.args.sections.now
-
-  some_left = b.loop-place-test.true
-
 pub loop-place-init : goal.loop-place-init
 loop-place-init c =
     record {
@@ -160,27 +140,23 @@ put_next-p-requires c =
 
 pub overflow_add-place : goal.overflow_add-place
 overflow_add-place c =
-    let there = in-sections ((goal.at.overflow_add-place c).At-loop-place).loop.invariant (some_left (goal.at.overflow_add-place c).After-put_next-p) c.put_next-p.result _ c.put_next-p.ensures in
-    omega (arith, there, ((goal.at.overflow_add-place c).Start).good)
+    let there = in-sections c.loop-place.invariant c.loop-place-test.true c.put_next-p.result _ c.put_next-p.ensures in
+    omega (arith, there, c.well_formed)
 
 pub overflow_add-at : goal.overflow_add-at
 overflow_add-at c =
-    omega (arith, fits_in ((goal.at.overflow_add-at c).At-loop-place).loop.invariant (some_left (goal.at.overflow_add-at c).After-put_next-p), ((goal.at.overflow_add-at c).At-loop-place).loop.inv.same, ((goal.at.overflow_add-at c).Start).good)
+    omega (arith, fits_in c.loop-place.invariant c.loop-place-test.true, c.loop-place.invariant.same, c.well_formed)
 
 pub overflow_add-c : goal.overflow_add-c
-overflow_add-c c = omega (arith, ((goal.at.overflow_add-c c).At-loop-place).loop.inv.small)
+overflow_add-c c = omega (arith, c.loop-place.invariant.small)
 
 pub loop-place-smaller : goal.loop-place-smaller
 loop-place-smaller c =
-    let more = some_bytes ((goal.at.loop-place-smaller c).At-loop-place).loop.invariant (some_left (goal.at.loop-place-smaller c).After-put_next-p) c.put_next-p.result _ c.put_next-p.ensures in
-    omega (arith, more, some_left (goal.at.loop-place-smaller c).After-put_next-p)
+    let more = some_bytes c.loop-place.invariant c.loop-place-test.true c.put_next-p.result _ c.put_next-p.ensures in
+    omega (arith, more, c.loop-place-test.true)
 
 pub loop-place-preserved : goal.loop-place-preserved
-loop-place-preserved c =
-    one_more ((goal.at.loop-place-preserved c).At-loop-place).loop.invariant (some_left (goal.at.loop-place-preserved c).After-put_next-p) c.put_next-p.result _ c.put_next-p.ensures
-
-pub shape_of-room : goal.shape_of-room
-shape_of-room c = c.loop-place.invariant.same
+loop-place-preserved c = one_more c.loop-place.invariant c.loop-place-test.true c.put_next-p.result _ c.put_next-p.ensures
 
 pub returns : goal.returns
 returns c = all_placed c.loop-place.invariant (omega arith)

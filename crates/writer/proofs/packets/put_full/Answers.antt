@@ -16,7 +16,7 @@ returns c =
     let a = c.args in
     let bytes : List ℕ = take 184 (drop a.place a.sections.now) in
     c.copy.ensures.1
-    ∙ copied_laid a.sections.now a.place 184 c.put_header.new.0 (a.at + 4) c.requires.3
+    ∙ copied_laid a.sections.now a.place 184 c.put_header.new.room (a.at + 4) c.requires.3
     (search rules)
     ∙ ap (λ (l : List ℕ). laid l (a.at + 4) bytes) c.put_header.ensures
     ∙ laid_then a.room.now a.at (header_of a.pid a.counter false) bytes

@@ -18,7 +18,6 @@ use Rattle.writer.proofs.TurnLaws.{turn_full, behind_full}
 use Rattle.writer.proofs.PayloadLaws.{full_packet}
 use Rattle.writer.proofs.StepLaws.{turn_said_lem, said_fits, said_few, next_is}
 use Rattle.writer.proofs.packets.put_next.Goals as goal
-use Rattle.writer.proofs.packets.put_next.Goals.{After-next_turn-t, Start}
 
 module _ {room : List ℕ} {at pid counter : ℕ} {sections : List ℕ} {place : ℕ} {sizes : List ℕ} {a : Ahead}
     (x : Ready room at pid counter sections place sizes a) where
@@ -79,23 +78,22 @@ put_full-requires c =
 
 pub returns-then-a-ge184 : goal.returns-then-a-ge184
 returns-then-a-ge184 c =
-    filled ((goal.at.returns-then-a-ge184 c).Start).requires c.if-a-ge184.true _ c.put_full.ensures
+    filled c.requires c.if-a-ge184.true _ c.put_full.ensures
 
 pub overflow_sub-sections : goal.overflow_sub-sections
-overflow_sub-sections c = let some = ((goal.at.overflow_sub-sections c).Start).requires.some in omega arith
+overflow_sub-sections c = let some = c.requires.some in omega arith
 
 pub put_packet-requires : goal.put_packet-requires
 put_packet-requires c =
-    let x = ((goal.at.put_packet-requires c).Start).requires in
+    let x = c.requires in
     (x.fits, x.pid_small, x.counter_small, fits-there x c.next_turn-t.result c.next_turn-t.ensures)
 
 pub open_next-requires : goal.open_next-requires
 open_next-requires c =
-    let t = ((goal.at.open_next-requires c).After-next_turn-t) in
-    let x = (Begin (Tested t)).requires in
-    (few_bytes x t.next-turn.result t.next-turn.ensures, x.next_there, x.few)
+    let x = c.requires in
+    (few_bytes x c.next_turn-t.result c.next_turn-t.ensures, x.next_there, x.few)
 
 pub returns : goal.returns
 returns c =
-    turned ((goal.at.returns c).Start).requires c.next_turn-t.result c.next_turn-t.ensures c.open_next.result
+    turned c.requires c.next_turn-t.result c.next_turn-t.ensures c.open_next.result
     c.open_next.ensures.0 c.open_next.ensures.1 _ c.put_packet.ensures

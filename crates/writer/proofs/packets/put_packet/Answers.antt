@@ -19,11 +19,11 @@ returns c =
     c.requires.0
     (omega (arith, fits.there, length-drop a.place a.sections.now)) fits.in_payload
     c.put_pointer-from.result
-    c.put_pointer-from.ensures.1 c.put_header.last.0 c.put_pointer-from.last.0
-    c.copy.last.1.1.1.0
-    c.fill.new.0 c.put_header.ensures c.put_pointer-from.ensures.0
+    c.put_pointer-from.ensures.1 c.put_header.new.room c.put_pointer-from.new.room
+    c.copy.new.dst
+    c.fill.new.room c.put_header.ensures c.put_pointer-from.ensures.0
     (c.copy.ensures.1
-    ∙ copied_laid a.sections.now a.place a.t.bytes c.put_pointer-from.last.0
+    ∙ copied_laid a.sections.now a.place a.t.bytes c.put_pointer-from.new.room
     c.put_pointer-from.result
     fits.there (search rules))
     c.fill.ensures
