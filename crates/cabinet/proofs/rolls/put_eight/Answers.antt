@@ -10,7 +10,7 @@ use lib.Seq.{paste, paste-zero, paste-suc}
 use Rattle.cabinet.proofs.rolls.put_eight.Goals as goal
 
 pub loop-i-init : goal.loop-i-init
-loop-i-init c = (omega arith, c.requires.1, paste-zero c.args.flags.now (c.args.k * 8) c.args.t3)
+loop-i-init c = (omega arith, c.requires.1, paste-zero c.args.flags.now (c.args.k * 8) c.args.eight)
 
 pub loop-i-preserved : goal.loop-i-preserved
 loop-i-preserved c =
@@ -18,9 +18,9 @@ loop-i-preserved c =
     let args = c.args in (
       omega arith,
       length-set l.flags _ _ ∙ l.invariant.1,
-      ap (λ (x : List Bool). set x (args.k * 8 + l.i) (get_or args.t3 l.i false)) l.invariant.2
-          ∙ paste-suc args.flags.now (args.k * 8) args.t3 l.i false (omega arith) (omega arith)
-          ∙ ap (paste args.flags.now (args.k * 8) args.t3) (sym (add-one l.i)),
+      ap (λ (x : List Bool). set x (args.k * 8 + l.i) (get_or args.eight l.i false)) l.invariant.2
+          ∙ paste-suc args.flags.now (args.k * 8) args.eight l.i false (omega arith) (omega arith)
+          ∙ ap (paste args.flags.now (args.k * 8) args.eight) (sym (add-one l.i)),
     )
 
 pub returns : goal.returns
@@ -28,4 +28,4 @@ returns c =
     let l = c.loop-i in
     let args = c.args in
     let eight : l.i ≡ 8 = omega arith in
-    l.invariant.2 ∙ ap (paste args.flags.now (args.k * 8) args.t3) eight
+    l.invariant.2 ∙ ap (paste args.flags.now (args.k * 8) args.eight) eight

@@ -10,7 +10,7 @@ use lib.Seq.{paste, paste-zero, paste-suc}
 use Rattle.cabinet.proofs.rolls.put_eight.Given as goal
 
 abbrev pub invariant-loop-i : goal.invariant-loop-i
-invariant-loop-i l = (l.i ≤ 8) × (length l.flags ≡ 256) × (l.flags ≡ paste l.k (l.eight * 8) l.initial.flags l.i)
+invariant-loop-i l = (l.i ≤ 8) × (length l.flags ≡ 256) × (l.flags ≡ paste l.initial.flags (l.k * 8) l.eight l.i)
 
 abbrev pub decreases-loop-i : goal.decreases-loop-i
 decreases-loop-i l = 8 - l.i
