@@ -50,7 +50,7 @@ in_cases tag (d ∷ ds) = go (ℕ_discrete d.tag tag) (in_cases tag ds)
 
 -- ---- the loops from number k on
 
-nowhere_from : (k : ℕ) {tag : ℕ} {loops : List (List Placed)} → Nowhere tag loops → hit_from tag k loops ≡ search.none
+nowhere_from : {tag : ℕ} (k : ℕ) {loops : List (List Placed)} → Nowhere tag loops → hit_from tag k loops ≡ search.none
 nowhere_from k search.Nowhere.none = refl
 nowhere_from k (search.Nowhere.more w n) = without_in k _ w ∙ nowhere_from (k + 1) n
 
@@ -112,6 +112,7 @@ module _ (s : List ℕ) (tag : ℕ) where
 -- loops, whose first is the top loop
 pub hit_in_loop : (tag k j : ℕ) (loops : List (List Placed)) (d : Placed) → FirstHit tag k loops j d
     → (n : ℕ) × (j ≡ k + n) × FirstIn tag (get_or loops n []) d
+hit_in_loop tag k j [] d x = elim x [ ]
 hit_in_loop tag k j (ds ∷ loops) d (search.FirstHit.here f) = (0, omega arith, f)
 hit_in_loop tag k j (ds ∷ loops) d (search.FirstHit.later w f) = go (hit_in_loop tag (k + 1) j loops d f)
   where
@@ -121,13 +122,15 @@ hit_in_loop tag k j (ds ∷ loops) d (search.FirstHit.later w f) = go (hit_in_lo
 -- ---- the part handed out
 
 in_loop : {s : List ℕ} {tag : ℕ} {ds : List Placed} {d : Placed} → Standing s ds → FirstIn tag ds d → Part s d.place (bytes_of d)
+in_loop standing.Standing.none x = elim x [ ]
 in_loop (standing.Standing.more d p h) (search.FirstIn.here x e) = p
 in_loop (standing.Standing.more d p h) (search.FirstIn.later x n f) = in_loop h f
 
 in_loops : {s : List ℕ} {tag k j : ℕ} {loops : List (List Placed)} {d : Placed} → AllStanding s loops
     → FirstHit tag k loops j d → Part s d.place (bytes_of d)
+in_loops handed.AllStanding.none x = elim x [ ]
 in_loops (handed.AllStanding.more h r) (search.FirstHit.here f) = in_loop h f
-in_loops (handed.AllStanding.more h r) (search.FirstHit.later w f) = in_loops r f
+in_loops {k = k} (handed.AllStanding.more h r) (search.FirstHit.later w f) = in_loops {k = k + 1} r f
 
 -- "gives the body as a part of the caller's bytes": the place and size of a hit name a part of the section, and that part is the body
 pub hit_part : (s : List ℕ) (tag k b n : ℕ) → sought s tag ≡ hit k b n

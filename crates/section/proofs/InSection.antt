@@ -29,7 +29,7 @@ use Rattle.section.proofs.Readings.{then-on, then-stop, inside_topped, inside_pl
 
 -- ---- a loop that has to fill its container
 
-fill_fault : {p k q : ℕ} {m : List ℕ} → FillFault p m k q → fills p m ≡ refused k q
+fill_fault : {p : ℕ} {m : List ℕ} {k q : ℕ} → FillFault p m k q → fills p m ≡ refused k q
 unfolding fills
 fill_fault {m = m} (beyond h) = rw (lt-ltb (length m) (size_of m) h)
 fill_fault {m = m} (short h) = rw (le-ltb (length m) (size_of m) (omega arith), lt-ltb (size_of m) (length m) h)

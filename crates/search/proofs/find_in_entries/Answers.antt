@@ -18,63 +18,50 @@ use mathlib.Core.Logic.{⊎_elim}
 use mathlib.Core.Path.{◌≡◌, refl, sym, ap, ◌∙◌}
 use Prim.Native.Nat.{ℕ, ◌+◌, ◌-◌, ◌<◌, ◌≤◌}
 use Rattle.search.proofs.find_in_entries.Goals as goal
-use Rattle.search.proofs.find_in_entries.Goals.{After-length12_at, After-step_at-step, At-descriptors, Else-t-tag, In-Descriptor-2, In-entries, Joined-step, Start}
+use Rattle.search.proofs.find_in_entries.Goals.{After-length12_at, At-descriptors, Else-t-tag, In-entries, in-End, in-Cut}
 
 -- An entry begins at p.
 module _ (c : In-entries) where
   abbrev bytes : List ℕ
-
   bytes = c.args.bytes.now
 
   abbrev fixed : ℕ
-
   fixed = c.args.fixed
 
   abbrev p : ℕ
-
   p = c.entries.p
 
   own_of : (n : ℕ) → n ≡ len12_at bytes (p + (fixed - 2)) → Entry bytes fixed p n
-
   own_of n e = entry_here (record { two = c.requires.0; here = c.entries-test.true; same = e }) c.entries.invariant.1
 
   here : p + fixed ≤ length bytes
-
   here = omega (arith, (own_of _ refl).inside)
 
 -- Its loop's length has been read.
 module _ (c : After-length12_at) where
-  abbrev next : ℕ
-
-  next = p c.BARE-In-entries + fixed c.BARE-In-entries + c.length12_at.result
-
-  own : Entry (bytes c.BARE-In-entries) (fixed c.BARE-In-entries) (p c.BARE-In-entries) c.length12_at.result
-
-  own = own_of c.BARE-In-entries _ c.length12_at.ensures.same
+  own : Entry c.args.bytes.now c.args.fixed c.entries.p c.length12_at.result
+  own =
+      entry_here (record { two = c.requires.0; here = c.entries-test.true; same = c.length12_at.ensures.same })
+      c.entries.invariant.1
 
 -- The place q is in its loop.
 module _ (c : At-descriptors) where
-  in_loop : c.descriptors.q ≤ length (take (next c.BARE-After-length12_at) (bytes (c.BARE-In-entries)))
+  abbrev next : ℕ
+  next = c.entries.p + c.args.fixed + c.length12_at.result
 
-  in_loop = fits_within _ _ _ (own c.BARE-After-length12_at).inside c.descriptors.invariant.1
-
-  abbrev tag : ℕ
-
-  tag = (c.BARE-Start).args.tag
-
-  abbrev number : ℕ
-
-  number = c.entries.number
+  in_loop : next ≤ length c.args.bytes.now → c.descriptors.q ≤ length (take next c.args.bytes.now)
+  in_loop inside = fits_within _ _ _ inside c.descriptors.invariant.1
 
 -- A descriptor stands there, and it has another tag: the next is further on in the loop.
 module _ (c : Else-t-tag) where
   abbrev past : ℕ
-
   past = c.in-Descriptor.body + c.in-Descriptor.size
 
-  further : (c.descriptors.q < past) × (past ≤ next c.BARE-After-length12_at)
+  abbrev end : ℕ
+  end = c.entries.p + c.args.fixed + c.length12_at.result
 
-  further = told_within _ _ _ _ _ _ _ (own c.BARE-After-length12_at).inside c.step_at-step.ensures c.in-Descriptor.is
+  further : end ≤ length c.args.bytes.now → (c.descriptors.q < past) × (past ≤ end)
+  further inside = told_within _ _ _ _ _ _ _ inside c.step_at-step.ensures c.in-Descriptor.is
 
 pub entries-init : goal.entries-init
 entries-init c = (refl, c.requires.1, refl, omega arith)
@@ -91,47 +78,53 @@ overflow_add-next c = omega (arith, (own (goal.at.overflow_add-next c).After-len
 pub descriptors-init : goal.descriptors-init
 descriptors-init c =
     let entries = c.entries in (
-      sym (ap (hit_from ((goal.at.descriptors-init c).Start).args.tag entries.number) (own (goal.at.descriptors-init c).After-length12_at).first) ∙ entries.invariant.0,
+      sym (ap (hit_from c.args.tag entries.number) (own (goal.at.descriptors-init c).After-length12_at).first) ∙ entries.invariant.0,
       omega arith,
       refl,
     )
 
 pub slice_bounds-step_at-end : goal.slice_bounds-step_at-end
-slice_bounds-step_at-end c = sym (length-take-le _ _ (own (goal.at.slice_bounds-step_at-end c).In-entries).inside)
+slice_bounds-step_at-end c = sym (length-take-le _ _ (own (goal.at.slice_bounds-step_at-end c).After-length12_at).inside)
 
 pub overflow_add-q : goal.overflow_add-q
-overflow_add-q c = omega (arith, (own ((goal.at.overflow_add-q c).At-descriptors).before).inside, further (goal.at.overflow_add-q c).Else-t-tag)
+overflow_add-q c =
+    let inside = (own (goal.at.overflow_add-q c).After-length12_at).inside in
+    omega (arith, inside, further (goal.at.overflow_add-q c).Else-t-tag inside)
 
 pub descriptors-smaller : goal.descriptors-smaller
-descriptors-smaller c = omega (arith, further (goal.at.descriptors-smaller c).Else-t-tag)
+descriptors-smaller c =
+    omega (arith, further (goal.at.descriptors-smaller c).Else-t-tag (own (goal.at.descriptors-smaller c).After-length12_at).inside)
 
 pub descriptors-preserved : goal.descriptors-preserved
 descriptors-preserved c =
-    let loop = ((goal.at.descriptors-preserved c).At-descriptors).descriptors in (
-      sym (hit_on _ loop.q (tag ((goal.at.descriptors-preserved c).At-descriptors)) (number ((goal.at.descriptors-preserved c).At-descriptors)) _ _ ((goal.at.descriptors-preserved c).After-step_at-step).step-at.ensures (in_loop ((goal.at.descriptors-preserved c).At-descriptors)) _ _ _
-          ((goal.at.descriptors-preserved c).In-Descriptor-2).step.given.1 c.if-t-tag.false)
-          ∙ loop.inv.0,
-      (further (goal.at.descriptors-preserved c).Else-t-tag).1,
-      loop.inv.2,
+    let at = goal.at.descriptors-preserved c in
+    let inside = (own at.After-length12_at).inside in
+    let loop = c.descriptors in (
+      sym (hit_on _ loop.q c.args.tag c.entries.number _ _ c.step_at-step.ensures (in_loop at.At-descriptors inside) _ _ _
+          c.in-Descriptor.is c.if-t-tag.false)
+          ∙ loop.invariant.0,
+      (further at.Else-t-tag inside).1,
+      loop.invariant.2,
     )
 
 pub overflow_add-number : goal.overflow_add-number
-overflow_add-number c = omega (arith, (own ((goal.at.overflow_add-number c).After-length12_at)).inside)
+overflow_add-number c = omega (arith, (own (goal.at.overflow_add-number c).After-length12_at).inside)
 
 pub entries-smaller : goal.entries-smaller
-entries-smaller c = omega (arith, (own ((goal.at.entries-smaller c).After-length12_at)).inside)
+entries-smaller c = omega (arith, (own (goal.at.entries-smaller c).After-length12_at).inside)
 
 pub entries-preserved : goal.entries-preserved
 entries-preserved c =
-    let step-at = c.step_at-step in
+    let at = goal.at.entries-preserved c in
+    let here = own at.After-length12_at in
+    let q = in_loop at.At-descriptors here.inside in
     let loop = c.descriptors in (
-      ⊎_elim
-          (λ w. sym (hit-end _ loop.q (tag (goal.at.entries-preserved c).At-descriptors) (number (goal.at.entries-preserved c).At-descriptors) _ _ step-at.ensures (in_loop (goal.at.entries-preserved c).At-descriptors) w.1.given.1))
-          (λ w. sym (hit_cut _ loop.q (tag (goal.at.entries-preserved c).At-descriptors) (number (goal.at.entries-preserved c).At-descriptors) _ _ step-at.ensures (in_loop (goal.at.entries-preserved c).At-descriptors) _ w.1.given.1))
-          c.match-step.branch
-          ∙ loop.inv.0,
-      (own (goal.at.entries-preserved c).After-length12_at).onward,
-      loop.inv.2 ∙ ((goal.at.entries-preserved c).In-entries).before.entries.inv.2,
+      elim c.match-step.branch [
+        | in-End w ↦ sym (hit-end _ loop.q c.args.tag c.entries.number _ _ c.step_at-step.ensures q w.in-End.is) ∙ loop.invariant.0
+        | in-Cut w ↦ sym (hit_cut _ loop.q c.args.tag c.entries.number _ _ c.step_at-step.ensures q _ w.in-Cut.is) ∙ loop.invariant.0
+      ],
+      here.onward,
+      loop.invariant.2 ∙ c.entries.invariant.2,
       omega arith,
     )
 
@@ -145,8 +138,9 @@ returns-after-entries c =
 
 pub returns-then-t-tag : goal.returns-then-t-tag
 returns-then-t-tag c =
+    let at = goal.at.returns-then-t-tag c in
     let loop = c.descriptors in
     sym
-    (hit_here _ loop.q (tag (goal.at.returns-then-t-tag c).After-length12_at) (number (goal.at.returns-then-t-tag c).After-length12_at) _ _ c.step_at-step.ensures (in_loop (goal.at.returns-then-t-tag c).After-length12_at) _ _ _
-    c.in-Descriptor.is c.if-t-tag.true)
+    (hit_here _ loop.q c.args.tag c.entries.number _ _ c.step_at-step.ensures
+    (in_loop at.At-descriptors (own at.After-length12_at).inside) _ _ _ c.in-Descriptor.is c.if-t-tag.true)
     ∙ loop.invariant.0

@@ -20,13 +20,14 @@ use Prim.Native.Nat.{ℕ, ◌+◌, ◌-◌, ◌<◌, ◌≤◌}
 use Rattle.search.proofs.find_in_entries.Given as goal
 
 abbrev pub invariant-descriptors : goal.invariant-descriptors
-invariant-descriptors l = (hit_in l.tag l.p (descriptors l.q (drop l.q (take l.initial.found l.bytes))).items
-    (hit_from l.tag (l.p + 1) (entries l.fixed l.initial.found (drop l.initial.found l.bytes)).items)
+invariant-descriptors l =
+    (hit_in l.tag l.number (descriptors l.q (drop l.q (take l.next l.bytes))).items
+    (hit_from l.tag (l.number + 1) (entries l.fixed l.next (drop l.next l.bytes)).items)
     ≡ hit_from l.tag 1 (entries l.fixed l.at (drop l.at l.bytes)).items)
-    × (l.q ≤ l.initial.found) × (l.found ≡ l.number)
+    × (l.q ≤ l.next) × (l.found ≡ l.initial.found)
 
 abbrev pub decreases-descriptors : goal.decreases-descriptors
-decreases-descriptors l = l.initial.found - l.q
+decreases-descriptors l = l.next - l.q
 
 abbrev pub invariant-entries : goal.invariant-entries
 invariant-entries l = (hit_from l.tag l.number (entries l.fixed l.p (drop l.p l.bytes)).items ≡ hit_from l.tag 1 (entries l.fixed l.at (drop l.at l.bytes)).items)

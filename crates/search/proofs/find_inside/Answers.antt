@@ -24,12 +24,11 @@ returns-then-fixed-eq0 c =
     (inside_plain args.row _ _ c.if-row-eq1.false ∙ plain_none _ _ _ c.if-fixed-eq0.true))
 
 pub find_in_entries-requires : goal.find_in_entries-requires
-find_in_entries-requires c =
-    (
-      c.requires.0 c.if-fixed-eq0.false,
-      sym (ap answer (inside_plain c.args.row _ _ c.if-row-eq1.false ∙ plain_entries _ _ _ c.if-fixed-eq0.false))
-          ∙ c.requires.1,
-    )
+find_in_entries-requires c = (
+  c.requires.0 c.if-fixed-eq0.false,
+  sym (ap answer (inside_plain c.args.row _ _ c.if-row-eq1.false ∙ plain_entries _ _ _ c.if-fixed-eq0.false))
+      ∙ c.requires.1,
+)
 
 pub returns : goal.returns
 returns c =

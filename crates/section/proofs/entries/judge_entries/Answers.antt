@@ -11,37 +11,31 @@ use Rattle.verdict.specs.Verdict.{is_accepted}
 use Rattle.section.specs.Entries.{entries}
 use Rattle.section.proofs.EntryLoops.{At, at-end, at_short, at_past, at_fault, at_on}
 use Rattle.section.proofs.entries.judge_entries.Goals as goal
-use Rattle.section.proofs.entries.judge_entries.Goals.{After-length12-size, After-shared_slice_known-in-loop-p-2-1, Else-end-start, In-loop-p, Start}
+use Rattle.section.proofs.entries.judge_entries.Goals.{After-length12-size, Else-end-start, In-loop-p}
 
 -- An entry begins at p.
 module _ (c : In-loop-p) where
   abbrev p : ℕ
-
   p = c.loop-p.p
 
   begins : (n : ℕ) → n ≡ len12_at c.args.bytes.now (p + (c.args.fixed - 2))
       → At c.args.bytes.now c.args.fixed p n
-
   begins n e = record { two = c.requires; here = c.loop-p-test.true; same = e }
 
 -- The length of its loop has been read.
 module _ (c : After-length12-size) where
-  entry : At (c.BARE-Start).args.bytes.now (c.BARE-Start).args.fixed (p c.BARE-In-loop-p) c.length12-size.result
-
-  entry = begins c.BARE-In-loop-p _ c.length12-size.ensures.same
+  entry : At c.args.bytes.now c.args.fixed c.loop-p.p c.length12-size.result
+  entry = record { two = c.requires; here = c.loop-p-test.true; same = c.length12-size.ensures.same }
 
 -- Its fixed part and its loop fit.
 module _ (c : Else-end-start) where
   abbrev end : ℕ
+  end = c.loop-p.p + c.args.fixed + c.length12-size.result
 
-  end = p c.BARE-In-loop-p + (c.BARE-Start).args.fixed + c.length12-size.result
-
-  head-fits : p c.BARE-In-loop-p + (c.BARE-Start).args.fixed ≤ length (c.BARE-Start).args.bytes.now
-
+  head-fits : c.loop-p.p + c.args.fixed ≤ length c.args.bytes.now
   head-fits = omega arith
 
-  loop-fits : end ≤ length (c.BARE-Start).args.bytes.now
-
+  loop-fits : end ≤ length c.args.bytes.now
   loop-fits = omega arith
 
 pub loop-p-init : goal.loop-p-init
@@ -59,18 +53,18 @@ slice_bounds-judge_descriptors-end c = sym (length-take-le _ _ (omega arith))
 
 pub loop-p-preserved : goal.loop-p-preserved
 loop-p-preserved c =
-    ((goal.at.loop-p-preserved c).In-loop-p).before.loop.invariant
+    c.loop-p.invariant
     ∙ ap answer
-    (at_on (entry (goal.at.loop-p-preserved c).After-shared_slice_known-in-loop-p-2-1) (head-fits (goal.at.loop-p-preserved c).After-length12-size) (loop-fits (goal.at.loop-p-preserved c).After-length12-size)
+    (at_on (entry (goal.at.loop-p-preserved c).After-length12-size) (head-fits (goal.at.loop-p-preserved c).Else-end-start) (loop-fits (goal.at.loop-p-preserved c).Else-end-start)
     (ap is_accepted (sym c.judge_descriptors-verdict.ensures) ∙ sym c.is_accepted.ensures ∙ c.if-is_accepted.true))
 
 pub returns-else-is_accepted : goal.returns-else-is_accepted
 returns-else-is_accepted c =
     c.judge_descriptors-verdict.ensures
     ∙ sym
-    (((goal.at.returns-else-is_accepted c).In-loop-p).before.loop.invariant
+    (c.loop-p.invariant
     ∙ ap answer
-    (at_fault (entry (goal.at.returns-else-is_accepted c).After-shared_slice_known-in-loop-p-2-1) (head-fits (goal.at.returns-else-is_accepted c).After-length12-size) (loop-fits (goal.at.returns-else-is_accepted c).After-length12-size)
+    (at_fault (entry (goal.at.returns-else-is_accepted c).After-length12-size) (head-fits (goal.at.returns-else-is_accepted c).Else-end-start) (loop-fits (goal.at.returns-else-is_accepted c).Else-end-start)
     (ap is_accepted (sym c.judge_descriptors-verdict.ensures) ∙ sym c.is_accepted.ensures ∙ c.if-is_accepted.false)))
 
 pub returns : goal.returns

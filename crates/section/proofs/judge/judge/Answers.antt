@@ -16,15 +16,12 @@ use Rattle.section.proofs.judge.judge.Goals.{After-row_at-row}
 -- The table is known, and its row has been read.
 module _ (c : After-row_at-row) where
   abbrev s : List ℕ
-
   s = c.args.section.now
 
   row_is : c.row_at-row.result ≡ row_for s
-
   row_is = c.row_at-row.ensures ∙ ap row_at c.row_of-i.ensures
 
   known : opening s ≡ accepted
-
   known = opening_known s c.if-section-lt3.false (omega arith)
 
 pub returns-then-section-lt3 : goal.returns-then-section-lt3
