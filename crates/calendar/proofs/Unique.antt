@@ -10,4 +10,4 @@ use Rattle.calendar.specs.declared.Answer.TheVariants.{Is, Refused}
 pub date_once : (p q : Answer) → told p ≡ told q → p ≡ q
 date_once =
     answer_once told Is Refused numbered (λ a. refl) (λ w. refl)
-    (λ P f g r. elim r [ Is a ↦ f a | Refused w ↦ g w ]) fault_once
+    (λ P f g r. elim r as (λ k. P k) [ Is a ↦ f a | Refused w ↦ g w ]) fault_once

@@ -33,14 +33,14 @@ fault_once (TooEarly a) (TooEarly b) e = ap TooEarly (ap (λ w. w.place) e)
 pub time_once : (p q : Time) → time.told p ≡ time.told q → p ≡ q
 time_once =
     answer_once time.told time-is time-refused numbered (λ a. refl) (λ w. refl)
-    (λ P f g r. elim r [ time-is a ↦ f a | time-refused w ↦ g w ]) fault_once
+    (λ P f g r. elim r as (λ k. P k) [ time-is a ↦ f a | time-refused w ↦ g w ]) fault_once
 
 pub duration_once : (p q : Duration) → duration.told p ≡ duration.told q → p ≡ q
 duration_once =
     answer_once duration.told duration-is duration-refused numbered (λ a. refl) (λ w. refl)
-    (λ P f g r. elim r [ duration-is a ↦ f a | duration-refused w ↦ g w ]) fault_once
+    (λ P f g r. elim r as (λ k. P k) [ duration-is a ↦ f a | duration-refused w ↦ g w ]) fault_once
 
 pub offset_once : (p q : Offset) → offset.told p ≡ offset.told q → p ≡ q
 offset_once =
     answer_once offset.told Minutes offset-refused numbered (λ a. refl) (λ w. refl)
-    (λ P f g r. elim r [ Minutes n ↦ f n | offset-refused w ↦ g w ]) fault_once
+    (λ P f g r. elim r as (λ k. P k) [ Minutes n ↦ f n | offset-refused w ↦ g w ]) fault_once

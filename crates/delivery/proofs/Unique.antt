@@ -16,14 +16,14 @@ use Rattle.delivery.specs.declared.terrestrial.Answer.TheVariants.{Is as terrest
 pub satellite_once : (p q : Satellite) → satellite.told p ≡ satellite.told q → p ≡ q
 satellite_once =
     answer_once satellite.told satellite-is satellite_refused numbered (λ a. refl) (λ w. refl)
-    (λ P f g r. elim r [ satellite-is a ↦ f a | satellite_refused w ↦ g w ]) refusal_once
+    (λ P f g r. elim r as (λ k. P k) [ satellite-is a ↦ f a | satellite_refused w ↦ g w ]) refusal_once
 
 pub cable_once : (p q : Cable) → cable.told p ≡ cable.told q → p ≡ q
 cable_once =
     answer_once cable.told cable-is cable_refused numbered (λ a. refl) (λ w. refl)
-    (λ P f g r. elim r [ cable-is a ↦ f a | cable_refused w ↦ g w ]) refusal_once
+    (λ P f g r. elim r as (λ k. P k) [ cable-is a ↦ f a | cable_refused w ↦ g w ]) refusal_once
 
 pub terrestrial_once : (p q : Terrestrial) → terrestrial.told p ≡ terrestrial.told q → p ≡ q
 terrestrial_once =
     answer_once terrestrial.told terrestrial-is terrestrial_refused numbered (λ a. refl) (λ w. refl)
-    (λ P f g r. elim r [ terrestrial-is a ↦ f a | terrestrial_refused w ↦ g w ]) refusal_once
+    (λ P f g r. elim r as (λ k. P k) [ terrestrial-is a ↦ f a | terrestrial_refused w ↦ g w ]) refusal_once

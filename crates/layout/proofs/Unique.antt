@@ -64,17 +64,17 @@ body_once s (body_refused v) (body_refused w) e = ap body_refused (refusal_once 
 pub count_once : (p q : Count) → told_count p ≡ told_count q → p ≡ q
 count_once =
     answer_once told_count Items count-refused numbered (λ a. refl) (λ w. refl)
-    (λ P f g r. elim r [ Items a ↦ f a | count-refused w ↦ g w ]) refusal_once
+    (λ P f g r. elim r as (λ k. P k) [ Items a ↦ f a | count-refused w ↦ g w ]) refusal_once
 
 pub place_once : (p q : ItemPlace) → told_place p ≡ told_place q → p ≡ q
 place_once =
     answer_once told_place At place-refused numbered (λ a. refl) (λ w. refl)
-    (λ P f g r. elim r [ At a ↦ f a | place-refused w ↦ g w ]) refusal_once
+    (λ P f g r. elim r as (λ k. P k) [ At a ↦ f a | place-refused w ↦ g w ]) refusal_once
 
 pub number_once : (p q : Number) → field.told p ≡ field.told q → p ≡ q
 number_once =
     answer_once field.told Is number_refused fault.numbered (λ a. refl) (λ w. refl)
-    (λ P f g r. elim r [ Is a ↦ f a | number_refused w ↦ g w ]) fault_once
+    (λ P f g r. elim r as (λ k. P k) [ Is a ↦ f a | number_refused w ↦ g w ]) fault_once
 
 pub texts_once : (p q : Texts) → texts.told p ≡ texts.told q → p ≡ q
 texts_once (Are a) (Are b) e = ap Are (value_is e)

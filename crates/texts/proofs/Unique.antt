@@ -17,14 +17,14 @@ use Rattle.texts.specs.declared.short_event.Answer.TheVariants.{Is as short-even
 pub whole_once : (p q : Whole) → whole.told p ≡ whole.told q → p ≡ q
 whole_once =
     answer_once whole.told whole_is whole-refused numbered (λ a. refl) (λ w. refl)
-    (λ P f g r. elim r [ whole_is a ↦ f a | whole-refused w ↦ g w ]) refusal_once
+    (λ P f g r. elim r as (λ k. P k) [ whole_is a ↦ f a | whole-refused w ↦ g w ]) refusal_once
 
 pub service_once : (p q : Service) → service.told p ≡ service.told q → p ≡ q
 service_once =
     answer_once service.told service-is service-refused numbered (λ a. refl) (λ w. refl)
-    (λ P f g r. elim r [ service-is a ↦ f a | service-refused w ↦ g w ]) refusal_once
+    (λ P f g r. elim r as (λ k. P k) [ service-is a ↦ f a | service-refused w ↦ g w ]) refusal_once
 
 pub short_event_once : (p q : ShortEvent) → short-event.told p ≡ short-event.told q → p ≡ q
 short_event_once =
     answer_once short-event.told short-event-is short-event-refused numbered (λ a. refl) (λ w. refl)
-    (λ P f g r. elim r [ short-event-is a ↦ f a | short-event-refused w ↦ g w ]) refusal_once
+    (λ P f g r. elim r as (λ k. P k) [ short-event-is a ↦ f a | short-event-refused w ↦ g w ]) refusal_once

@@ -17,7 +17,7 @@ module _ (at : At-loop-left) where
 
   length-here : IsLength (days_in year at.loop-left.month)
 
-  length-here = is_length year at.loop-left.month at.loop-left.inv.0 at.loop-left.inv.1
+  length-here = is_length year at.loop-left.month at.loop-left.invariant.0 at.loop-left.invariant.1
 
 pub loop-left-init : goal.loop-left-init
 unfolding days_of_months
