@@ -9,10 +9,10 @@ use Rattle.layout.proofs.Exactly.{item_place, item_low}
 use Rattle.lists.specs.LocalTimeOffset.{fields, localTimeOffset}
 use borrow.Author.Rules.{rules}
 use Rattle.lists.proofs.local_time_offset.read.Goals as goal
-use Rattle.lists.proofs.local_time_offset.read.Goals.{In-At-2}
+use Rattle.lists.proofs.local_time_offset.read.Goals.{In-At}
 
 -- the item stands at 13 times its index, and a body has no more than 255 bytes
-module _ (b : In-At-2) where
+module _ (b : In-At) where
   abbrev At : ℕ
 
   At = b.in-At.at
@@ -38,13 +38,13 @@ module _ (b : In-At-2) where
   low = item_low 13 0x58 S Index (b.shared_slice_known-1.given 1).fits At placed
 
 pub overflow_sub-at : goal.overflow_sub-at
-overflow_sub-at c = omega (arith, where-it-stands (goal.at.overflow_sub-at c).In-At-2)
+overflow_sub-at c = omega (arith, where-it-stands (goal.at.overflow_sub-at c).In-At)
 
 pub overflow_cast-at : goal.overflow_cast-at
-overflow_cast-at c = omega (arith, low (goal.at.overflow_cast-at c).In-At-2)
+overflow_cast-at c = omega (arith, low (goal.at.overflow_cast-at c).In-At)
 
 pub fields_of-requires : goal.fields_of-requires
-fields_of-requires c = omega (arith, low (goal.at.fields_of-requires c).In-At-2)
+fields_of-requires c = omega (arith, low (goal.at.fields_of-requires c).In-At)
 
 pub returns-in-Refused : goal.returns-in-Refused
 unfolding localTimeOffset item
@@ -54,6 +54,6 @@ pub returns-in-At : goal.returns-in-At
 unfolding localTimeOffset item
 returns-in-At c =
     let item-at = c.item_at in
-    let at = where-it-stands (goal.at.returns-in-At c).In-At-2 in
+    let at = where-it-stands (goal.at.returns-in-At c).In-At in
     rw (← item-at.ensures, c.in-At.is, ← c.part.ensures)
     (c.fields_of.ensures ∙ ap (λ from. fields from c.part.result.now) (omega arith))
