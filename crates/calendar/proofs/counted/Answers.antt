@@ -12,11 +12,9 @@ use Rattle.calendar.proofs.counted.Goals.{At-loop-left}
 
 module _ (at : At-loop-left) where
   abbrev year : ℕ
-
   year = at.years_off-at.result.year
 
   length-here : IsLength (days_in year at.loop-left.month)
-
   length-here = is_length year at.loop-left.month at.loop-left.invariant.0 at.loop-left.invariant.1
 
 pub loop-left-init : goal.loop-left-init

@@ -12,15 +12,12 @@ use Rattle.layout.proofs.body.any.Goals.{After-byte_at-2}
 -- The tag is right, and the length byte has been read.
 module _ (c : After-byte_at-2) where
   abbrev s : List ℕ
-
   s = c.args.s.now
 
   tag-right : get_or s 0 0 ≡ c.args.tag
-
   tag-right = sym c.byte_at.ensures ∙ c.if-byte_at-tag.false
 
   has-length : 1 < length s
-
   has-length = omega arith
 
 pub returns-then-n-eq0 : goal.returns-then-n-eq0

@@ -12,7 +12,6 @@ use Rattle.layout.proofs.items.item_at.Goals.{Start, Then-index-quotient}
 -- An item of the index is there: it lies inside the body.
 module _ (c : Then-index-quotient) where
   in_body : c.args.k * c.args.index + c.args.k ≤ length (drop 2 c.args.s.now)
-
   in_body =
       rw (← c.size.ensures)
       (inside c.args.k _ c.args.index (rw c.quotient.ensures at c.if-index-quotient.true))

@@ -14,27 +14,21 @@ use Rattle.lists.proofs.local_time_offset.read.Goals.{In-At}
 -- the item stands at 13 times its index, and a body has no more than 255 bytes
 module _ (b : In-At) where
   abbrev At : ℕ
-
   At = b.in-At.at
 
   abbrev S : List ℕ
-
   S = b.args.s.now
 
   abbrev Index : ℕ
-
   Index = b.args.index
 
   placed : place S 0x58 13 Index ≡ value At
-
   placed = sym b.item_at.ensures ∙ ap told_place b.in-At.is
 
   where-it-stands : At ≡ 2 + 13 * Index
-
   where-it-stands = item_place 13 0x58 S Index At placed
 
   low : At + 13 < 258
-
   low = item_low 13 0x58 S Index (b.shared_slice_known-1.given 1).fits At placed
 
 pub overflow_sub-at : goal.overflow_sub-at
