@@ -1,8 +1,9 @@
 -- `write_delivery::satellite::write` meets its contract.
+use mathlib.Core.Path.{sym, ◌∙◌}
 use native.Mathlib.Omega.{arith}
 use borrow.Author.Rules.{rules}
 use Rattle.writing.proofs.Answers.{room_short, field-outside}
-use Rattle.writing.proofs.Below.{tested}
+use Rattle.writing.proofs.Below.{below_is}
 use Rattle.write_delivery.proofs.SatelliteBody.{satellite_refused, satellite_wrote}
 use Rattle.write_delivery.proofs.satellite.write.Goals as goal
 
@@ -13,11 +14,11 @@ pub returns-then-not-is_inside : goal.returns-then-not-is_inside
 returns-then-not-is_inside c = field-outside _ _ (omega arith) (search (satellite_refused, rules))
 
 pub rate_bits-last-requires : goal.rate_bits-last-requires
-rate_bits-last-requires c = let i = tested _ _ c.is_inside.ensures c.if-not-is_inside.false in omega arith
+rate_bits-last-requires c = let i = below_is _ _ (sym c.is_inside.ensures ∙ c.if-not-is_inside.false) in omega arith
 
 pub middle-middle-requires : goal.middle-middle-requires
 middle-middle-requires c =
-    let i = tested _ _ c.is_inside.ensures c.if-not-is_inside.false in omega arith
+    let i = below_is _ _ (sym c.is_inside.ensures ∙ c.if-not-is_inside.false) in omega arith
 
 pub returns : goal.returns
 returns c = search (satellite_wrote, rules)

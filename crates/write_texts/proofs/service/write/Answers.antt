@@ -9,4 +9,4 @@ unfolding service_written
 returns c =
     let a = c.args in
     writes_inside 0x48 1 _ a.provider.now a.name.now a.room.now c.write.result _
-    c.write.ensures c.ranges.service-type.fits
+    c.write.ensures c.ranges.service_type.fits
