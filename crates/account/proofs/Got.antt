@@ -1,12 +1,16 @@
 -- What a read's answer means.
-use Rattle.std.proofs.Common.{◌≡◌, ℕ, zero, suc, Bool, true, false, eqb, ℤ, pos, negsuc, sym, refl, ap, ◌∙◌, subst, arith, to_z-of_z, w32, w64, SFits, to_z, of_z, lt-ltb, eq-eqb, ne_eqb}
+use Rattle.std.proofs.Common.{◌≡◌, ℕ, zero, suc, min, Bool, true, false, eqb, ℤ, pos, negsuc, sym, refl, ap, ◌∙◌, subst, arith, to_z-of_z, w32, w64, SFits, to_z, of_z, lt-ltb, eq-eqb, ne_eqb}
 use lib.Signed.{lt_z}
-use Rattle.io.specs.Counts.{clamp_len}
 use Rattle.wire.specs.If.{if◌then◌else◌}
 use Rattle.wire.proofs.IfLaws.{true_not_false}
 use Rattle.account.specs.Heard.{got_as, failed_as, GotIn}
 use Rattle.account.specs.declared.reading.Got.{Got}
 use Rattle.account.specs.declared.reading.Got.TheVariants.{Bytes, Again, End, Failed}
+
+-- of what `read` answered, how many bytes came
+abbrev pub clamp_len : ℤ → ℕ → ℕ
+clamp_len (pos n) size = min n size
+clamp_len (negsuc n) size = 0
 
 failed_in : (size : ℕ) (error : ℤ) → GotIn size (failed_as error)
 failed_in size (pos n) = by (eqb n 4)

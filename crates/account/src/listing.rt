@@ -1,12 +1,11 @@
 // What the program prints, from fixed byte strings.
 use crate::tally::Account;
-use libc::STDOUT_FILENO;
+use std::io;
 
 // A name and a number, and the line's end.
-fn line(name: &[u8], n: u64) {
-    io::write_all(STDOUT_FILENO, name);
-    io::print_decimal(STDOUT_FILENO, n);
-    io::write_all(STDOUT_FILENO, b"\n");
+fn line(rt: &impl Print, name: &[u8], n: u64) -> io::Result<()> {
+    rt.write_all(name)?;
+    println!(rt; "{n}")
 }
 
 // An upper-case hexadecimal digit.
@@ -16,8 +15,8 @@ fn digit(n: u16) -> u8 {
 }
 
 // "the PID, four upper-case hexadecimal digits"
-fn pid_line(pid: u16) {
-    io::write_all(STDOUT_FILENO, b"PID ");
+fn pid_line(rt: &impl Print, pid: u16) -> io::Result<()> {
+    rt.write_all(b"PID ")?;
     let digits = [
         digit(pid / 4096),
         digit(pid / 256),
@@ -25,36 +24,36 @@ fn pid_line(pid: u16) {
         digit(pid),
         b'\n',
     ];
-    io::write_all(STDOUT_FILENO, &digits);
+    rt.write_all(&digits)
 }
 
 // How the packets fared.
-fn packet_lines(a: Account) {
-    line(b"taken ", a.taken);
-    line(b"repeated ", a.repeated);
-    line(b"refused ", a.refused);
+fn packet_lines(rt: &impl Print, a: Account) -> io::Result<()> {
+    line(rt, b"taken ", a.taken)?;
+    line(rt, b"repeated ", a.repeated)?;
+    line(rt, b"refused ", a.refused)
 }
 
 // What became of the payload bytes of the packets taken.
-fn byte_lines(a: Account) {
+fn byte_lines(rt: &impl Print, a: Account) -> io::Result<()> {
     let rec = a.rec;
-    line(b"pointer ", rec.pointer as u64);
-    line(b"accepted ", rec.accepted as u64);
-    line(b"rejected ", rec.rejected as u64);
-    line(b"broken ", rec.broken as u64);
-    line(b"filler ", rec.filler as u64);
-    line(b"skipped ", rec.skipped as u64);
-    line(b"in hand ", rec.in_hand as u64);
+    line(rt, b"pointer ", rec.pointer as u64)?;
+    line(rt, b"accepted ", rec.accepted as u64)?;
+    line(rt, b"rejected ", rec.rejected as u64)?;
+    line(rt, b"broken ", rec.broken as u64)?;
+    line(rt, b"filler ", rec.filler as u64)?;
+    line(rt, b"skipped ", rec.skipped as u64)?;
+    line(rt, b"in hand ", rec.in_hand as u64)
 }
 
-pub fn print(a: Account) {
+pub fn print(rt: &impl Print, a: Account) -> io::Result<()> {
     let rec = a.rec;
-    pid_line(rec.pid);
-    packet_lines(a);
-    byte_lines(a);
-    line(b"sections ", a.sections);
+    pid_line(rt, rec.pid)?;
+    packet_lines(rt, a)?;
+    byte_lines(rt, a)?;
+    line(rt, b"sections ", a.sections)
 }
 
-pub fn no_packets() {
-    io::write_all(STDOUT_FILENO, b"no packets\n");
+pub fn no_packets(rt: &impl Print) -> io::Result<()> {
+    rt.write_all(b"no packets\n")
 }

@@ -8,16 +8,24 @@ mod reading;
 mod tally;
 
 use progress::Ended;
+use std::io;
+use std::process::ExitCode;
 
-fn main() {
-    let mut buf = io::large_buffer();
+fn main(rt: HostRuntime) -> io::Result<ExitCode> {
+    let mut source = reading::standard_input(rt.stdin());
+    let mut buf = [0u8; 65536];
     let mut hold = [0u8; 4096];
     let mut out = [0u8; 4280];
-    let p = input::account_of(&mut buf, &mut hold, &mut out);
-    let ended = progress::ending_of(p);
-    match ended {
-        Ended::Failed => os::fail(b"standard input"),
-        Ended::NoPackets => listing::no_packets(),
-        Ended::Account(a) => listing::print(a),
+    let p = input::account_of(&mut source, &mut buf, &mut hold, &mut out);
+    match progress::ending_of(p) {
+        Ended::Failed => {
+            if let Some(e) = reading::failure_of(source) {
+                eprintln!(rt; "standard input: {e}")?;
+            }
+            return Ok(ExitCode::FAILURE);
+        }
+        Ended::NoPackets => listing::no_packets(&rt)?,
+        Ended::Account(a) => listing::print(&rt, a)?,
     }
+    Ok(ExitCode::SUCCESS)
 }

@@ -6,7 +6,6 @@ use Rattle.account.specs.Heard.{State, state_as, progress_as, account_for, to_fr
 use Rattle.account.specs.declared.tally.Account.{Account}
 use Rattle.account.specs.declared.progress.Stage.TheVariants.{Reading}
 use Rattle.account.proofs.progress.absorb.Goals as goal
-use Rattle.account.proofs.progress.absorb.Goals.{Start}
 
 module _ (n : ℕ) (s : State) where
   abbrev all : Kept
@@ -29,8 +28,7 @@ returns-then-n-lt188 c =
 
 pub returns : goal.returns
 returns c =
-    let after-slice-known = (goal.at.returns c).Start in
-    let a = after-slice-known.before.args in
+    let a = c.args in
     packets a.n (state_as a.p a.buf.now a.hold.now a.out.now) c.if-n-lt188.false c.enter_all-account.result _ _
     _ c.to_front.ensures
     (c.enter_all-account.ensures

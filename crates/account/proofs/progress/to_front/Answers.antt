@@ -1,13 +1,8 @@
 -- `account::progress::to_front` meets its contract: the bytes moved so far are right, and those behind them stand where they stood.
 use Rattle.std.proofs.Common.{◌≡◌, ℕ, ◌+◌, ◌-◌, ◌<◌, ◌≤◌, List, [], ◌∷◌, ◌++◌, length, get_or, take, drop, set, sym, refl, ap, ◌∙◌, add-one, arith, length-drop, length-set, take-append-drop, get_or-drop, take-suc, drop-drop, take-suc-set, drop-set-lt}
 use Rattle.account.specs.Heard.{to_front}
+use Rattle.account.proofs.progress.to_front.Invariants.{Front}
 use Rattle.account.proofs.progress.to_front.Goals as goal
-
-record Front (buf₀ : List ℕ) (from n : ℕ) (buf : List ℕ) (i : ℕ) : Type 0 where
-  few : i ≤ n
-  long : length buf ≡ length buf₀
-  moved : take i buf ≡ take i (drop from buf₀)
-  stand : drop i buf ≡ drop i buf₀
 
 more : (buf₀ : List ℕ) (from n : ℕ) (buf : List ℕ) (i : ℕ) → Front buf₀ from n buf i → from + n ≤ length buf₀ → n ≤ from
     → i < n → Front buf₀ from n (set buf i (get_or buf (from + i) 0)) (i + 1)
@@ -57,9 +52,6 @@ pub loop-i-preserved : goal.loop-i-preserved
 loop-i-preserved c =
     let l = c.loop-i in
     more c.args.buf.now c.args.from c.args.n l.buf l.i l.invariant c.requires.0 c.requires.1 (omega arith)
-
-pub shape_of-buf : goal.shape_of-buf
-shape_of-buf c = c.loop-i.invariant.long
 
 pub returns : goal.returns
 returns c =

@@ -15,5 +15,5 @@ returns c =
             length-take n (drop a.left a.buf.now),
             length-drop a.left a.buf.now,
           );
-      kept = take_put a.left n a.buf.now c.read_into.new.0 (omega arith);
+      kept = take_put a.left n a.buf.now c.read_into.new.room (omega arith);
     }

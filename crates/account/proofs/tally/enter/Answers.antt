@@ -7,5 +7,5 @@ pub returns : goal.returns
 returns c =
     let args = c.args in
     let a = args.a in
-    (λ i. kept_as (c.one_more.ensures i) c.step-s.new.1.0 c.step-s.new.1.1.0)
+    (λ i. kept_as (c.one_more.ensures i) c.step-s.new.hold c.step-s.new.out)
     ∙ ap (entered_as a) c.step-s.ensures

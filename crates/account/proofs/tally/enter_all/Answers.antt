@@ -2,26 +2,18 @@
 use Rattle.std.proofs.Common.{◌≡◌, ℕ, suc, ◌+◌, ◌-◌, ◌/◌, ◌≤◌, List, length, take, drop, sym, refl, ap, ◌∙◌, arith, drop-drop, rules}
 use Rattle.account.specs.Entered.{Kept, kept_as, entered, entered_all, pieces}
 use Rattle.account.specs.declared.tally.Account.{Account}
+use Rattle.account.proofs.tally.enter_all.Invariants.{Going}
 use Rattle.account.proofs.tally.enter_all.Goals as goal
 
-record Going (k₀ : Kept) (bytes : List ℕ) (n : ℕ) (hold₀ out₀ hold out : List ℕ) (b : Account) (i : ℕ) : Type 0 where
-  few : i ≤ n
-  hold_long : length hold ≡ length hold₀
-  out-long : length out ≡ length out₀
-  same : entered_all k₀ (pieces (n / 188) bytes) ≡ entered_all (kept_as b hold out) (pieces ((n - i) / 188) (drop i bytes))
-
 -- one packet more
-more : (k₀ : Kept) (bytes : List ℕ) (n : ℕ) (hold₀ out₀ hold out : List ℕ) (b : Account) (i : ℕ)
-    → Going k₀ bytes n hold₀ out₀ hold out b i → i + 188 ≤ n → (b' : Account) (hold' out' : List ℕ)
-    → length hold' ≡ length hold → length out' ≡ length out
+more : (k₀ : Kept) (bytes : List ℕ) (n : ℕ) (hold out : List ℕ) (b : Account) (i : ℕ) → Going k₀ bytes n hold out b i
+    → i + 188 ≤ n → (b' : Account) (hold' out' : List ℕ)
     → kept_as b' hold' out' ≡ entered (kept_as b hold out) (take 188 (drop i bytes))
-    → Going k₀ bytes n hold₀ out₀ hold' out' b' (i + 188)
-more k₀ bytes n hold₀ out₀ hold out b i x k b' hold' out' l₁ l₂ e =
+    → Going k₀ bytes n hold' out' b' (i + 188)
+more k₀ bytes n hold out b i x k b' hold' out' e =
     let one : (n - i) / 188 ≡ suc ((n - (i + 188)) / 188) = omega arith in
     record {
       few = k;
-      hold_long = l₁ ∙ x.hold_long;
-      out-long = l₂ ∙ x.out-long;
       same =
           x.same
           ∙ ap (λ (m : ℕ). entered_all (kept_as b hold out) (pieces m (drop i bytes))) one
@@ -36,10 +28,7 @@ loop-i-init c =
     let all : a.n ≡ a.n - 0 = omega arith in
     record {
       few = omega arith;
-      hold_long = refl;
-      out-long = refl;
-      same = ap
-          (λ (m : ℕ). entered_all (kept_as a.a a.hold.now a.out.now) (pieces (m / 188) a.bytes.now)) all;
+      same = ap (λ (m : ℕ). entered_all (kept_as a.a a.hold.now a.out.now) (pieces (m / 188) a.bytes.now)) all;
     }
 
 pub overflow_add-i : goal.overflow_add-i
@@ -47,23 +36,11 @@ overflow_add-i c = omega (arith, c.loop-i.invariant.few)
 
 pub loop-i-preserved : goal.loop-i-preserved
 loop-i-preserved c =
-    let one : c.loop-i.i + 188 - c.loop-i.i ≡ 188 = omega arith in
-    more (kept_as c.args.a c.args.hold.now c.args.out.now) c.args.bytes.now c.args.n
-    c.args.hold.now c.args.out.now c.loop-i.hold
-    c.loop-i.out c.loop-i.b c.loop-i.i c.loop-i.invariant (omega arith) c.enter-b.result _ _
-    c.enter-b.auto.1.0
-    c.enter-b.auto.1.1.0
-    (c.enter-b.ensures
-    ∙ ap
-    (λ (m : ℕ). entered (kept_as c.loop-i.b c.loop-i.hold c.loop-i.out)
-    (take m (drop c.loop-i.i c.args.bytes.now)))
-    one)
-
-pub shape_of-hold : goal.shape_of-hold
-shape_of-hold c = c.loop-i.invariant.hold_long
-
-pub shape_of-out : goal.shape_of-out
-shape_of-out c = c.loop-i.invariant.out-long
+    let l = c.loop-i in
+    let one : l.i + 188 - l.i ≡ 188 = omega arith in
+    more (kept_as c.args.a c.args.hold.now c.args.out.now) c.args.bytes.now c.args.n l.hold l.out l.b l.i l.invariant
+    (omega arith) c.enter-b.result _ _
+    (c.enter-b.ensures ∙ ap (λ (m : ℕ). entered (kept_as l.b l.hold l.out) (take m (drop l.i c.args.bytes.now))) one)
 
 pub returns : goal.returns
 returns c =

@@ -18,7 +18,7 @@ returns-in-Refused c =
       rec = c.args.rec;
       taken = a.taken;
       repeated = a.repeated;
-      refused = c.wrapping_add_u64.ensures i;
+      refused = c.wrapping_add_u64.ensures.value i;
       sections = a.sections;
     })
     ∙ sym (ap (after (goal.at.returns-in-Refused c).Start) c.in-Refused.is)
@@ -30,7 +30,7 @@ returns-in-Repeated c =
     record {
       rec = c.args.rec;
       taken = a.taken;
-      repeated = c.wrapping_add_u64-in-Repeated.ensures i;
+      repeated = c.wrapping_add_u64-in-Repeated.ensures.value i;
       refused = a.refused;
       sections = a.sections;
     })
@@ -42,9 +42,9 @@ returns-in-Taken c =
     (λ i.
     record {
       rec = c.args.rec;
-      taken = c.wrapping_add_u64-in-Taken.ensures i;
+      taken = c.wrapping_add_u64-in-Taken.ensures.value i;
       repeated = a.repeated;
       refused = a.refused;
-      sections = c.wrapping_add_u64-in-Taken-2.ensures i;
+      sections = c.wrapping_add_u64-in-Taken-2.ensures.value i;
     })
     ∙ sym (ap (after (goal.at.returns-in-Taken c).Start) c.in-Taken.is)
