@@ -6,7 +6,6 @@ use native.Mathlib.Omega.{arith}
 use lib.ListN.{length, drop}
 use lib.Seq.{paste}
 use Rattle.copy.specs.Copy.{copies, copied}
-use borrow.Author.Rules.{rules}
 use Rattle.copy.proofs.Copies.{none, full, fits, made}
 use Rattle.copy.proofs.copy_by.Goals as goal
 use Rattle.copy.proofs.copy_by.Goals.{Else-lacks-2}

@@ -1,4 +1,3 @@
-use borrow.Author.Rules.{rules}
 use Rattle.copy.proofs.Blocks.{through}
 use Rattle.copy.proofs.eight.Goals as goal
 

@@ -1,12 +1,8 @@
 -- The invariant: the first i bytes are copied, in whole blocks.
-use mathlib.Core.Path.{◌≡◌, refl, sym, ap, ◌∙◌}
-use Prim.Native.Nat.{◌+◌, ◌-◌, ◌≤◌}
-use native.Mathlib.Omega.{arith}
-use borrow.Author.Rules.{rules}
-use lib.ListN.{length, drop, length-drop}
-use lib.Seq.{paste, paste-zero}
-use Rattle.copy.specs.Copy.{block}
-use Rattle.copy.proofs.Blocks.{more, block_large}
+use mathlib.Core.Path.{◌≡◌}
+use Prim.Native.Nat.{◌-◌, ◌≤◌}
+use lib.ListN.{length, drop}
+use lib.Seq.{paste}
 use Rattle.copy.proofs.in_blocks.Given as goal
 
 abbrev pub invariant-loop-i : goal.invariant-loop-i

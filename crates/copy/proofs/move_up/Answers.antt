@@ -3,7 +3,6 @@ use mathlib.Core.List.{List}
 use Prim.Native.Nat.{ℕ, ◌+◌, ◌≤◌}
 use native.Mathlib.Omega.{arith}
 use lib.ListN.{length}
-use borrow.Author.Rules.{rules}
 use Rattle.copy.proofs.Copies.{lacking, had}
 use Rattle.copy.proofs.Moved.{up_lower, up_lacking, up_made}
 use Rattle.copy.proofs.move_up.Goals as goal

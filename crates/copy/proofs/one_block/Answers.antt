@@ -3,7 +3,6 @@ use native.Mathlib.Omega.{arith}
 use lib.ListN.{drop}
 use lib.Seq.{paste}
 use Rattle.copy.specs.Copy.{block}
-use borrow.Author.Rules.{rules}
 use Rattle.copy.proofs.one_block.Goals as goal
 
 pub thirty_two-requires : goal.thirty_two-requires

@@ -1,5 +1,4 @@
 -- Up to 8 bytes go in from ones; more are a window's.
-use native.Mathlib.Omega.{arith}
 use Rattle.crc.specs.Crc.{crc}
 use Rattle.crc.proofs.crc32.Goals as goal
 

@@ -1,6 +1,5 @@
 -- `packet::judge` meets its contract: the first row, and then those of the header, since no other has said anything of 42 and 43.
 use mathlib.Core.Path.{sym, ◌∙◌}
-use borrow.Author.Rules.{rules}
 use borrow.Author.Tests.{eq-eqb, ne_eqb}
 use Rattle.packet.specs.Refusals.{judged}
 use Rattle.packet.proofs.judge.Goals as goal

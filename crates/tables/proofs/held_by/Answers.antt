@@ -1,6 +1,5 @@
 -- `tables::held_by` meets its contract: the first range holds the id, or it is for the second to say.
 use mathlib.Core.Path.{sym, ◌∙◌}
-use borrow.Author.Rules.{rules}
 use Rattle.tables.specs.Tables.{holds}
 use Rattle.tables.proofs.held_by.Goals as goal
 

@@ -1,10 +1,9 @@
 -- `tables::row_at` meets its contract: the table of the code is that of the definition, and past it there are zeros.
-use mathlib.Core.Path.{◌≡◌, ◌∙◌, sym, ap}
-use Prim.Native.Nat.{ℕ, ◌+◌, ◌≤◌}
+use mathlib.Core.Path.{◌∙◌, sym, ap}
+use Prim.Native.Nat.{◌≤◌}
 use mathlib.Core.List.{[]}
 use lib.ListN.{get_or-eq_default}
 use native.Mathlib.Omega.{arith}
-use borrow.Author.Rules.{rules}
 use Rattle.tables.specs.Tables.{cell, row_at, rows}
 use Rattle.tables.proofs.row_at.Goals as goal
 

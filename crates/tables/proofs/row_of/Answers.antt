@@ -1,11 +1,8 @@
 -- `tables::row_of` meets its contract: the first row among those left is the first of all.
-use Prim.Native.Nat.{◌≤◌, ◌-◌}
-use mathlib.Core.Path.{◌≡◌, refl, ◌∙◌, sym}
-use mathlib.Core.List.{[]}
+use Prim.Native.Nat.{◌-◌}
+use mathlib.Core.Path.{refl, ◌∙◌, sym}
 use native.Mathlib.Omega.{arith}
-use lib.ListN.{get_or}
-use borrow.Author.Rules.{rules}
-use Rattle.tables.specs.Tables.{first, row_of, holds, rows as table}
+use Rattle.tables.specs.Tables.{row_of}
 use Rattle.tables.proofs.FirstOf.{first_here, first_on, first_none}
 use Rattle.tables.proofs.row_of.Goals as goal
 

@@ -4,7 +4,6 @@ use native.Mathlib.Omega.{arith}
 use mathlib.Core.List.{List}
 use Rattle.wire.specs.Bytes.{Below, len12_at}
 use lib.ListN.{length, get_or-eq_default}
-use borrow.Author.Rules.{rules}
 use Rattle.wire.proofs.length12_at.Goals as goal
 
 past : (s : List ℕ) (i : ℕ) → length s ≤ i → Below 4096 (len12_at s i) 0

@@ -1,11 +1,11 @@
 -- The invariant: the first i bytes are moved, in whole blocks.
-use mathlib.Core.Path.{◌≡◌, refl, ◌∙◌}
+use mathlib.Core.Path.{refl, ◌∙◌}
 use mathlib.Core.List.{List}
-use Prim.Native.Nat.{ℕ, ◌-◌, ◌≤◌}
+use Prim.Native.Nat.{ℕ, ◌-◌}
 use native.Mathlib.Omega.{arith}
 use borrow.Author.Rules.{rules}
-use lib.ListN.{length, drop}
-use lib.Seq.{paste, paste-zero}
+use lib.ListN.{drop}
+use lib.Seq.{paste-zero}
 use Rattle.copy.proofs.Moves.{down_on, down_ends}
 use Rattle.copy.proofs.within.down.Goals as goal
 use Rattle.copy.proofs.within.down.Goals.{After-singly, At-loop-i, Start}

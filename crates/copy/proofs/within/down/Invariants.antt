@@ -1,12 +1,8 @@
 -- The invariant: the first i bytes are moved, in whole blocks.
-use mathlib.Core.Path.{◌≡◌, refl, ◌∙◌}
-use mathlib.Core.List.{List}
-use Prim.Native.Nat.{ℕ, ◌-◌, ◌≤◌}
-use native.Mathlib.Omega.{arith}
-use borrow.Author.Rules.{rules}
+use mathlib.Core.Path.{◌≡◌}
+use Prim.Native.Nat.{◌-◌, ◌≤◌}
 use lib.ListN.{length, drop}
-use lib.Seq.{paste, paste-zero}
-use Rattle.copy.proofs.Moves.{down_on, down_ends}
+use lib.Seq.{paste}
 use Rattle.copy.proofs.within.down.Given as goal
 
 abbrev pub invariant-loop-i : goal.invariant-loop-i

@@ -1,6 +1,5 @@
 -- Through a room of 32 bytes.
 use mathlib.Core.Path.{◌∙◌}
-use borrow.Author.Rules.{rules}
 use Rattle.copy.proofs.Moves.{through_held}
 use Rattle.copy.proofs.within.few.Goals as goal
 use Rattle.copy.proofs.within.few.Goals.{Start}

@@ -1,11 +1,9 @@
 -- The invariant: the bytes from i on are moved, in whole blocks.
-use mathlib.Core.Path.{◌≡◌, refl, ◌∙◌}
+use mathlib.Core.Path.{refl, ◌∙◌}
 use mathlib.Core.List.{List}
-use Prim.Native.Nat.{ℕ, ◌+◌, ◌-◌, ◌≤◌}
+use Prim.Native.Nat.{ℕ, ◌-◌}
 use native.Mathlib.Omega.{arith}
 use borrow.Author.Rules.{rules}
-use lib.ListN.{length, drop}
-use lib.Seq.{paste}
 use Rattle.copy.proofs.Moves.{none_moved, up_on, up_ends}
 use Rattle.copy.proofs.within.up.Goals as goal
 use Rattle.copy.proofs.within.up.Goals.{After-singly, At-loop-i, Start}

@@ -1,12 +1,8 @@
 -- The invariant: the bytes from i on are moved, in whole blocks.
-use mathlib.Core.Path.{◌≡◌, refl, ◌∙◌}
-use mathlib.Core.List.{List}
-use Prim.Native.Nat.{ℕ, ◌+◌, ◌-◌, ◌≤◌}
-use native.Mathlib.Omega.{arith}
-use borrow.Author.Rules.{rules}
+use mathlib.Core.Path.{◌≡◌}
+use Prim.Native.Nat.{◌+◌, ◌-◌, ◌≤◌}
 use lib.ListN.{length, drop}
 use lib.Seq.{paste}
-use Rattle.copy.proofs.Moves.{none_moved, up_on, up_ends}
 use Rattle.copy.proofs.within.up.Given as goal
 
 abbrev pub invariant-loop-i : goal.invariant-loop-i

@@ -1,6 +1,5 @@
 -- The two moves are those of the contract.
 use mathlib.Core.Path.{refl}
-use native.Mathlib.Omega.{arith}
 use Rattle.crc.proofs.five.across.Goals as goal
 
 pub returns : goal.returns

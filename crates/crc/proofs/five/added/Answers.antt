@@ -1,5 +1,4 @@
 -- What two words in a row add stands side by side.
-use native.Mathlib.Omega.{arith}
 use Rattle.crc.proofs.Ahead.{in_pairs}
 use Rattle.crc.proofs.five.added.Goals as goal
 

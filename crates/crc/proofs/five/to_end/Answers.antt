@@ -1,9 +1,6 @@
 -- The invariant of both loops: the window, and then the bytes behind it, give the CRC_32 of s.
-use mathlib.Core.List.{[], ◌∷◌}
 use Prim.Native.Nat.{◌-◌}
 use native.Mathlib.Omega.{arith}
-use lib.ListN.{length}
-use Rattle.crc.specs.Inner.Windows.{Ahead}
 use Rattle.crc.proofs.Ahead.{ends_within, ends}
 use Rattle.crc.proofs.five.to_end.Goals as goal
 

@@ -1,13 +1,8 @@
 -- The invariant: what is left from k on, into the register as it is, gives what all bytes give.
-use mathlib.Core.Path.{◌≡◌, refl, sym, ap, ◌∙◌, subst}
-use Prim.Native.Nat.{ℕ, ◌≤◌, ◌<◌, ◌+◌, ◌-◌, ◌*◌, ◌%◌, ◌^◌}
-use native.Mathlib.Omega.{arith}
-use lib.Bits.{bit_xor}
-use lib.ListN.{length, drop, get_or}
+use mathlib.Core.Path.{◌≡◌}
+use Prim.Native.Nat.{◌≤◌, ◌<◌, ◌-◌, ◌^◌}
+use lib.ListN.{length, drop}
 use Rattle.crc.specs.Crc.{feed_bytes}
-use Rattle.crc.proofs.Linear.{bits_lt}
-use Rattle.crc.proofs.Steps.{byte_step}
-use Rattle.crc.proofs.Bytes.{byte_front, none_left}
 use Rattle.crc.proofs.register.feed_bytes.Given as goal
 
 abbrev pub invariant-loop-k : goal.invariant-loop-k

@@ -2,9 +2,6 @@
 use mathlib.Core.Path.{refl, ◌∙◌}
 use mathlib.Core.List.{[], ◌∷◌}
 use Prim.Native.Nat.{◌+◌, ◌-◌}
-use native.Mathlib.Omega.{arith}
-use lib.ListN.{length}
-use Rattle.crc.specs.Inner.Windows.{Ahead}
 use Rattle.crc.proofs.Ahead.{ends_within, instead, comes, ends}
 use Rattle.crc.proofs.two.crc_by_two.Goals as goal
 

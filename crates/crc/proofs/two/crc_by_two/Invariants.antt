@@ -1,11 +1,8 @@
 -- The invariant: the two words, and then the bytes behind them, give the CRC_32 of s.
-use mathlib.Core.Path.{refl, ◌∙◌}
 use mathlib.Core.List.{[], ◌∷◌}
-use Prim.Native.Nat.{◌+◌, ◌-◌}
-use native.Mathlib.Omega.{arith}
+use Prim.Native.Nat.{◌-◌}
 use lib.ListN.{length}
 use Rattle.crc.specs.Inner.Windows.{Ahead}
-use Rattle.crc.proofs.Ahead.{ends_within, instead, comes, ends}
 use Rattle.crc.proofs.two.crc_by_two.Given as goal
 
 abbrev pub invariant-loop-at : goal.invariant-loop-at

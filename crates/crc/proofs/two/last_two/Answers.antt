@@ -1,6 +1,5 @@
 -- The products and the one division are the law of the last two words.
 use native.Mathlib.Nat.{mod-lt}
-use native.Mathlib.Omega.{arith}
 use lib.Pow.{pow_pos, shr_lt}
 use lib.Bits.{xor_lt}
 use Rattle.crc.proofs.Ending.{last_two}

@@ -1,7 +1,6 @@
 -- Two numbers of four bytes each.
 use mathlib.Core.Path.{ap₂}
 use Prim.Native.Nat.{ℕ, ◌+◌, ◌*◌, ◌^◌}
-use native.Mathlib.Omega.{arith}
 use Rattle.crc.proofs.words.long.Goals as goal
 
 pub returns : goal.returns

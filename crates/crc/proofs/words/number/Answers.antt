@@ -1,6 +1,5 @@
 -- Four digits of eight bits have room in 32.
 use mathlib.Core.Path.{refl}
-use native.Mathlib.Omega.{arith}
 use Rattle.crc.proofs.words.number.Goals as goal
 
 pub returns : goal.returns

@@ -1,5 +1,4 @@
 -- The four bytes are there.
-use native.Mathlib.Omega.{arith}
 use Rattle.crc.proofs.words.word.Goals as goal
 
 pub number-requires : goal.number-requires

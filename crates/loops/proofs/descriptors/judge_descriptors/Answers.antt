@@ -4,13 +4,12 @@ use mathlib.Core.Path.{◌≡◌, refl, sym, ap, ◌∙◌}
 use mathlib.Core.List.{List}
 use native.Mathlib.Omega.{arith}
 use lib.ListN.{length, drop}
-use borrow.Author.Rules.{rules}
 use Rattle.wire.specs.Trail.{answer}
 use Rattle.loops.specs.Descriptors.{descriptors, told_step}
 use Rattle.loops.specs.declared.walk.Step.{Step}
 use Rattle.loops.proofs.Loops.{at-end, by_step, by_told, told_on}
 use Rattle.loops.proofs.descriptors.judge_descriptors.Goals as goal
-use Rattle.loops.proofs.descriptors.judge_descriptors.Goals.{After-step_at-step, In-Descriptor, Start}
+use Rattle.loops.proofs.descriptors.judge_descriptors.Goals.{After-step_at-step, In-Descriptor}
 
 -- The walk has given a step from p.
 module _ (c : After-step_at-step) where

@@ -1,14 +1,8 @@
 -- `loops::descriptors::judge_descriptors` meets its contract: reading on from p says what reading from the start says.
-use Prim.Native.Nat.{ℕ, ◌+◌, ◌-◌, ◌<◌, ◌≤◌}
-use mathlib.Core.Path.{◌≡◌, refl, sym, ap, ◌∙◌}
-use mathlib.Core.List.{List}
-use native.Mathlib.Omega.{arith}
+use Prim.Native.Nat.{◌-◌}
+use mathlib.Core.Path.{◌≡◌}
 use lib.ListN.{length, drop}
-use borrow.Author.Rules.{rules}
-use Rattle.wire.specs.Trail.{answer}
-use Rattle.loops.specs.Descriptors.{descriptors, told_step}
-use Rattle.loops.specs.declared.walk.Step.{Step}
-use Rattle.loops.proofs.Loops.{at-end, by_step, by_told, told_on}
+use Rattle.loops.specs.Descriptors.{descriptors}
 use Rattle.loops.proofs.descriptors.judge_descriptors.Given as goal
 
 abbrev pub invariant-loop-p : goal.invariant-loop-p

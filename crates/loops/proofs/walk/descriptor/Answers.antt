@@ -6,7 +6,6 @@ use native.Mathlib.Omega.{arith}
 use lib.ListN.{length, take, drop, length-drop}
 use lib.Seq.{take_all}
 use Rattle.loops.specs.Descriptors.{told_step, descriptor_of}
-use borrow.Author.Rules.{rules}
 use Rattle.loops.proofs.walk.descriptor.Goals as goal
 
 -- as many bytes as there are, or two more

@@ -2,7 +2,6 @@
 use mathlib.Core.Path.{sym, ◌∙◌}
 use native.Mathlib.Omega.{arith}
 use Rattle.loops.proofs.Loops.{step_end, step_cut, step_whole}
-use borrow.Author.Rules.{rules}
 use Rattle.loops.proofs.walk.step_at.Goals as goal
 
 pub returns-then-at-n : goal.returns-then-at-n

@@ -6,7 +6,6 @@ use native.Mathlib.Omega.{arith}
 use Rattle.loops.specs.Descriptors.{told_step, step_at, place_after}
 use Rattle.loops.specs.declared.walk.Step.{Step}
 use Rattle.loops.proofs.Loops.{told_on}
-use borrow.Author.Rules.{rules}
 use Rattle.loops.proofs.walk.step_from.Goals as goal
 use Rattle.loops.proofs.walk.step_from.Goals.{After-step_at-step}
 

@@ -1,7 +1,6 @@
 -- `packet::header::addressed` meets its contract: the tests are rows 44 to 47 of the table, in their order.
 use mathlib.Core.Path.{sym, ◌∙◌}
 use native.Mathlib.Omega.{arith}
-use borrow.Author.Rules.{rules}
 use Rattle.packet.proofs.Table.{no_sync, in_error, other_pid, scrambled, header_passed}
 use Rattle.packet.proofs.header.addressed.Goals as goal
 

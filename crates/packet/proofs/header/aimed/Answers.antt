@@ -1,7 +1,6 @@
 -- `packet::header::aimed` meets its contract.
 use mathlib.Core.Path.{sym}
 use native.Mathlib.Omega.{arith}
-use borrow.Author.Rules.{rules}
 use borrow.Author.Tests.{eq-eqb, ne_eqb}
 use Rattle.packet.proofs.Table.{pointer_past, pointer_within, no_pointer}
 use Rattle.packet.proofs.header.aimed.Goals as goal

@@ -2,7 +2,6 @@
 use mathlib.Core.Path.{sym, ap, ◌∙◌, subst}
 use Prim.Native.Nat.{ℕ, ◌+◌}
 use native.Mathlib.Omega.{arith}
-use borrow.Author.Rules.{rules}
 use Rattle.packet.specs.Header.{adaptation}
 use Rattle.packet.specs.Refusals.{bare}
 use Rattle.packet.specs.Inner.{PayloadAt}

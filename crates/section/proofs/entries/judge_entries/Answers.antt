@@ -2,13 +2,11 @@
 use Prim.Native.Nat.{ℕ, ◌+◌, ◌-◌, ◌≤◌}
 use mathlib.Core.Path.{◌≡◌, refl, sym, ap, ◌∙◌}
 use native.Mathlib.Omega.{arith}
-use lib.ListN.{length, drop}
+use lib.ListN.{length}
 use lib.Seq.{length-take-le}
-use borrow.Author.Rules.{rules}
 use Rattle.wire.specs.Bytes.{len12_at}
 use Rattle.wire.specs.Trail.{answer}
 use Rattle.verdict.specs.Verdict.{is_accepted}
-use Rattle.section.specs.Entries.{entries}
 use Rattle.section.proofs.EntryLoops.{At, at-end, at_short, at_past, at_fault, at_on}
 use Rattle.section.proofs.entries.judge_entries.Goals as goal
 use Rattle.section.proofs.entries.judge_entries.Goals.{After-length12-size, Else-end-start, In-loop-p}

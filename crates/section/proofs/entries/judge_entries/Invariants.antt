@@ -1,15 +1,8 @@
 -- `section::entries::judge_entries` meets its contract: reading on from p says what reading from the start says.
-use Prim.Native.Nat.{ℕ, ◌+◌, ◌-◌, ◌≤◌}
-use mathlib.Core.Path.{◌≡◌, refl, sym, ap, ◌∙◌}
-use native.Mathlib.Omega.{arith}
+use Prim.Native.Nat.{◌-◌}
+use mathlib.Core.Path.{◌≡◌}
 use lib.ListN.{length, drop}
-use lib.Seq.{length-take-le}
-use borrow.Author.Rules.{rules}
-use Rattle.wire.specs.Bytes.{len12_at}
-use Rattle.wire.specs.Trail.{answer}
-use Rattle.verdict.specs.Verdict.{is_accepted}
 use Rattle.section.specs.Entries.{entries}
-use Rattle.section.proofs.EntryLoops.{At, at-end, at_short, at_past, at_fault, at_on}
 use Rattle.section.proofs.entries.judge_entries.Given as goal
 
 abbrev pub invariant-loop-p : goal.invariant-loop-p

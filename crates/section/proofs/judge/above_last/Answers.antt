@@ -3,7 +3,6 @@ use lib.Dec.{ltb}
 use mathlib.Core.Path.{ap₂}
 use borrow.Author.Tests.{eq-eqb, ne_eqb}
 use Rattle.section.specs.Reading.{above_last}
-use borrow.Author.Rules.{rules}
 use Rattle.section.proofs.judge.above_last.Goals as goal
 
 pub returns-then-row-eq1 : goal.returns-then-row-eq1

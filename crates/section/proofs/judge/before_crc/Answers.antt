@@ -4,7 +4,6 @@ use lib.ListN.{take}
 use lib.Seq.{length-take-le}
 use native.Mathlib.Omega.{arith}
 use Rattle.section.proofs.Readings.{body_crc, body_all}
-use borrow.Author.Rules.{rules}
 use Rattle.section.proofs.judge.before_crc.Goals as goal
 
 pub returns-then-row-ne1 : goal.returns-then-row-ne1

@@ -5,7 +5,6 @@ use Prim.Native.Nat.{ℕ}
 use borrow.Author.Tests.{eq-eqb, ne_eqb}
 use Rattle.section.specs.Reading.{crc_fails}
 use mathlib.Core.Path.{ap}
-use borrow.Author.Rules.{rules}
 use Rattle.section.proofs.judge.crc_fails.Goals as goal
 
 pub returns-then-row-eq1 : goal.returns-then-row-eq1

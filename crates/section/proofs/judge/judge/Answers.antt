@@ -9,7 +9,6 @@ use mathlib.Core.List.{List}
 use Prim.Native.Nat.{ℕ}
 use Rattle.verdict.specs.Verdict.{accepted}
 use Rattle.section.specs.Reading.{row_for, opening}
-use borrow.Author.Rules.{rules}
 use Rattle.section.proofs.judge.judge.Goals as goal
 use Rattle.section.proofs.judge.judge.Goals.{After-row_at-row}
 

@@ -2,7 +2,6 @@
 use Rattle.section.proofs.Readings.{fills_past, fills_short, fills_just}
 use native.Mathlib.Omega.{arith}
 use mathlib.Core.Path.{sym}
-use borrow.Author.Rules.{rules}
 use Rattle.section.proofs.judge.judge_fills.Goals as goal
 
 pub returns-then-left-size : goal.returns-then-left-size

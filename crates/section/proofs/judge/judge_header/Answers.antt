@@ -1,10 +1,6 @@
 -- `section::judge::judge_header` meets its contract: the first test that holds decides.
 use mathlib.Core.Path.{◌≡◌, sym, ◌∙◌}
 use mathlib.Core.Bool.{false}
-use mathlib.Core.List.{List}
-use Prim.Native.Nat.{ℕ}
-use borrow.Author.Rules.{rules}
-use Rattle.tables.specs.declared.Row.{Row}
 use Rattle.section.specs.Reading.{wrong_syntax, length_outside, size_differs, crc_fails}
 use Rattle.section.proofs.Readings.{header-3, header-4, header-5, header-6, header-7, header_ok}
 use Rattle.section.proofs.judge.judge_header.Goals as goal

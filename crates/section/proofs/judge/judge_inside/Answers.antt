@@ -2,7 +2,6 @@
 use Rattle.section.proofs.Readings.{inside_topped, inside_plain, topped_one, topped_two, plain_none, plain_entries}
 use Rattle.wire.specs.Trail.{answer}
 use mathlib.Core.Path.{sym, ap, ◌∙◌}
-use borrow.Author.Rules.{rules}
 use Rattle.section.proofs.judge.judge_inside.Goals as goal
 
 pub returns-then-fixed-eq0 : goal.returns-then-fixed-eq0

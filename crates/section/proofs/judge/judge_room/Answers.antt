@@ -2,7 +2,6 @@
 use Rattle.section.proofs.Readings.{room_past, room_just}
 use native.Mathlib.Omega.{arith}
 use mathlib.Core.Path.{sym}
-use borrow.Author.Rules.{rules}
 use Rattle.section.proofs.judge.judge_room.Goals as goal
 
 pub returns-then-less-length12_at : goal.returns-then-less-length12_at

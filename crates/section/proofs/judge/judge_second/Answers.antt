@@ -5,7 +5,6 @@ use Rattle.verdict.specs.Verdict.{accepted}
 use native.Mathlib.Omega.{arith}
 use mathlib.Core.Path.{refl}
 use mathlib.Core.Path.{sym, ap, ◌∙◌}
-use borrow.Author.Rules.{rules}
 use Rattle.section.proofs.judge.judge_second.Goals as goal
 
 pub overflow_add-at : goal.overflow_add-at

@@ -10,7 +10,6 @@ use Rattle.verdict.specs.Verdict.{Said, accepted}
 use Rattle.loops.specs.Descriptors.{descriptors}
 use Rattle.section.specs.Reading.{loop_then, second_loop, two_loops}
 use Rattle.section.proofs.Readings.{stopped, held, went_on, room_tells, two_loops_lem}
-use borrow.Author.Rules.{rules}
 use Rattle.section.proofs.judge.judge_two_loops.Goals as goal
 use Rattle.section.proofs.judge.judge_two_loops.Goals.{After-length12_at}
 

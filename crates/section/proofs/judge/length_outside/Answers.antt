@@ -1,7 +1,6 @@
 -- `section::judge::length_outside` meets its contract.
 use borrow.Author.Tests.{lt-ltb, le-ltb}
 use Rattle.section.specs.Reading.{length_outside}
-use borrow.Author.Rules.{rules}
 use Rattle.section.proofs.judge.length_outside.Goals as goal
 
 pub returns-then-section_length-row : goal.returns-then-section_length-row

@@ -5,7 +5,6 @@ use mathlib.Core.Bool.{not}
 use Prim.Native.Nat.{ℕ, ◌+◌}
 use Rattle.section.specs.Reading.{size_differs}
 use mathlib.Core.Path.{ap}
-use borrow.Author.Rules.{rules}
 use Rattle.section.proofs.judge.size_differs.Goals as goal
 
 pub returns : goal.returns

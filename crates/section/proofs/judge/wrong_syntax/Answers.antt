@@ -4,7 +4,6 @@ use mathlib.Core.Bool.{not}
 use Prim.Native.Nat.{ℕ, ◌/◌}
 use Rattle.section.specs.Reading.{wrong_syntax}
 use mathlib.Core.Path.{ap, ◌∙◌}
-use borrow.Author.Rules.{rules}
 use Rattle.section.proofs.judge.wrong_syntax.Goals as goal
 
 pub returns : goal.returns

@@ -1,8 +1,7 @@
 -- `wire::digits::bcd` reads as many digits as it is asked for. The loop's invariant: the k low digits of v after a, the first of them at
 -- place n - k, are what all n are, and a is at most v without its k low digits.
 use mathlib.Core.Path.{◌≡◌, sym, ap, ap₂, ◌∙◌}
-use mathlib.Core.Logic.{⊎_elim}
-use Prim.Native.Nat.{ℕ, ◌+◌, ◌-◌, ◌≤◌, ◌*◌, ◌/◌, ◌^◌}
+use Prim.Native.Nat.{ℕ, ◌+◌, ◌-◌, ◌*◌}
 use native.Mathlib.Omega.{arith}
 use Rattle.wire.specs.Reading.{refused}
 use Rattle.wire.specs.Digits.{digit, bcd_after, bcd_of}

@@ -1,12 +1,8 @@
 -- `wire::digits::bcd` reads as many digits as it is asked for. The loop's invariant: the k low digits of v after a, the first of them at
 -- place n - k, are what all n are, and a is at most v without its k low digits.
-use mathlib.Core.Path.{◌≡◌, sym, ap, ap₂, ◌∙◌}
-use mathlib.Core.Logic.{⊎_elim}
-use Prim.Native.Nat.{ℕ, ◌+◌, ◌-◌, ◌≤◌, ◌*◌, ◌/◌, ◌^◌}
-use native.Mathlib.Omega.{arith}
-use Rattle.wire.specs.Reading.{refused}
-use Rattle.wire.specs.Digits.{digit, bcd_after, bcd_of}
-use Rattle.wire.proofs.NextDigit.{digit_next, digit_bad, small, fits, eight}
+use mathlib.Core.Path.{◌≡◌}
+use Prim.Native.Nat.{◌-◌, ◌≤◌, ◌*◌, ◌/◌, ◌^◌}
+use Rattle.wire.specs.Digits.{bcd_after, bcd_of}
 use Rattle.wire.proofs.digits.bcd.Given as goal
 
 abbrev pub invariant-loop-k : goal.invariant-loop-k

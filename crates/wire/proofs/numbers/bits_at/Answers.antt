@@ -5,7 +5,6 @@ use mathlib.Core.Path.{sym}
 use lib.Pow.{pow_pos}
 use native.Mathlib.Omega.{arith}
 use Prim.Native.Nat.{◌+◌, ◌-◌, ◌*◌, ◌%◌, ◌^◌}
-use borrow.Author.Rules.{rules}
 use Rattle.wire.proofs.numbers.bits_at.Goals as goal
 
 pub returns-then-low-gt7 : goal.returns-then-low-gt7

@@ -1,7 +1,6 @@
 -- `wire::numbers::byte_at` gives the byte at a place, and 0 past the end.
 use mathlib.Core.Path.{sym}
 use lib.ListN.{get_or-eq_default}
-use borrow.Author.Rules.{rules}
 use Rattle.wire.proofs.numbers.byte_at.Goals as goal
 
 pub returns-else-i-s : goal.returns-else-i-s

@@ -2,7 +2,6 @@
 use mathlib.Core.Path.{ap, ap₂}
 use mathlib.Core.List.{[], ◌∷◌}
 use Prim.Native.Nat.{ℕ}
-use borrow.Author.Rules.{rules}
 use Rattle.wire.proofs.NumberLaws.{read_after}
 use Rattle.wire.proofs.numbers.number32_at.Goals as goal
 

@@ -1,7 +1,6 @@
 -- `wire::parts::part` gives the n bytes from a place on.
 use mathlib.Core.Path.{ap, ◌∙◌}
 use lib.ListN.{take}
-use borrow.Author.Rules.{rules}
 use Rattle.wire.proofs.parts.part.Goals as goal
 
 pub returns : goal.returns
