@@ -173,7 +173,8 @@ module _ {s : List ℕ} (hs : Bytes s) where
       → Ahead s (b ∷ c' ∷ d' ∷ e' ∷ m' ∷ []) (i + 8)
   five_move a b c d e m c' d' e' m' i k ha h em ec ed ee el =
       instead (comes hs (a ∷ b ∷ c ∷ d ∷ e ∷ []) i (i + 8) m k refl h em)
-      (ap (λ (l : List ℕ). feed_words l 0) (cc (the_second c a, the_third d a, the_fourth e a, the_fifth m a)) ∙ leaves_five a b c d e m ha)
+      (ap (λ (l : List ℕ). feed_words l 0) (cc (the_second c a, the_third d a, the_fourth e a, the_fifth m a)) ∙
+      leaves_five a b c d e m ha)
 
   -- five words more come behind it
   five_come : (a b c d e m n o p q i j : ℕ) → Ahead s (a ∷ b ∷ c ∷ d ∷ e ∷ []) i → FiveAt s i m n o p q j → j ≤ length s

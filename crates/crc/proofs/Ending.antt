@@ -97,7 +97,8 @@ lower_same : (e : ℕ) → e < 2 ^ 64 → feed_bits 64 (lower e) 0 ≡ feed_bits
 lower_same e h =
     let moved : e * 2 ^ 32 % 2 ^ 64 ≡ e % 2 ^ 32 * 2 ^ 32 = omega arith in
     linear 64 (times64 (e / 2 ^ 32)) (e * 2 ^ 32 % 2 ^ 64) 0 0 (lit< tt) (lit< tt)
-    ∙ ap₂ bit_xor (at-64 (e / 2 ^ 32) (shr_lt 32 32 h)) (ap (λ (v : ℕ). feed_bits 64 v 0) moved ∙ moved_up 0 32 32 (e % 2 ^ 32) (low_lt e))
+    ∙ ap₂ bit_xor (at-64 (e / 2 ^ 32) (shr_lt 32 32 h))
+    (ap (λ (v : ℕ). feed_bits 64 v 0) moved ∙ moved_up 0 32 32 (e % 2 ^ 32) (low_lt e))
     ∙ sym (by_halves 32 e)
 
 upper_lt : (d : ℕ) → d < 2 ^ 64 → upper d < 2 ^ 64

@@ -32,7 +32,8 @@ absorbed n v r h =
     ∙ ap₂ (feed_bits (32 + n)) (xor_zero_r v) (xor_zero_l r)
 
 -- Of the first eight bytes as a number, those in front, and one more.
-next_byte : (s : List ℕ) → Bytes s → (j : ℕ) → j < 8 → long_at s 0 / 2 ^ (64 - 8 * j) * 2 ^ 8 + get_or s j 0 ≡ long_at s 0 / 2 ^ (56 - 8 * j)
+next_byte : (s : List ℕ) → Bytes s → (j : ℕ) → j < 8 → long_at s 0 / 2 ^ (64 - 8 * j) * 2 ^ 8 + get_or s j 0 ≡
+    long_at s 0 / 2 ^ (56 - 8 * j)
 next_byte s hs zero l = omega (arith, hs 0, hs 1, hs 2, hs 3, hs 4, hs 5, hs 6, hs 7)
 next_byte s hs (suc zero) l = omega (arith, hs 0, hs 1, hs 2, hs 3, hs 4, hs 5, hs 6, hs 7)
 next_byte s hs (suc (suc zero)) l = omega (arith, hs 0, hs 1, hs 2, hs 3, hs 4, hs 5, hs 6, hs 7)

@@ -65,7 +65,8 @@ stands_two : (a : ℕ) → a < 2 ^ 64 → feed_words (over a ∷ under a ∷ [])
 unfolding feed_words
 stands_two a h =
     join 64 64 (over a) (under a) 0 (under_lt a h)
-    ∙ stands 64 far_two 65 128 128 (block_of (over_of itself) (under_of itself) under_lt) both_at far_two_lt (omega arith) relation_two a h
+    ∙ stands 64 far_two 65 128 128 (block_of (over_of itself) (under_of itself) under_lt) both_at far_two_lt
+    (omega arith) relation_two a h
 
 pub leaves_two : (a b c : ℕ) → a < 2 ^ 64 → feed_words ((b ⊕ over a) ∷ (c ⊕ under a) ∷ []) 0 ≡ feed_words (a ∷ b ∷ c ∷ []) 0
 leaves_two a b c h = leaves (b ∷ c ∷ []) (over a ∷ under a ∷ []) a refl (stands_two a h)

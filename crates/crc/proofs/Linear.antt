@@ -54,7 +54,8 @@ feed_linear r s x y hr hs hx hy =
     let v = r * 2 % 2 ^ 32 in
     let w = s * 2 % 2 ^ 32 in
     feed_sum (r ⊕ s) (x ⊕ y) (xor_lt 32 r s hr hs) (xor_lt 1 x y hx hy)
-    ∙ ap₂ (λ (c m : ℕ). (c ⊕ (x ⊕ y)) * poly ⊕ m) (xor_shr r s 31) (ap (λ (m : ℕ). m % 2 ^ 32) (xor_shl r s 1) ∙ xor_mod (r * 2) (s * 2) 32)
+    ∙ ap₂ (λ (c m : ℕ). (c ⊕ (x ⊕ y)) * poly ⊕ m) (xor_shr r s 31)
+    (ap (λ (m : ℕ). m % 2 ^ 32) (xor_shl r s 1) ∙ xor_mod (r * 2) (s * 2) 32)
     ∙ ap (λ (c : ℕ). c * poly ⊕ (v ⊕ w)) (xor4 t u x y)
     ∙ ap (λ (c : ℕ). c ⊕ (v ⊕ w)) (times (t ⊕ x) (u ⊕ y) (xor_lt 1 t x (top hr) hx) (xor_lt 1 u y (top hs) hy))
     ∙ xor4 ((t ⊕ x) * poly) ((u ⊕ y) * poly) v w

@@ -28,14 +28,16 @@ walk_gives l zero a h = sym (ap (λ t. nth t 0) (by-step l a h) ∙ first_given 
 walk_gives l (suc n) a h =
     go (λ b i. walk_gives l n b i) (step_at l a) refl (view l a) ∙ sym (ap (λ t. nth t (suc n)) (by-step l a h))
   where
-    go : ((b : ℕ) → b ≤ length l → step_at l (walked_to l b n) ≡ nth (descriptors b (drop b l)) n) → (g : Gives) → step_at l a ≡ g → View l a g
+    go : ((b : ℕ) → b ≤ length l → step_at l (walked_to l b n) ≡ nth (descriptors b (drop b l)) n) → (g : Gives) →
+        step_at l a ≡ g → View l a g
         → step_at l (walked_to l (place_after a g) n) ≡ nth (by_step l a g) (suc n)
     go ih g q (ending e) = ih a h ∙ ap (λ t. nth t n) (by-step l a h ∙ ap (by_step l a) q)
     go ih g q (cut e i) = ih a h ∙ ap (λ t. nth t n) (by-step l a h ∙ ap (by_step l a) q)
     go ih g q (whole i) = ih (a + 2 + get_or l (a + 1) 0) i
 
 -- a loop of whole descriptors: each in turn, then the end for ever
-pub whole_walk : (l : List ℕ) (ds : List Placed) → Descriptors 0 l ds → (n : ℕ) → step_at l (walked_to l 0 n) ≡ get_or (map given ds) n the_end
+pub whole_walk : (l : List ℕ) (ds : List Placed) → Descriptors 0 l ds → (n : ℕ) → step_at l (walked_to l 0 n) ≡
+    get_or (map given ds) n the_end
 whole_walk l ds d n = walk_gives l n 0 (omega arith) ∙ ap (λ t. nth t n) (read_whole d)
 
 -- a loop with a fault: each descriptor before it in turn, then for ever 9 with its place

@@ -78,4 +78,5 @@ passed p (suc n) t i h =
 
 pub agree : (n : ℕ) {f g : ℕ → ℕ} → Additive n f → Additive n g → T (tested (λ i. eqb (f (2 ^ i)) (g (2 ^ i))) n)
     → (x : ℕ) → x < 2 ^ n → f x ≡ g x
-agree n {f} {g} hf hg test = agree_at n hf hg (λ i h. eqb→eq (f (2 ^ i)) (g (2 ^ i)) (passed (λ i. eqb (f (2 ^ i)) (g (2 ^ i))) n test i h))
+agree n {f} {g} hf hg test = agree_at n hf hg
+    (λ i h. eqb→eq (f (2 ^ i)) (g (2 ^ i)) (passed (λ i. eqb (f (2 ^ i)) (g (2 ^ i))) n test i h))

@@ -15,7 +15,8 @@ abbrev tdt : List ℕ
 tdt = 0x70 ∷ 0x70 ∷ 0x05 ∷ 0xC0 ∷ 0x79 ∷ 0x12 ∷ 0x45 ∷ 0x00 ∷ []
 
 tdt_accepted : judged tdt ≡ accepted
-unfolding judged read opening ◌and_then◌ row_of first holds cell header wrong_syntax length_outside size_differs crc_fails above_last inside plain
+unfolding judged read opening ◌and_then◌ row_of first holds cell header wrong_syntax length_outside size_differs
+    crc_fails above_last inside plain
 tdt_accepted = refl
 
 empty_refused : judged [] ≡ refused 1 0

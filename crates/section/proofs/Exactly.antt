@@ -55,7 +55,8 @@ module _ (i : ℕ) (s middle : List ℕ) (c : Cut i s middle) where
           body_all (row_at i) s e ∙ all ∙ ap (λ x. (c.head ++ middle) ++ x) (none c.tail t) ∙ append-nil (c.head ++ middle)
 
   -- the reading goes over the middle
-  inside_cut : inside (row_at i) (row_at i).before (drop (row_at i).before (body (row_at i) s)) ≡ inside (row_at i) (row_at i).before middle
+  inside_cut : inside (row_at i) (row_at i).before (drop (row_at i).before (body (row_at i) s)) ≡ inside (row_at i)
+      (row_at i).before middle
   inside_cut =
       ap (inside (row_at i) (row_at i).before)
       (ap (drop (row_at i).before) body_cut ∙ drop_at c.head middle (row_at i).before c.before)
@@ -78,7 +79,8 @@ module _ (i : ℕ) (s : List ℕ) (known : i < 6) (table : InRow i (get_or s 0 0
           let f = r.room e in
           let w : s ≡ take b s ++ (drop b (take n s) ++ drop n s) =
           sym (take-append-drop n s)
-          ∙ ap (λ x. x ++ drop n s) (sym (take-append-drop b (take n s)) ∙ ap (λ x. x ++ drop b (take n s)) (take-take b n s (omega arith)))
+          ∙ ap (λ x. x ++ drop n s) (sym (take-append-drop b (take n s)) ∙ ap (λ x. x ++ drop b (take n s))
+          (take-take b n s (omega arith)))
           ∙ append_assoc (take b s) (drop b (take n s)) (drop n s) in (
             drop b (take n s),
             record {
@@ -182,7 +184,8 @@ module _ (s : List ℕ) where
     refusal : (k : ℕ) → header (row_for s) s ≡ refused k 0 → Applies s k → Clear s k → Claims s (judged s)
     refusal k e a c = claims (judged_header s opened k 0 e) (lowest a c)
 
-    past_header : Header (row_for s) s → ((row_for s).crc ≡ 1 → crc s ≡ 0) → Clear s 8 → header (row_for s) s ≡ accepted → Claims s (judged s)
+    past_header : Header (row_for s) s → ((row_for s).crc ≡ 1 → crc s ≡ 0) → Clear s 8 → header (row_for s) s ≡
+        accepted → Claims s (judged s)
     unfolding judged
     past_header h r c ok = go (cuts (row_of (get_or s 0 0)) s known table h.least h.most h.size)
       where
@@ -214,7 +217,8 @@ module _ (s : List ℕ) where
 
         seven : (a : wrong_syntax (row_for s) s ≡ false) (b : length_outside (row_for s) s ≡ false)
             (c : size_differs s ≡ false) (d : crc_fails (row_for s) s ≡ false)
-            → (((row_for s).syntax ≡ 1 → get_or s 6 0 ≤ get_or s 7 0) → Header (row_for s) s) → ((row_for s).crc ≡ 1 → crc s ≡ 0) → Clear s 7
+            → (((row_for s).syntax ≡ 1 → get_or s 6 0 ≤ get_or s 7 0) → Header (row_for s) s) →
+            ((row_for s).crc ≡ 1 → crc s ≡ 0) → Clear s 7
             → ((above_last (row_for s) s ≡ true) × (((row_for s).syntax ≡ 1) × (get_or s 7 0 < get_or s 6 0)))
             ⊎ ((above_last (row_for s) s ≡ false) × ((row_for s).syntax ≡ 1 → get_or s 6 0 ≤ get_or s 7 0)) → Claims s (judged s)
         seven a b c d h r clear (inl (t, (e, f))) = refusal 7 (header-7 (row_for s) s a b c d t) (numbers row known table e f) clear
@@ -229,7 +233,8 @@ module _ (s : List ℕ) where
         six a b c h clear (inl (t, (e, f))) = refusal 6 (header-6 (row_for s) s a b c t) (register row known table e f) clear
         six a b c h clear (inr (t, f)) = seven a b c t h f (clear_more s 6 clear (not-6 s row known table f)) (last_test (row_for s) s)
 
-        five : (a : wrong_syntax (row_for s) s ≡ false) (b : length_outside (row_for s) s ≡ false) → get_or s 1 0 / 128 ≡ (row_for s).syntax
+        five : (a : wrong_syntax (row_for s) s ≡ false) (b : length_outside (row_for s) s ≡ false) → get_or s 1 0 /
+            128 ≡ (row_for s).syntax
             → (row_for s).least ≤ len12_at s 1 → len12_at s 1 ≤ (row_for s).most → Clear s 5
             → ((size_differs s ≡ true) × (length s ≡ 3 + len12_at s 1 → ⊥))
             ⊎ ((size_differs s ≡ false) × (length s ≡ 3 + len12_at s 1))
@@ -290,7 +295,8 @@ section_clear s loops x =
 
 module _ (s : List ℕ) where
   -- where none of 1 to 7 applies, the reading goes over the middle of any cut
-  clear_read : ((j : ℕ) → Applies s j → ⊥) → (i : ℕ) (middle : List ℕ) → Cut i s middle → read s ≡ inside (row_at i) (row_at i).before middle
+  clear_read : ((j : ℕ) → Applies s j → ⊥) → (i : ℕ) (middle : List ℕ) → Cut i s middle → read s ≡ inside
+      (row_at i) (row_at i).before middle
   clear_read clear i middle c = start (dec_lt (length s) 3)
     where
       known : row_of (get_or s 0 0) < 6

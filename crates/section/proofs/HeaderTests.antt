@@ -37,7 +37,8 @@ module _ (row : Row) (s : List ℕ) where
       go false true p q = inl (rw (p, q), inr (ltb-true _ _ q))
       go false false p q = inr (rw (p, q), (ltb-false _ _ p, ltb-false _ _ q))
 
-  pub size_test : ((size_differs s ≡ true) × (length s ≡ 3 + len12_at s 1 → ⊥)) ⊎ ((size_differs s ≡ false) × (length s ≡ 3 + len12_at s 1))
+  pub size_test : ((size_differs s ≡ true) × (length s ≡ 3 + len12_at s 1 → ⊥)) ⊎
+      ((size_differs s ≡ false) × (length s ≡ 3 + len12_at s 1))
   unfolding size_differs
   size_test = not_equal (length s) (3 + len12_at s 1)
 

@@ -82,7 +82,8 @@ two_none fixed p m h = then-refused _ _ 8 p (rw (lt-ltb (length m) (size_of m + 
 
 module _ (fixed p high low : ℕ) (body l : List ℕ) (size : len12 high low ≡ length body) (room : 2 ≤ length l) where
   -- the top loop, and what stands behind it
-  parts : two_loops fixed p (high ∷ low ∷ (body ++ l)) ≡ loop_then (descriptors (p + 2) body) (second_loop fixed (p + (2 + length body)) l)
+  parts : two_loops fixed p (high ∷ low ∷ (body ++ l)) ≡ loop_then (descriptors (p + 2) body)
+      (second_loop fixed (p + (2 + length body)) l)
   unfolding two_loops leaves_room
   parts =
       let n : ℕ = len12 high low in
@@ -105,7 +106,8 @@ second_fault : (fixed p k q : ℕ) (m : List ℕ) → FillFault p m k q → seco
 unfolding second_loop
 second_fault fixed p k q m f = then-refused _ _ k q (fill_fault f)
 
-second_on : (fixed p high low : ℕ) (l : List ℕ) → len12 high low ≡ length l → second_loop fixed p (high ∷ low ∷ l) ≡ entries fixed (p + 2) l
+second_on : (fixed p high low : ℕ) (l : List ℕ) → len12 high low ≡ length l → second_loop fixed p (high ∷ low ∷ l)
+    ≡ entries fixed (p + 2) l
 unfolding second_loop
 second_on fixed p high low l e = then-accepted _ _ (fill_just p (high ∷ low ∷ l) (omega arith))
 

@@ -95,11 +95,13 @@ module _ (l : List ℕ) (p n : ℕ) (same : n ≡ len12_at l p) where
 
 -- loops at a place
 module _ (l : List ℕ) (p : ℕ) where
-  pub one_loop_lem : one_loop p (drop p l) ≡ (fills p (drop p l) and_then loop_then (descriptors (p + 2) (drop (p + 2) l)) (ended accepted))
+  pub one_loop_lem : one_loop p (drop p l) ≡
+      (fills p (drop p l) and_then loop_then (descriptors (p + 2) (drop (p + 2) l)) (ended accepted))
   unfolding one_loop
   one_loop_lem = ap (λ x. fills p (drop p l) and_then loop_then (descriptors (p + 2) x) (ended accepted)) (drop-drop 2 p l)
 
-  pub second_loop_lem : (fixed : ℕ) → second_loop fixed p (drop p l) ≡ (fills p (drop p l) and_then entries fixed (p + 2) (drop (p + 2) l))
+  pub second_loop_lem : (fixed : ℕ) → second_loop fixed p (drop p l) ≡
+      (fills p (drop p l) and_then entries fixed (p + 2) (drop (p + 2) l))
   unfolding second_loop
   second_loop_lem fixed = ap (λ x. fills p (drop p l) and_then entries fixed (p + 2) x) (drop-drop 2 p l)
 
@@ -208,7 +210,8 @@ module _ (s : List ℕ) where
       ∙ ap (λ (x : List ℕ). (header row s and_then inside row row.before (drop row.before x)).ends) (sym q)
 
   module _ (o : opening s ≡ accepted) where
-    pub read_on : read s ≡ (header (row_for s) s and_then inside (row_for s) (row_for s).before (drop (row_for s).before (body (row_for s) s)))
+    pub read_on : read s ≡ (header (row_for s) s and_then inside (row_for s) (row_for s).before
+        (drop (row_for s).before (body (row_for s) s)))
     unfolding read
     read_on = then-on (opening s) _ (ap is_accepted o)
 

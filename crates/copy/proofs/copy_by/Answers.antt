@@ -50,7 +50,8 @@ returns-then-n-size_of c =
 
 pub in_blocks-requires : goal.in_blocks-requires
 in_blocks-requires c =
-    ((both (goal.at.in_blocks-requires c).Else-lacks-2).0, (both (goal.at.in_blocks-requires c).Else-lacks-2).1, omega arith)
+    let else_lacks_2 = (goal.at.in_blocks-requires c).Else-lacks-2 in
+    ((both else_lacks_2).0, (both else_lacks_2).1, omega arith)
 
 pub returns : goal.returns
 returns c =

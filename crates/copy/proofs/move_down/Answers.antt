@@ -41,15 +41,20 @@ returns-then-lacks c =
 
 pub few-requires : goal.few-requires
 few-requires c =
-    (omega arith, omega (arith, low (goal.at.few-requires c).Else-lacks, fits (goal.at.few-requires c).Else-lacks), omega (arith, low (goal.at.few-requires c).Else-lacks, fits (goal.at.few-requires c).Else-lacks))
+    let else_lacks = (goal.at.few-requires c).Else-lacks in
+    (omega arith, omega (arith, low else_lacks, fits else_lacks), omega (arith, low else_lacks, fits else_lacks))
 
 pub returns-then-n-lt32 : goal.returns-then-n-lt32
 returns-then-n-lt32 c =
-    down_made (room (goal.at.returns-then-n-lt32 c).Else-lacks) (from (goal.at.returns-then-n-lt32 c).Else-lacks) (n (goal.at.returns-then-n-lt32 c).Else-lacks) (to (goal.at.returns-then-n-lt32 c).Else-lacks) (low (goal.at.returns-then-n-lt32 c).Else-lacks) (fits (goal.at.returns-then-n-lt32 c).Else-lacks) c.few.ensures
+    let else_lacks = (goal.at.returns-then-n-lt32 c).Else-lacks in
+    down_made (room else_lacks) (from else_lacks) (n else_lacks) (to else_lacks) (low else_lacks) (fits else_lacks) c.few.ensures
 
 pub down-requires : goal.down-requires
-down-requires c = (omega arith, low (goal.at.down-requires c).Else-lacks, fits (goal.at.down-requires c).Else-lacks)
+down-requires c =
+    let else_lacks = (goal.at.down-requires c).Else-lacks in
+    (omega arith, low else_lacks, fits else_lacks)
 
 pub returns : goal.returns
 returns c =
-    down_made (room (goal.at.returns c).Else-lacks) (from (goal.at.returns c).Else-lacks) (n (goal.at.returns c).Else-lacks) (to (goal.at.returns c).Else-lacks) (low (goal.at.returns c).Else-lacks) (fits (goal.at.returns c).Else-lacks) c.down.ensures
+    let else_lacks = (goal.at.returns c).Else-lacks in
+    down_made (room else_lacks) (from else_lacks) (n else_lacks) (to else_lacks) (low else_lacks) (fits else_lacks) c.down.ensures

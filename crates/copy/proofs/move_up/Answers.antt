@@ -41,15 +41,20 @@ returns-then-lacks c =
 
 pub few-requires : goal.few-requires
 few-requires c =
-    (omega arith, omega (arith, high (goal.at.few-requires c).Else-lacks, fits (goal.at.few-requires c).Else-lacks), omega (arith, high (goal.at.few-requires c).Else-lacks, fits (goal.at.few-requires c).Else-lacks))
+    let else_lacks = (goal.at.few-requires c).Else-lacks in
+    (omega arith, omega (arith, high else_lacks, fits else_lacks), omega (arith, high else_lacks, fits else_lacks))
 
 pub returns-then-n-lt32 : goal.returns-then-n-lt32
 returns-then-n-lt32 c =
-    up_made (room (goal.at.returns-then-n-lt32 c).Else-lacks) (from (goal.at.returns-then-n-lt32 c).Else-lacks) (n (goal.at.returns-then-n-lt32 c).Else-lacks) (to (goal.at.returns-then-n-lt32 c).Else-lacks) (high (goal.at.returns-then-n-lt32 c).Else-lacks) (fits (goal.at.returns-then-n-lt32 c).Else-lacks) c.few.ensures
+    let else_lacks = (goal.at.returns-then-n-lt32 c).Else-lacks in
+    up_made (room else_lacks) (from else_lacks) (n else_lacks) (to else_lacks) (high else_lacks) (fits else_lacks) c.few.ensures
 
 pub up-requires : goal.up-requires
-up-requires c = (omega arith, high (goal.at.up-requires c).Else-lacks, fits (goal.at.up-requires c).Else-lacks)
+up-requires c =
+    let else_lacks = (goal.at.up-requires c).Else-lacks in
+    (omega arith, high else_lacks, fits else_lacks)
 
 pub returns : goal.returns
 returns c =
-    up_made (room (goal.at.returns c).Else-lacks) (from (goal.at.returns c).Else-lacks) (n (goal.at.returns c).Else-lacks) (to (goal.at.returns c).Else-lacks) (high (goal.at.returns c).Else-lacks) (fits (goal.at.returns c).Else-lacks) c.up.ensures
+    let else_lacks = (goal.at.returns c).Else-lacks in
+    up_made (room else_lacks) (from else_lacks) (n else_lacks) (to else_lacks) (high else_lacks) (fits else_lacks) c.up.ensures

@@ -29,19 +29,21 @@ loop-i-init c =
 
 pub loop-i-preserved : goal.loop-i-preserved
 loop-i-preserved c =
+    let at_loop_i = (goal.at.loop-i-preserved c).At-loop-i in
     let l = c.loop-i in
     let p = ((goal.at.loop-i-preserved c).Start).requires in (
       omega arith,
       c.block.ensures
-          ∙ up_on (o (goal.at.loop-i-preserved c).At-loop-i) (from (goal.at.loop-i-preserved c).At-loop-i) (to (goal.at.loop-i-preserved c).At-loop-i) (n (goal.at.loop-i-preserved c).At-loop-i) p.1 p.2 l.room l.i (l.i - 32) (omega arith) l.invariant.0
+          ∙ up_on (o at_loop_i) (from at_loop_i) (to at_loop_i) (n at_loop_i) p.1 p.2 l.room l.i (l.i - 32) (omega arith) l.invariant.0
           l.invariant.2 l.invariant.1,
       search rules,
     )
 
 pub returns : goal.returns
 returns c =
+    let at_loop_i = (goal.at.returns c).At-loop-i in
     let l = c.loop-i in
     let p = ((goal.at.returns c).Start).requires in
     c.singly-2.ensures
-    ∙ up_ends (o (goal.at.returns c).At-loop-i) (from (goal.at.returns c).At-loop-i) (to (goal.at.returns c).At-loop-i) (n (goal.at.returns c).At-loop-i) p.1 p.2 l.room _ l.i p.0 (omega arith) l.invariant.1
+    ∙ up_ends (o at_loop_i) (from at_loop_i) (to at_loop_i) (n at_loop_i) p.1 p.2 l.room _ l.i p.0 (omega arith) l.invariant.1
     ((goal.at.returns c).After-singly).singly.ensures

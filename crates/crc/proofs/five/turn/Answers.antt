@@ -36,7 +36,8 @@ returns c =
           n.result.a n.result.b n.result.c n.result.d n.result.e
           c.added.result c.added-2.result added3.result added4.result c.added-5.result
           v.at n.result.at c.requires.0 (omega (arith, n.ensures.behind, c.requires.1))
-          (omega (arith, c.well_formed)) (omega (arith, c.well_formed)) (omega (arith, c.well_formed)) (omega (arith, c.well_formed)) (omega (arith, c.well_formed))
+          (omega (arith, c.well_formed)) (omega (arith, c.well_formed)) (omega (arith, c.well_formed))
+          (omega (arith, c.well_formed)) (omega (arith, c.well_formed))
           f.ensures n.ensures c.added.ensures c.added-2.ensures added3.ensures
           added4.ensures c.added-5.ensures,
       n.ensures.behind,

@@ -10,7 +10,11 @@ overflow_cast-l c =
     let t64 = c.times_64 in
     let t96 = c.times_96 in
     let t128 = c.times_128 in
-    record { fits = shr_lt 32 32 (xor_lt 64 _ _ (xor_lt 64 _ _ (xor_lt 64 _ _ t128.type_inv t96.type_inv) t64.type_inv) (mod-lt _ (pow_pos 64))) }
+    record {
+      fits = shr_lt 32 32
+          (xor_lt 64 _ _ (xor_lt 64 _ _ (xor_lt 64 _ _ t128.type_inv t96.type_inv) t64.type_inv)
+          (mod-lt _ (pow_pos 64)));
+    }
 
 pub quotient-requires : goal.quotient-requires
 quotient-requires c = tt

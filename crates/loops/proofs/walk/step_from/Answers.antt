@@ -25,12 +25,14 @@ module _ (c : After-step_at-step) where
 
 pub overflow_add-result : goal.overflow_add-result
 overflow_add-result c =
-    omega (arith, told_on (bytes (goal.at.overflow_add-result c).After-step_at-step) (at (goal.at.overflow_add-result c).After-step_at-step) _ _ c.step_at-step.ensures c.in-Descriptor.is _ _ _ refl)
+    let after_step_at_step = (goal.at.overflow_add-result c).After-step_at-step in
+    omega (arith, told_on (bytes after_step_at_step) (at after_step_at_step) _ _ c.step_at-step.ensures c.in-Descriptor.is _ _ _ refl)
 
 pub returns-in-Descriptor : goal.returns-in-Descriptor
 returns-in-Descriptor c =
+    let after_step_at_step = (goal.at.returns-in-Descriptor c).After-step_at-step in
     let step_is = c.in-Descriptor.is in
-    record { gives = tells (goal.at.returns-in-Descriptor c).After-step_at-step _ step_is; moves = moves (goal.at.returns-in-Descriptor c).After-step_at-step _ step_is }
+    record { gives = tells after_step_at_step _ step_is; moves = moves after_step_at_step _ step_is }
 
 pub returns-in-End : goal.returns-in-End
 returns-in-End c =

@@ -40,29 +40,34 @@ pub loop-p-init : goal.loop-p-init
 loop-p-init c = refl
 
 pub returns-then-end-p : goal.returns-then-end-p
-returns-then-end-p c = sym (c.loop-p.invariant ∙ ap answer (at_short (begins (goal.at.returns-then-end-p c).In-loop-p _ refl) (omega arith)))
+returns-then-end-p c = sym
+    (c.loop-p.invariant ∙ ap answer
+    (at_short (begins (goal.at.returns-then-end-p c).In-loop-p _ refl) (omega arith)))
 
 pub returns-then-end-start : goal.returns-then-end-start
 returns-then-end-start c =
-    sym (c.loop-p.invariant ∙ ap answer (at_past (entry (goal.at.returns-then-end-start c).After-length12-size) (omega arith) (omega arith)))
+    sym (c.loop-p.invariant ∙ ap answer
+    (at_past (entry (goal.at.returns-then-end-start c).After-length12-size) (omega arith) (omega arith)))
 
 pub slice_bounds-judge_descriptors-end : goal.slice_bounds-judge_descriptors-end
 slice_bounds-judge_descriptors-end c = sym (length-take-le _ _ (omega arith))
 
 pub loop-p-preserved : goal.loop-p-preserved
 loop-p-preserved c =
+    let else_end_start = (goal.at.loop-p-preserved c).Else-end-start in
     c.loop-p.invariant
     ∙ ap answer
-    (at_on (entry (goal.at.loop-p-preserved c).After-length12-size) (head-fits (goal.at.loop-p-preserved c).Else-end-start) (loop-fits (goal.at.loop-p-preserved c).Else-end-start)
+    (at_on (entry (goal.at.loop-p-preserved c).After-length12-size) (head-fits else_end_start) (loop-fits else_end_start)
     (ap is_accepted (sym c.judge_descriptors-verdict.ensures) ∙ sym c.is_accepted.ensures ∙ c.if-is_accepted.true))
 
 pub returns-else-is_accepted : goal.returns-else-is_accepted
 returns-else-is_accepted c =
+    let else_end_start = (goal.at.returns-else-is_accepted c).Else-end-start in
     c.judge_descriptors-verdict.ensures
     ∙ sym
     (c.loop-p.invariant
     ∙ ap answer
-    (at_fault (entry (goal.at.returns-else-is_accepted c).After-length12-size) (head-fits (goal.at.returns-else-is_accepted c).Else-end-start) (loop-fits (goal.at.returns-else-is_accepted c).Else-end-start)
+    (at_fault (entry (goal.at.returns-else-is_accepted c).After-length12-size) (head-fits else_end_start) (loop-fits else_end_start)
     (ap is_accepted (sym c.judge_descriptors-verdict.ensures) ∙ sym c.is_accepted.ensures ∙ c.if-is_accepted.false)))
 
 pub returns : goal.returns

@@ -41,11 +41,13 @@ judge_inside-requires c =
 
 pub returns-then-is_accepted : goal.returns-then-is_accepted
 returns-then-is_accepted c =
+    let after_row_at_row = (goal.at.returns-then-is_accepted c).After-row_at-row in
     went_on _ _ _ _ c.judge_header-head.ensures c.is_accepted.ensures _ c.if-is_accepted.true
     c.judge_inside.ensures
-    ∙ sym (judged_on (s (goal.at.returns-then-is_accepted c).After-row_at-row) _ _ (row_is (goal.at.returns-then-is_accepted c).After-row_at-row) c.before_crc.ensures (known (goal.at.returns-then-is_accepted c).After-row_at-row))
+    ∙ sym (judged_on (s after_row_at_row) _ _ (row_is after_row_at_row) c.before_crc.ensures (known after_row_at_row))
 
 pub returns : goal.returns
 returns c =
+    let after_row_at_row = (goal.at.returns c).After-row_at-row in
     stopped _ _ _ _ c.judge_header-head.ensures c.is_accepted.ensures c.if-is_accepted.false
-    ∙ sym (judged_on (s (goal.at.returns c).After-row_at-row) _ _ (row_is (goal.at.returns c).After-row_at-row) refl (known (goal.at.returns c).After-row_at-row))
+    ∙ sym (judged_on (s after_row_at_row) _ _ (row_is after_row_at_row) refl (known after_row_at_row))

@@ -30,26 +30,36 @@ returns-then-wrong_syntax c =
 
 pub returns-then-length_outside : goal.returns-then-length_outside
 returns-then-length_outside c =
-    sym (header-4 c.args.row c.args.section.now (not-3 (goal.at.returns-then-length_outside c).Else-wrong_syntax) (sym c.length_outside.ensures ∙ c.if-length_outside.true))
+    sym (header-4 c.args.row c.args.section.now (not-3 (goal.at.returns-then-length_outside c).Else-wrong_syntax)
+    (sym c.length_outside.ensures ∙ c.if-length_outside.true))
 
 pub returns-then-size_differs : goal.returns-then-size_differs
 returns-then-size_differs c =
-    sym (header-5 c.args.row c.args.section.now (not-3 (goal.at.returns-then-size_differs c).Else-wrong_syntax) (not-4 (goal.at.returns-then-size_differs c).Else-length_outside) (sym c.size_differs.ensures ∙ c.if-size_differs.true))
+    sym (header-5 c.args.row c.args.section.now (not-3 (goal.at.returns-then-size_differs c).Else-wrong_syntax)
+    (not-4 (goal.at.returns-then-size_differs c).Else-length_outside)
+    (sym c.size_differs.ensures ∙ c.if-size_differs.true))
 
 pub returns-then-crc_fails : goal.returns-then-crc_fails
 returns-then-crc_fails c =
     sym
-    (header-6 c.args.row c.args.section.now (not-3 (goal.at.returns-then-crc_fails c).Else-wrong_syntax) (not-4 (goal.at.returns-then-crc_fails c).Else-length_outside) (not-5 (goal.at.returns-then-crc_fails c).Else-size_differs)
+    (header-6 c.args.row c.args.section.now (not-3 (goal.at.returns-then-crc_fails c).Else-wrong_syntax)
+    (not-4 (goal.at.returns-then-crc_fails c).Else-length_outside)
+    (not-5 (goal.at.returns-then-crc_fails c).Else-size_differs)
     (sym c.crc_fails.ensures ∙ c.if-crc_fails.true))
 
 pub returns-then-above_last : goal.returns-then-above_last
 returns-then-above_last c =
     sym
-    (header-7 c.args.row c.args.section.now (not-3 (goal.at.returns-then-above_last c).Else-wrong_syntax) (not-4 (goal.at.returns-then-above_last c).Else-length_outside) (not-5 (goal.at.returns-then-above_last c).Else-size_differs) (not-6 (goal.at.returns-then-above_last c).Else-crc_fails)
+    (header-7 c.args.row c.args.section.now (not-3 (goal.at.returns-then-above_last c).Else-wrong_syntax)
+    (not-4 (goal.at.returns-then-above_last c).Else-length_outside)
+    (not-5 (goal.at.returns-then-above_last c).Else-size_differs)
+    (not-6 (goal.at.returns-then-above_last c).Else-crc_fails)
     (sym c.above_last.ensures ∙ c.if-above_last.true))
 
 pub returns : goal.returns
 returns c =
     sym
-    (header_ok c.args.row c.args.section.now (not-3 (goal.at.returns c).Else-wrong_syntax) (not-4 (goal.at.returns c).Else-length_outside) (not-5 (goal.at.returns c).Else-size_differs) (not-6 (goal.at.returns c).Else-crc_fails)
+    (header_ok c.args.row c.args.section.now (not-3 (goal.at.returns c).Else-wrong_syntax)
+    (not-4 (goal.at.returns c).Else-length_outside) (not-5 (goal.at.returns c).Else-size_differs)
+    (not-6 (goal.at.returns c).Else-crc_fails)
     (sym c.above_last.ensures ∙ c.if-above_last.false))

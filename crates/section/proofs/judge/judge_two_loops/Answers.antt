@@ -42,7 +42,8 @@ pub overflow_add-end-then-is_accepted : goal.overflow_add-end-then-is_accepted
 overflow_add-end-then-is_accepted c = omega (arith, fits (goal.at.overflow_add-end-then-is_accepted c).After-length12_at)
 
 pub slice_bounds-judge_descriptors-end : goal.slice_bounds-judge_descriptors-end
-slice_bounds-judge_descriptors-end c = sym (length-take-le _ _ (omega (arith, fits (goal.at.slice_bounds-judge_descriptors-end c).After-length12_at)))
+slice_bounds-judge_descriptors-end c = sym
+    (length-take-le _ _ (omega (arith, fits (goal.at.slice_bounds-judge_descriptors-end c).After-length12_at)))
 
 pub overflow_add-at : goal.overflow_add-at
 overflow_add-at c = omega (arith, fits (goal.at.overflow_add-at c).After-length12_at)
