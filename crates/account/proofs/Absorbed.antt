@@ -3,7 +3,7 @@ use Rattle.std.proofs.Common.{◌≡◌, ℕ, ◌+◌, ◌-◌, ◌/◌, ◌%◌
 use mathlib.Core.Option.{some}
 use lib.Seq.{take-append-le}
 use borrow.Author.Tests.{lt-leb}
-use Rattle.wire.specs.If.{if◌then◌else◌}
+use Rattle.std.specs.Prelude.{if◌then◌else◌}
 use Rattle.wire.proofs.IfLaws.{if-case, true_not_false}
 use Rattle.account.specs.Entered.{first_pid, fresh_account, Kept, kept_as, entered, entered_all, pieces}
 use Rattle.account.specs.Heard.{State, state_as, start_progress, account_for, to_front, waits, absorbed, finished, Fits, brought, heard_as, ended_by, ended_of}

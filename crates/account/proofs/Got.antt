@@ -1,7 +1,7 @@
 -- What a read's answer means.
 use Rattle.std.proofs.Common.{◌≡◌, ℕ, zero, suc, min, Bool, true, false, eqb, ℤ, pos, negsuc, sym, refl, ap, ◌∙◌, subst, arith, to_z-of_z, w32, w64, SFits, to_z, of_z, lt-ltb, eq-eqb, ne_eqb}
 use lib.Signed.{lt_z}
-use Rattle.wire.specs.If.{if◌then◌else◌}
+use Rattle.std.specs.Prelude.{if◌then◌else◌}
 use Rattle.wire.proofs.IfLaws.{true_not_false}
 use Rattle.account.specs.Heard.{got_as, failed_as, GotIn}
 use Rattle.account.specs.declared.reading.Got.{Got}

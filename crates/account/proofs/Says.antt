@@ -4,7 +4,7 @@ use Rattle.std.proofs.Common.{◌≡◌, ℕ, zero, suc, ◌+◌, ◌-◌, ◌*�
 use mathlib.Core.List.{map-append, flatten}
 use lib.ListN.{length-map}
 use borrow.Author.Tests.{eqb-false}
-use Rattle.wire.specs.If.{if◌then◌else◌}
+use Rattle.std.specs.Prelude.{if◌then◌else◌}
 use Rattle.wire.proofs.IfLaws.{if-case}
 use Rattle.packet.specs.Ruling.{Before, noneBefore, Carried, ruled_by}
 use Rattle.collector.specs.Rules.{Story}

@@ -1,7 +1,6 @@
 -- What one read may come to, and what each outcome makes of all that is kept between reads: the progress, the buffer, the
 -- hold and the out room. Which bytes a read brings is the one thing that nothing here fixes.
-use Rattle.std.specs.Prelude.{◌≡◌, ℕ, zero, suc, ◌+◌, ◌-◌, ◌/◌, ◌%◌, ◌≤◌, min, Bool, true, false, List, ◌++◌, length, take, drop, ℤ, pos, negsuc, ◌==◌, nat_lt}
-use Rattle.wire.specs.If.{if◌then◌else◌}
+use Rattle.std.specs.Prelude.{◌≡◌, ℕ, zero, suc, ◌+◌, ◌-◌, ◌/◌, ◌%◌, ◌≤◌, min, Bool, true, false, List, ◌++◌, length, take, drop, ℤ, pos, negsuc, ◌==◌, nat_lt, if◌then◌else◌}
 use Rattle.account.specs.Entered.{first_pid, fresh_account, Kept, kept_as, entered, entered_all, pieces}
 use Rattle.account.specs.declared.tally.Account.{Account}
 use Rattle.account.specs.declared.reading.Got.{Got}

@@ -1,7 +1,6 @@
 -- The input as the reads brought it, one after the other.
-use Rattle.std.specs.Prelude.{◌≡◌, ℕ, suc, ◌-◌, ◌/◌, ◌%◌, ◌^◌, List, [], ◌++◌, length, drop, ◌==◌, nat_lt}
+use Rattle.std.specs.Prelude.{◌≡◌, ℕ, suc, ◌-◌, ◌/◌, ◌%◌, ◌^◌, List, [], ◌++◌, length, drop, ◌==◌, nat_lt, if◌then◌else◌}
 use Rattle.std.proofs.Math.Option.{Option, none, some}
-use Rattle.wire.specs.If.{if◌then◌else◌}
 use Rattle.account.specs.Entered.{first_pid, fresh_account, Kept, kept_as, entered, entered_all, pieces}
 use Rattle.account.specs.Heard.{Behind, brought, State, state_as, start_progress, heard_as}
 use Rattle.account.specs.declared.reading.Got.{Got}

@@ -1,8 +1,7 @@
 -- The account of an input from its bytes alone, by demand 3's statements: how each packet fares, and what becomes of each
 -- payload byte.
-use Rattle.std.specs.Prelude.{◌≡◌, ℕ, ◌+◌, ◌/◌, ◌%◌, ◌^◌, ◌<◌, ◌≤◌, List, [], ◌∷◌, ◌++◌, map, length, take, ◌≢◌, nat_eq}
+use Rattle.std.specs.Prelude.{◌≡◌, ℕ, ◌+◌, ◌/◌, ◌%◌, ◌^◌, ◌<◌, ◌≤◌, List, [], ◌∷◌, ◌++◌, map, length, take, ◌≢◌, nat_eq, if◌then◌else◌}
 use mathlib.Core.List.{flatten}
-use Rattle.wire.specs.If.{if◌then◌else◌}
 use Rattle.packet.specs.Header.{pid_of}
 use Rattle.packet.specs.Ruling.{noneBefore}
 use Rattle.collector.specs.Rules.{Kind, in-hand, done, Story, count_of}

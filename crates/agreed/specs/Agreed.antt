@@ -2,8 +2,7 @@
 -- own. Document 01, "Content sheets", behind the table_id's one byte: "NIT, BAT, SDT, EIT: extension id 2, version 1,
 -- current 1, section number 1, last 1. SDT adds original_network_id 2. EIT adds transport_stream_id 2,
 -- original_network_id 2, .."
-use Rattle.std.specs.Prelude.{ℕ, ◌≡◌, List, false, get_or, eqb}
-use Rattle.wire.specs.If.{if◌then◌else◌}
+use Rattle.std.specs.Prelude.{ℕ, ◌≡◌, List, false, get_or, eqb, if◌then◌else◌}
 use Rattle.wire.specs.Bytes.{Bytes}
 use Rattle.wire.specs.Number.{number_at}
 use Rattle.head.specs.Head.{extension_in, version_in, is_current, number_in, last_in, has_no_sub_table}

@@ -1,6 +1,5 @@
 -- The collector's record and answer in numbers.
-use Rattle.std.specs.Prelude.{◌≡◌, Bool, true, false, not, ℕ, List, eqb}
-use Rattle.wire.specs.If.{if◌then◌else◌}
+use Rattle.std.specs.Prelude.{◌≡◌, Bool, true, false, not, ℕ, List, eqb, if◌then◌else◌}
 use Rattle.collector.specs.Rules.{Kind, pointer, accepted, rejected, broken, filler, skipped, done}
 use Rattle.collector.specs.Answer.{Reply, refused_with, repeated, taken}
 use Rattle.collector.specs.Answer as collector

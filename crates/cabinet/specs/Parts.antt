@@ -1,6 +1,5 @@
 -- What the parts of a section say in numbers: each id under its name in its table, and 0 for what the table does not have.
-use Rattle.std.specs.Prelude.{ℕ, Bool, List, get_or}
-use Rattle.wire.specs.If.{if◌then◌else◌}
+use Rattle.std.specs.Prelude.{ℕ, Bool, List, get_or, if◌then◌else◌}
 use Rattle.verdict.specs.Verdict.{is_accepted, number_of, place_of}
 use Rattle.tables.specs.Tables.{NIT, SDT, BAT, EIT, is_numbered, row_of}
 use Rattle.section.specs.Reading.{judged}

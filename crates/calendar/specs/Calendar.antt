@@ -1,6 +1,5 @@
 -- The Gregorian calendar, a day at a time.
-use Rattle.std.specs.Prelude.{Bool, [], ◌∷◌, ℕ, zero, suc, ◌+◌, ◌-◌, ◌%◌, eqb, ltb, get_or}
-use Rattle.wire.specs.If.{if◌then◌else◌}
+use Rattle.std.specs.Prelude.{Bool, [], ◌∷◌, ℕ, zero, suc, ◌+◌, ◌-◌, ◌%◌, eqb, ltb, get_or, if◌then◌else◌}
 use Rattle.wire.specs.Reading.{value, refused, ◌>>=◌}
 use Rattle.clock.specs.Fault.{Answered, numbered}
 use Rattle.clock.specs.Time.{day}

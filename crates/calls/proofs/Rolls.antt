@@ -10,7 +10,7 @@ use lib.ListN.{get_or}
 use lib.Dec.{eqb}
 use borrow.Author.Tests.{eqb-true}
 use Rattle.roll.specs.Answer.{Says, missing, complete, refusing}
-use Rattle.wire.specs.If.{if◌then◌else◌}
+use Rattle.std.specs.Prelude.{if◌then◌else◌}
 use Rattle.roll.specs.Marks.{segment_at, has, Whole}
 use Rattle.roll.proofs.Ends.{at_once, never_known}
 use Rattle.roll.proofs.Outcomes.{asked_no_refusal}

@@ -11,7 +11,7 @@ use borrow.Author.Tests.{ltb-true, ltb-false}
 use lib.Dec.{eqb, ltb}
 use lib.ListN.{get_or}
 use Rattle.wire.specs.Bytes.{Bytes}
-use Rattle.wire.specs.If.{if◌then◌else◌}
+use Rattle.std.specs.Prelude.{if◌then◌else◌}
 use Rattle.wire.specs.Reading.{Result, value, refused, ◌>>=◌}
 use Rattle.wire.specs.Number.{number, number_at}
 use Rattle.wire.specs.Digits.{digit, bcd_of, digit_from, NoneBad}

@@ -1,6 +1,5 @@
 -- The fields of a clock: two BCD digits in a byte, below a limit. The first argument is the place of the first byte.
-use Rattle.std.specs.Prelude.{◌≡◌, ℕ, ◌+◌, ◌<◌, ltb}
-use Rattle.wire.specs.If.{if◌then◌else◌}
+use Rattle.std.specs.Prelude.{◌≡◌, ℕ, ◌+◌, ◌<◌, ltb, if◌then◌else◌}
 use Rattle.wire.specs.Reading.{value, refused, ◌>>=◌}
 use Rattle.wire.specs.Digits.{bcd_of, bcd_show}
 use Rattle.clock.specs.Fault.{Answered, outOfRange, in_field, numbered}

@@ -1,6 +1,5 @@
 -- What is told of a field that is wrong, said of the bytes alone: no reading stands in here. A place counts in the bytes b.
-use Rattle.std.specs.Prelude.{ℕ, ◌+◌, ◌*◌, ◌<◌, ◌≤◌, ◌≡◌, ◌⊎◌, List, [], ◌∷◌, ◌++◌, eqb}
-use Rattle.wire.specs.If.{if◌then◌else◌}
+use Rattle.std.specs.Prelude.{ℕ, ◌+◌, ◌*◌, ◌<◌, ◌≤◌, ◌≡◌, ◌⊎◌, List, [], ◌∷◌, ◌++◌, eqb, if◌then◌else◌}
 use Rattle.wire.specs.Each.{Each}
 use Rattle.wire.specs.Number.{number_at, half_byte}
 use Rattle.wire.specs.Digits.{NoneBad, FirstBad}

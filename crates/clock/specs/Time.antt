@@ -1,7 +1,6 @@
 -- A time.
 use Prim.{Unit}
-use Rattle.std.specs.Prelude.{[], ◌∷◌, ℕ, ◌+◌, ◌≤◌, ltb, eqb}
-use Rattle.wire.specs.If.{if◌then◌else◌}
+use Rattle.std.specs.Prelude.{[], ◌∷◌, ℕ, ◌+◌, ◌≤◌, ltb, eqb, if◌then◌else◌}
 use Rattle.wire.specs.Reading.{value, refused, ◌>>=◌}
 use Rattle.wire.specs.Number.{number}
 use Rattle.wire.specs.Digits.{bcd_show}

@@ -1,7 +1,7 @@
 -- Laws that go through the kinds, or through the ways of a stretch's rest, one by one: the list of kinds has each once, and
 -- a record counts what it is made with.
 use Rattle.std.proofs.Common.{◌≡◌, ℕ, ◌+◌, ◌≤◌, Bool, false, List, [], ◌∷◌, refl, arith}
-use Rattle.wire.specs.If.{if◌then◌else◌}
+use Rattle.std.specs.Prelude.{if◌then◌else◌}
 use Rattle.collector.specs.Rules.{Kind, pointer, accepted, rejected, broken, by_kind, Fate, done, sameKind, kinds, sum_of, Rest, filling, skipping, breaking, kind_of}
 use Rattle.collector.specs.Collected.{bytes_counted, record_with}
 use Rattle.collector.specs.Inner.Stretch.{gain_of, gain_with, Small}

@@ -1,7 +1,7 @@
 -- Laws of marks: the bytes of one fate, what becomes of them when what was in hand is settled, and the laws of lists that they rest on.
 use Rattle.std.proofs.Common.{◌≡◌, ℕ, suc, ◌+◌, Bool, true, false, List, [], ◌∷◌, ◌++◌, map, length, sym, refl, ap, ◌∙◌, append_assoc, append-nil, arith}
 use mathlib.Core.List.{map-append, flatten}
-use Rattle.wire.specs.If.{if◌then◌else◌}
+use Rattle.std.specs.Prelude.{if◌then◌else◌}
 use Rattle.collector.specs.Rules.{Fate, in-hand, done, Mark, same_fate, out_of_hand, bytes_of, count_of, marked, settled}
 
 -- ---- lists

@@ -2,7 +2,7 @@
 -- the payload's story; the outcome is by the judge.
 use Rattle.std.proofs.Common.{◌≡◌, ℕ, ◌+◌, ◌-◌, ◌%◌, ◌^◌, ◌<◌, ◌≤◌, Bool, true, false, List, [], ◌∷◌, ◌++◌, map, length, take, drop, sym, refl, ap, ◌∙◌, subst, map-id, add-zero, zero-add, arith, length-append}
 use mathlib.Core.List.{flatten}
-use Rattle.wire.specs.If.{if◌then◌else◌}
+use Rattle.std.specs.Prelude.{if◌then◌else◌}
 use Rattle.copy.specs.Laid.{over}
 use Rattle.collector.specs.Rules.{Kind, pointer, accepted, rejected, broken, Fate, in-hand, done, Story, sameKind, same_fate, bytes_of, count_of, hand_of, marked, given, broken_off, holding, breaking, kind_of, joined, plain, goesOn, payload}
 use Rattle.section.specs.Reading.{judged}

@@ -1,7 +1,7 @@
 -- What the judge parts: each whole section is accepted or rejected, and the last rejected one leaves its number.
 use Rattle.std.proofs.Common.{◌≡◌, ℕ, ◌+◌, ◌≤◌, false, List, [], ◌∷◌, ◌++◌, length, sym, refl, ap, ◌∙◌, append-nil, map-id}
 use mathlib.Core.List.{flatten}
-use Rattle.wire.specs.If.{if◌then◌else◌}
+use Rattle.std.specs.Prelude.{if◌then◌else◌}
 use Rattle.verdict.specs.Verdict.{Said, is_accepted, number_of}
 use Rattle.verdict.specs.Verdict as Verdict
 use Rattle.section.specs.Reading.{judged}

@@ -4,7 +4,7 @@ use Rattle.std.proofs.Common.{◌≡◌, ℕ, ◌+◌, ◌-◌, ◌<◌, ◌≤�
 use mathlib.Core.Bool.{false≢true}
 use mathlib.Core.List.{flatten}
 use lib.Seq.{take-append_seam, drop-append-add}
-use Rattle.wire.specs.If.{if◌then◌else◌}
+use Rattle.std.specs.Prelude.{if◌then◌else◌}
 use Rattle.wire.specs.Each.{Each}
 use Rattle.wire.proofs.EachLaws.{each_of}
 use Rattle.copy.specs.Laid.{over}

@@ -2,7 +2,7 @@
 use Rattle.std.proofs.Common.{◌≡◌, ℕ, zero, suc, ◌+◌, ◌-◌, ◌<◌, ◌≤◌, Bool, true, false, eqb, List, [], ◌∷◌, ◌++◌, length, get_or, take, drop, sym, refl, ap, ◌∙◌, subst, ⊎_elim, append_assoc, append-nil, arith, length-append, length-drop, drop_of_length-le, length-take-le, take_all, drop-cons, drop-drop, eq-eqb, ne_eqb}
 use mathlib.Core.List.{flatten}
 use lib.Seq.{paste}
-use Rattle.wire.specs.If.{if◌then◌else◌}
+use Rattle.std.specs.Prelude.{if◌then◌else◌}
 use Rattle.wire.specs.Sections.{total_of}
 use Rattle.copy.specs.Laid.{over, laid}
 use Rattle.copy.proofs.LaidLaws.{laid_none, laid_long}

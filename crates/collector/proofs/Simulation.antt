@@ -3,7 +3,7 @@
 use Rattle.std.proofs.Common.{◌≡◌, ℕ, zero, suc, ◌+◌, Bool, true, false, eqb, List, [], ◌∷◌, ◌++◌, map, length, take, drop, sym, refl, ap, ◌∙◌, subst, append_assoc, map-id, arith, length-append}
 use mathlib.Core.List.{map-append}
 use mathlib.Core.Option.{Option}
-use Rattle.wire.specs.If.{if◌then◌else◌}
+use Rattle.std.specs.Prelude.{if◌then◌else◌}
 use Rattle.packet.specs.Ruling.{joins, Carried}
 use Rattle.collector.specs.Rules.{Kind, Fate, pointer, broken, filler, done, in-hand, Story, same_fate, bytes_of, count_of, hand_of, given, settled, broken_off, finished, kind_of, Mode, begin, inside, outside, filling, Next, Size, going, whole, too_long, size_of, plain, begun, grown, resumed, joined, byte_in, stretch, goesOn, sections_in, payload, story_after}
 use Rattle.collector.proofs.MarkLaws.{bytes_of_more, settled_hand, settled_count}

@@ -3,7 +3,7 @@
 -- gives no byte the fate of a pointer.
 use Rattle.std.proofs.Common.{◌≡◌, ℕ, suc, ◌+◌, ◌≤◌, Bool, true, false, eqb, ltb, List, [], ◌∷◌, ◌++◌, map, length, sym, refl, ap, ◌∙◌, subst, append_assoc, append-nil, map-id, arith, length-append, ltb-false, eq-eqb, eqb-true}
 use mathlib.Core.List.{map-append, flatten}
-use Rattle.wire.specs.If.{if◌then◌else◌}
+use Rattle.std.specs.Prelude.{if◌then◌else◌}
 use Rattle.wire.proofs.IfLaws.{if-case}
 use Rattle.wire.specs.Each.{Each}
 use Rattle.wire.specs.Sections.{total_of, WholeSection}

@@ -2,7 +2,7 @@
 use Rattle.std.proofs.Common.{◌≡◌, ℕ, ◌+◌, ◌-◌, ◌<◌, ◌≤◌, Bool, true, false, List, [], ◌∷◌, ◌++◌, length, take, drop, sym, refl, ap, ◌∙◌, subst, ⊎_elim, arith, length-drop, length-take-le, take-take}
 use mathlib.Core.List.{flatten}
 use lib.Seq.{paste, take-append-add}
-use Rattle.wire.specs.If.{if◌then◌else◌}
+use Rattle.std.specs.Prelude.{if◌then◌else◌}
 use Rattle.wire.specs.Sections.{total_of, Unfinished}
 use Rattle.copy.specs.Laid.{over, laid}
 use Rattle.copy.proofs.LaidLaws.{laid_none}

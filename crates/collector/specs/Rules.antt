@@ -1,9 +1,8 @@
 -- Document 01's rules for the payload of the packets taken, a byte at a time, and the fate that each byte has "as they stand after the packets
 -- so far". They rest on the packets alone: no record, no hold, no room. They look at a byte's value and at nothing else, so a byte may be any
 -- thing that has a value; a run of calls takes bytes that know their packet, and one call takes bare numbers.
-use Rattle.std.specs.Prelude.{ℕ, ◌+◌, Bool, true, false, ltb, List, [], ◌∷◌, ◌++◌, map, length, take, drop, ◌==◌, nat_eq, nat_lt}
+use Rattle.std.specs.Prelude.{ℕ, ◌+◌, Bool, true, false, ltb, List, [], ◌∷◌, ◌++◌, map, length, take, drop, ◌==◌, nat_eq, nat_lt, if◌then◌else◌}
 use Rattle.std.proofs.Math.Option.{Option}
-use Rattle.wire.specs.If.{if◌then◌else◌}
 use Rattle.wire.specs.Sections.{total_of}
 use Rattle.packet.specs.Ruling.{joins, Carried}
 

@@ -6,7 +6,7 @@ use native.Mathlib.Omega.{arith}
 use borrow.Author.Tests.{leb-true, eq-eqb}
 use lib.ListN.{length, get_or, length-append, get_or-append}
 use lib.Seq.{get_or_at, get_or-append-add}
-use Rattle.wire.specs.If.{if◌then◌else◌}
+use Rattle.std.specs.Prelude.{if◌then◌else◌}
 use Rattle.wire.specs.Bytes.{len12, len12_at}
 use Rattle.crc.specs.Crc.{crc, bytes_of}
 use Rattle.crc.proofs.Closes.{closes}

@@ -9,7 +9,7 @@ use borrow.Author.Tests.{le-leb, eqb-true, eqb-false}
 use lib.ListN.{length, get_or, take, drop, length-append, length-drop, take-append-drop, get_or-append}
 use lib.Seq.{length-take-le, get_or-drop, get_or-take, drop-drop, drop-length, drop-cons}
 use lib.Dec.{eqb, leb}
-use Rattle.wire.specs.If.{if◌then◌else◌}
+use Rattle.std.specs.Prelude.{if◌then◌else◌}
 use Rattle.wire.specs.Bytes.{Bytes, len12, len12_at}
 use Rattle.wire.proofs.PartLaws.{two_front}
 use Rattle.crc.specs.Crc.{crc, bytes_of}

@@ -1,7 +1,6 @@
 -- "if its reserved bits were ones"
 use Prim.{Unit}
-use Rattle.std.specs.Prelude.{ℕ, ◌-◌, ◌^◌, ◌≡◌, List, [], ◌∷◌}
-use Rattle.wire.specs.If.{if◌then◌else◌}
+use Rattle.std.specs.Prelude.{ℕ, ◌-◌, ◌^◌, ◌≡◌, List, [], ◌∷◌, if◌then◌else◌}
 use Rattle.wire.specs.Reading.{Reading, value, refused}
 use Rattle.forms.specs.Fields.{Field, kept, reserved}
 use Rattle.sheet.specs.Content.{Item, plain, numbers, packed, bare, frame, head_of, entry_of, TableShape, shape_of, has_top, side_of, Entry, Content, fields_in, beside_in, frame_of, head_in, top_in, second_in, entries_in, row_in}

@@ -8,7 +8,7 @@ use borrow.Author.Tests.{le-leb, lt-leb, leb-true}
 use lib.ListN.{length, drop, take, length-drop}
 use lib.Seq.{paste, length-paste, take-paste, drop-paste, drop_at, length-take-le}
 use lib.Dec.{leb}
-use Rattle.wire.specs.If.{if◌then◌else◌}
+use Rattle.std.specs.Prelude.{if◌then◌else◌}
 use Rattle.wire.proofs.IfLaws.{true_not_false}
 use Rattle.copy.specs.Move.{moves_down, moved_down, moves_up, movedUp, Moved, MovesDown, MovesUp}
 use Rattle.copy.proofs.Moves.{before, part}

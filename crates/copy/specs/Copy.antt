@@ -1,7 +1,6 @@
 -- A copy of bytes from one list into another.
-use Rattle.std.specs.Prelude.{ℕ, ◌+◌, List, Bool, false, length, drop, leb}
+use Rattle.std.specs.Prelude.{ℕ, ◌+◌, List, Bool, false, length, drop, leb, if◌then◌else◌}
 use Rattle.std.proofs.Math.Seq.{paste}
-use Rattle.wire.specs.If.{if◌then◌else◌}
 
 -- the bytes that are moved at once
 abbrev pub block : Bool → ℕ

@@ -1,7 +1,6 @@
 -- Bytes moved within one list: they go from one place to another as they were before, and every other byte stays.
-use Rattle.std.specs.Prelude.{ℕ, ◌+◌, ◌≤◌, ◌≡◌, List, Bool, false, length, take, drop, leb}
+use Rattle.std.specs.Prelude.{ℕ, ◌+◌, ◌≤◌, ◌≡◌, List, Bool, false, length, take, drop, leb, if◌then◌else◌}
 use Rattle.std.proofs.Math.Seq.{paste}
-use Rattle.wire.specs.If.{if◌then◌else◌}
 
 -- n elements of l from one place on can go down to another: it is no higher, and l has them
 unfoldable pub moves_down : List ℕ → ℕ → ℕ → ℕ → Bool

@@ -7,7 +7,7 @@ use native.Mathlib.Omega.{arith}
 use lib.Dec.{eqb, lit<}
 use lib.Pow.{pow_pos, high, low, shl_lt, shr-shr, field, mod-mod-pow}
 use lib.Bits.{bit_xor, xor_shr, xor_mod, xor_lt, xor_comm, xor_self, xor_zero_r}
-use Rattle.wire.specs.If.{if◌then◌else◌}
+use Rattle.std.specs.Prelude.{if◌then◌else◌}
 use Rattle.crc.specs.Crc.{poly, feed, feed_bits}
 use Rattle.moves.proofs.Xor.{◌⊕◌, xor4, xor_shl, xor_zero_eq}
 

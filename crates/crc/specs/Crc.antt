@@ -1,8 +1,7 @@
 -- CRC_32 of ISO/IEC 13818-1, a bit at a time. The register is a number below 2 ^ 32.
 -- "CRC_32: polynomial 0x04C11DB7, register preset to ones, high bit first, zero after the whole section."
-use Rattle.std.specs.Prelude.{List, [], ◌∷◌, ℕ, zero, suc, ◌-◌, ◌*◌, ◌/◌, ◌%◌, ◌^◌, eqb}
+use Rattle.std.specs.Prelude.{List, [], ◌∷◌, ℕ, zero, suc, ◌-◌, ◌*◌, ◌/◌, ◌%◌, ◌^◌, eqb, if◌then◌else◌}
 use Rattle.std.specs.Int.Bits.{bit_xor}
-use Rattle.wire.specs.If.{if◌then◌else◌}
 
 -- "polynomial 0x04C11DB7"
 abbrev pub poly : ℕ

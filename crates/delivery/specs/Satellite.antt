@@ -1,6 +1,5 @@
 -- 0x43 satellite delivery system: EN 300 468, clause 6.2.13.2.
-use Rattle.std.specs.Prelude.{List, [], ◌∷◌, ℕ, ◌*◌, ◌^◌, ◌<◌, eqb}
-use Rattle.wire.specs.If.{if◌then◌else◌}
+use Rattle.std.specs.Prelude.{List, [], ◌∷◌, ℕ, ◌*◌, ◌^◌, ◌<◌, eqb, if◌then◌else◌}
 use Rattle.wire.specs.Reading.{value, refused, ◌>>=◌}
 use Rattle.wire.specs.Digits.{bcd_show}
 use Rattle.forms.specs.Fields.{Field, kept, reserved}

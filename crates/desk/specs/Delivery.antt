@@ -1,6 +1,5 @@
 -- The fields of the delivery systems, as a reading gives them to C: flags are 0 or 1, and DVB-S has no roll_off. Any other number is 112.
-use Rattle.std.specs.Prelude.{Bool, List, [], ◌∷◌, ℕ, eqb, ltb}
-use Rattle.wire.specs.If.{if◌then◌else◌}
+use Rattle.std.specs.Prelude.{Bool, List, [], ◌∷◌, ℕ, eqb, ltb, if◌then◌else◌}
 use Rattle.wire.specs.Reading.{Reading, value, refused, ◌>>=◌}
 use Rattle.writing.specs.Fill.{below}
 use Rattle.delivery.specs.declared.cable.Cable as cable

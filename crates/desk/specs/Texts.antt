@@ -1,6 +1,5 @@
 -- The fields of the descriptors that hold texts, as a reading gives them to C: the texts are parts of bytes that are lent.
-use Rattle.std.specs.Prelude.{Bool, not, List, ℕ, ◌+◌, ltb, length, take, drop}
-use Rattle.wire.specs.If.{if◌then◌else◌}
+use Rattle.std.specs.Prelude.{Bool, not, List, ℕ, ◌+◌, ltb, length, take, drop, if◌then◌else◌}
 use Rattle.wire.specs.Reading.{Reading, value, refused, ◌>>=◌}
 use Rattle.cabinet.specs.declared.text_readings.Part.{Part}
 use Rattle.cabinet.specs.declared.text_readings.Service.{Service}

@@ -1,7 +1,6 @@
 -- A form of a value in bytes: how it is read from the front of a list, and how it is shown; Ok says which values it can show.
 use Prim.{Unit}
-use Rattle.std.specs.Prelude.{ℕ, ◌≡◌, List, [], ◌∷◌, ◌++◌, Bool, true, length, take, drop, leb}
-use Rattle.wire.specs.If.{if◌then◌else◌}
+use Rattle.std.specs.Prelude.{ℕ, ◌≡◌, List, [], ◌∷◌, ◌++◌, Bool, true, length, take, drop, leb, if◌then◌else◌}
 use Rattle.wire.specs.Reading.{Reading, value, refused, ◌>>=◌}
 
 -- what a reading from the front gives: a value and the bytes behind it, or a refusal

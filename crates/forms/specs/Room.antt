@@ -1,6 +1,5 @@
 -- Bytes put into a lent room.
-use Rattle.std.specs.Prelude.{ℕ, ◌+◌, ◌-◌, ◌^◌, List, ◌++◌, length, take, drop, leb}
-use Rattle.wire.specs.If.{if◌then◌else◌}
+use Rattle.std.specs.Prelude.{ℕ, ◌+◌, ◌-◌, ◌^◌, List, ◌++◌, length, take, drop, leb, if◌then◌else◌}
 
 -- the room o with the bytes of l at the place `to`, where they fit; its other bytes stay
 unfoldable pub put : List ℕ → ℕ → List ℕ → List ℕ

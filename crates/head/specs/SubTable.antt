@@ -1,6 +1,5 @@
 -- "A sub-table is table_id and extension, for SDT also original_network_id, for EIT also both transport ids."
-use Rattle.std.specs.Prelude.{ℕ, List, Bool, ◌&&◌, get_or, eqb}
-use Rattle.wire.specs.If.{if◌then◌else◌}
+use Rattle.std.specs.Prelude.{ℕ, List, Bool, ◌&&◌, get_or, eqb, if◌then◌else◌}
 use Rattle.wire.specs.Number.{number_at}
 use Rattle.tables.specs.Tables.{SDT, EIT, row_of}
 use Rattle.head.specs.Head.{extension_in}

@@ -6,7 +6,7 @@ use mathlib.Core.List.{List, [], ◌∷◌, flatten}
 use Prim.Native.Nat.{ℕ, ◌+◌, ◌%◌, ◌^◌}
 use native.Mathlib.Omega.{arith}
 use lib.ListN.{length, drop, get_or, replicate}
-use Rattle.wire.specs.If.{if◌then◌else◌}
+use Rattle.std.specs.Prelude.{if◌then◌else◌}
 use Rattle.packet.specs.Header.{start_flag, control}
 use Rattle.packet.specs.Ruling.{joins, repeats}
 use Rattle.collector.specs.Rules.{size_of}

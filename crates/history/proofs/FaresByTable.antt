@@ -10,7 +10,7 @@ use Prim.Native.Nat.{ℕ}
 use native.Mathlib.Omega.{arith}
 use lib.Dec.{ltb, eqb}
 use borrow.Author.Tests.{eqb-true, eqb-false}
-use Rattle.wire.specs.If.{if◌then◌else◌}
+use Rattle.std.specs.Prelude.{if◌then◌else◌}
 use Rattle.wire.specs.Each.{Each}
 use Rattle.wire.proofs.IfLaws.{true_not_false}
 use Rattle.packet.specs.Header.{start_flag, control, counter_of, discontinuity, payload_from}

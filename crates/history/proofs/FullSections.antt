@@ -6,7 +6,7 @@ use mathlib.Core.List.{List, flatten}
 use Prim.Native.Nat.{ℕ}
 use lib.ListN.{drop}
 use lib.Dec.{eqb}
-use Rattle.wire.specs.If.{if◌then◌else◌}
+use Rattle.std.specs.Prelude.{if◌then◌else◌}
 use Rattle.wire.specs.Trail.{trail, run}
 use Rattle.crc.proofs.Closes.{closes}
 use Rattle.tables.specs.Tables.{EIT, row_of, row_at, cell, first, holds}

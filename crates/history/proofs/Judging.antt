@@ -6,7 +6,7 @@ use Prim.Native.Nat.{ℕ, ◌+◌, ◌%◌, ◌^◌, ◌≤◌, ◌<◌}
 use native.Mathlib.Omega.{arith}
 use lib.ListN.{length, take, length-append, length-take, length-drop}
 use Rattle.wire.specs.Each.{Each}
-use Rattle.wire.specs.If.{if◌then◌else◌}
+use Rattle.std.specs.Prelude.{if◌then◌else◌}
 use Rattle.wire.specs.Sections.{WholeSection}
 use Rattle.wire.proofs.IfLaws.{if-case, true_not_false}
 use Rattle.packet.specs.Ruling.{mark_with, Carried, repeats, Ruling, repeated, takes, load_of, ruled_by, ruling}

@@ -9,7 +9,7 @@ use lib.ListN.{length, take, get_or}
 use lib.Seq.{length-take-le}
 use lib.Dec.{ltb, leb, eqb}
 use borrow.Author.Tests.{leb-true, le-leb, ltb-false, eq-eqb, ne_eqb, eqb-true, eqb-false}
-use Rattle.wire.specs.If.{if◌then◌else◌}
+use Rattle.std.specs.Prelude.{if◌then◌else◌}
 use Rattle.wire.specs.Each.{Each}
 use Rattle.copy.specs.Laid.{over}
 use Rattle.packet.specs.Header.{start_flag, control, counter_of, adaptation, bit_of_field, discontinuity, payload_from, payload_of}

@@ -8,7 +8,7 @@ use Prim.Native.Nat.{ℕ, ◌+◌}
 use native.Mathlib.Omega.{arith}
 use lib.ListN.{length, take, drop}
 use lib.Dec.{eqb}
-use Rattle.wire.specs.If.{if◌then◌else◌}
+use Rattle.std.specs.Prelude.{if◌then◌else◌}
 use Rattle.packet.specs.Ruling.{joins, Carried}
 use Rattle.verdict.specs.Verdict.{Said, refused}
 use Rattle.verdict.specs.Verdict as Verdict

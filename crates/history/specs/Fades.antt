@@ -1,7 +1,6 @@
 -- Request (xii) at work: histories in pairs, computed. They show that its premises can be met; that what it leaves open does differ, and that each of
 -- its premises is needed, for what would be stronger is false; and that each statement shuts out a wrong collector.
-use Rattle.std.specs.Prelude.{◌≡◌, refl, Bool, true, false, ◌||◌, List, [], ◌∷◌, ◌++◌, map, ℕ, length, take, drop, replicate, ltb}
-use Rattle.wire.specs.If.{if◌then◌else◌}
+use Rattle.std.specs.Prelude.{◌≡◌, refl, Bool, true, false, ◌||◌, List, [], ◌∷◌, ◌++◌, map, ℕ, length, take, drop, replicate, ltb, if◌then◌else◌}
 use Rattle.packet.specs.Ruling.{joins, Ruling, refuses, repeated, bare, takes, ruling}
 use Rattle.collector.specs.Rules.{Kind, pointer, done, Story, given, holding, plain, joined, goesOn, sections_in}
 use Rattle.collector.specs.Judged.{by_judge}

@@ -2,10 +2,9 @@
 -- payload and the start flag, everything delivered from beyond its pointer's target is the same, now and for all packets that follow alike, and so
 -- are last counter, mark and bytes in hand. The byte counters, and the last rejected number until the next rejection of a section from beyond that
 -- target, may differ."
-use Rattle.std.specs.Prelude.{◌≡◌, Bool, true, false, ◌⊎◌, ℕ, ◌+◌, ◌%◌, ◌^◌, ◌≤◌, length, take, drop, ltb}
+use Rattle.std.specs.Prelude.{◌≡◌, Bool, true, false, ◌⊎◌, ℕ, ◌+◌, ◌%◌, ◌^◌, ◌≤◌, length, take, drop, ltb, if◌then◌else◌}
 use mathlib.Core.List.{List, [], ◌∷◌, ◌++◌, map, flatten}
 use Rattle.std.proofs.Math.Option.{some}
-use Rattle.wire.specs.If.{if◌then◌else◌}
 use Rattle.wire.specs.Each.{Each}
 use Rattle.packet.specs.Header.{start_flag, pid_of, control, counter_of, discontinuity, payload_from, pointer_of}
 use Rattle.packet.specs.Ruling.{Before, mark_with, joins, Carried}

@@ -1,8 +1,7 @@
 -- What a whole section comes to is a parameter of the rules: here a second value of it, by which sections of an even length are accepted and
 -- the others rejected. A story that has both kinds, and what holds of any packets by the same laws.
-use Rattle.std.specs.Prelude.{◌≡◌, true, false, ℕ, ◌%◌, length, replicate, eqb}
+use Rattle.std.specs.Prelude.{◌≡◌, true, false, ℕ, ◌%◌, length, replicate, eqb, if◌then◌else◌}
 use mathlib.Core.List.{List, [], ◌∷◌, ◌++◌, map, flatten}
-use Rattle.wire.specs.If.{if◌then◌else◌}
 use Rattle.wire.specs.Each.{Each}
 use Rattle.packet.specs.Ruling.{Carried}
 use Rattle.collector.specs.Rules.{Kind, pointer, accepted, rejected, filler, done, sum_of, Story, bytes_of, count_of, sections_of}

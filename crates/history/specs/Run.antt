@@ -1,7 +1,6 @@
 -- A sequence of calls of a collector, with any packet and any out room at each, and how the packets of one fare by the
 -- packets alone.
-use Rattle.std.specs.Prelude.{◌≡◌, ◌⊎◌, Bool, true, false, ◌||◌, List, [], ◌∷◌, ◌++◌, map, ℕ, zero, suc, ◌+◌, length, take, drop, ltb, eqb}
-use Rattle.wire.specs.If.{if◌then◌else◌}
+use Rattle.std.specs.Prelude.{◌≡◌, ◌⊎◌, Bool, true, false, ◌||◌, List, [], ◌∷◌, ◌++◌, map, ℕ, zero, suc, ◌+◌, length, take, drop, ltb, eqb, if◌then◌else◌}
 use Rattle.wire.specs.Each.{Each}
 use Rattle.packet.specs.Header.{start_flag, control, counter_of, discontinuity, payload_from}
 use Rattle.wire.specs.Sections.{total_of}

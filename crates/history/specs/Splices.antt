@@ -1,8 +1,7 @@
 -- Request (ix) of one call, as statements about any collector, with any record, hold, out room and packet: "The record gains
 -- a mark. An adaptation field of at least one byte with that bit set, in a packet not refused, sets it; the next packet with
 -- payload, the marked one itself if it has any, is never "repeated", breaks off what is in hand and clears it."
-use Rattle.std.specs.Prelude.{◌≡◌, Bool, true, false, List, ◌∷◌, ◌⊎◌, ◌↔◌, ℕ, ◌+◌, ◌/◌, ◌%◌, ◌^◌, ◌≤◌, length, get_or}
-use Rattle.wire.specs.If.{if◌then◌else◌}
+use Rattle.std.specs.Prelude.{◌≡◌, Bool, true, false, List, ◌∷◌, ◌⊎◌, ◌↔◌, ℕ, ◌+◌, ◌/◌, ◌%◌, ◌^◌, ◌≤◌, length, get_or, if◌then◌else◌}
 use Rattle.wire.specs.Each.{Each}
 use Rattle.packet.specs.Refusals.{refusals}
 use Rattle.collector.specs.Refusals.{cannot_stand, too_small}

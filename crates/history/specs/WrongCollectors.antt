@@ -1,8 +1,7 @@
 -- The wrong collectors that document 01's last chapter names, four more, four that take no notice of the judge or of what it says last, and the
 -- packets on which each shows itself.
-use Rattle.std.specs.Prelude.{◌≡◌, false, ◌&&◌, ℕ, ◌+◌, ◌%◌, ◌^◌, length, take, drop, get_or, replicate, eqb}
+use Rattle.std.specs.Prelude.{◌≡◌, false, ◌&&◌, ℕ, ◌+◌, ◌%◌, ◌^◌, length, take, drop, get_or, replicate, eqb, if◌then◌else◌}
 use mathlib.Core.List.{List, [], ◌∷◌, ◌++◌, flatten}
-use Rattle.wire.specs.If.{if◌then◌else◌}
 use Rattle.packet.specs.Header.{control, counter_of, discontinuity}
 use Rattle.packet.specs.Ruling.{Ruling, ruling}
 use Rattle.packet.specs.Ruling as Ruled

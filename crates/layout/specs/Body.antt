@@ -1,6 +1,5 @@
 -- The tag and the length in front of a body.
-use Rattle.std.specs.Prelude.{Bool, List, [], ◌∷◌, ℕ, eqb, length, drop}
-use Rattle.wire.specs.If.{if◌then◌else◌}
+use Rattle.std.specs.Prelude.{Bool, List, [], ◌∷◌, ℕ, eqb, length, drop, if◌then◌else◌}
 use Rattle.wire.specs.Reading.{value, refused, ◌>>=◌}
 use Rattle.clock.specs.Fault.{Answered, plain}
 use Rattle.layout.specs.Refusal.{numbered}

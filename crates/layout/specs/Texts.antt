@@ -1,6 +1,5 @@
 -- Two texts, each after the byte that gives its length.
-use Rattle.std.specs.Prelude.{◌≡◌, List, ◌∷◌, ◌++◌, ℕ, ◌+◌, eqb, length, get_or, take, drop}
-use Rattle.wire.specs.If.{if◌then◌else◌}
+use Rattle.std.specs.Prelude.{◌≡◌, List, ◌∷◌, ◌++◌, ℕ, ◌+◌, eqb, length, get_or, take, drop, if◌then◌else◌}
 use Rattle.wire.specs.Reading.{value, refused}
 use Rattle.clock.specs.Fault.{Answered, plain}
 use Rattle.layout.specs.Refusal.{part_at, bytes_of}

@@ -1,6 +1,5 @@
 -- Descriptors, one after the other: "descriptors (tag, length, body)".
-use Rattle.std.specs.Prelude.{ℕ, ◌+◌, ◌-◌, ◌≡◌, List, [], ◌∷◌, length, get_or, take, drop, leb, eqb}
-use Rattle.wire.specs.If.{if◌then◌else◌}
+use Rattle.std.specs.Prelude.{ℕ, ◌+◌, ◌-◌, ◌≡◌, List, [], ◌∷◌, length, get_or, take, drop, leb, eqb, if◌then◌else◌}
 use Rattle.wire.specs.Trail.{Pace, on, stop, Trail, trail}
 use Rattle.verdict.specs.Verdict.{Said, accepted, refused}
 use Rattle.loops.specs.declared.walk.Step.{Step}

@@ -2,7 +2,7 @@
 use mathlib.Core.Path.{◌≡◌, refl, sym, ap, ◌∙◌}
 use Prim.Native.Nat.{ℕ}
 use lib.Dec.{eqb}
-use Rattle.wire.specs.If.{if◌then◌else◌}
+use Rattle.std.specs.Prelude.{if◌then◌else◌}
 use Rattle.packet.specs.Refusals.{Judged, refuse, bare, has_payload}
 use Rattle.packet.specs.Judgement.{number_of, meant}
 use Rattle.packet.specs.declared.Refusal.{Refusal}

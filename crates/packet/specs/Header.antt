@@ -1,7 +1,6 @@
 -- The header of a packet, as document 01 condenses ISO/IEC 13818-1, and what follows the header. A packet is its list of bytes; a byte that
 -- is not there reads as 0, and refusal 41 comes before any of these is looked at.
-use Rattle.std.specs.Prelude.{Bool, ◌&&◌, List, ℕ, ◌+◌, ◌*◌, ◌/◌, ◌%◌, drop, get_or, eqb, leb}
-use Rattle.wire.specs.If.{if◌then◌else◌}
+use Rattle.std.specs.Prelude.{Bool, ◌&&◌, List, ℕ, ◌+◌, ◌*◌, ◌/◌, ◌%◌, drop, get_or, eqb, leb, if◌then◌else◌}
 
 -- byte 1, from its high bit: transport_error_indicator, the start flag, transport_priority (never read), five bits of the PID
 abbrev pub transport_error : List ℕ → Bool

@@ -1,7 +1,6 @@
 -- Document 01's refusals 41 to 49, in their order, and what a packet is that none of them meets.
-use Rattle.std.specs.Prelude.{Bool, not, ◌&&◌, ◌||◌, List, [], ◌∷◌, ℕ, ◌+◌, length, get_or, ltb, eqb}
+use Rattle.std.specs.Prelude.{Bool, not, ◌&&◌, ◌||◌, List, [], ◌∷◌, ℕ, ◌+◌, length, get_or, ltb, eqb, if◌then◌else◌}
 use Rattle.std.proofs.Math.Option.{Option, none, some}
-use Rattle.wire.specs.If.{if◌then◌else◌}
 use Rattle.packet.specs.Header.{transport_error, start_flag, pid_of, scrambling, control, counter_of, adaptation, discontinuity, payload_from, payload_of, pointer_of}
 
 -- ---- the table

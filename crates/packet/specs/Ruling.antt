@@ -1,7 +1,6 @@
 -- What comes of a packet after the packets before it: refused, repeated, or taken.
-use Rattle.std.specs.Prelude.{Bool, true, false, not, ◌&&◌, ◌||◌, List, ℕ, ◌+◌, ◌%◌, drop, eqb}
+use Rattle.std.specs.Prelude.{Bool, true, false, not, ◌&&◌, ◌||◌, List, ℕ, ◌+◌, ◌%◌, drop, eqb, if◌then◌else◌}
 use Rattle.std.proofs.Math.Option.{Option, none, some}
-use Rattle.wire.specs.If.{if◌then◌else◌}
 use Rattle.packet.specs.Refusals.{Judged, refuse, has_payload, judged}
 use Rattle.packet.specs.Refusals as Refusals
 

@@ -1,6 +1,5 @@
 -- Descriptors in turn: "descriptors (tag, length, body)".
-use Rattle.std.specs.Prelude.{ℕ, ◌+◌, true, false, List, get_or, leb}
-use Rattle.wire.specs.If.{if◌then◌else◌}
+use Rattle.std.specs.Prelude.{ℕ, ◌+◌, true, false, List, get_or, leb, if◌then◌else◌}
 use Rattle.parts.specs.Parts.{part, no_part, within, behind}
 use Rattle.parts.specs.declared.Part.{Part}
 use Rattle.parts.specs.declared.descriptors.Descriptor.{Descriptor}

@@ -1,6 +1,5 @@
 -- Entries in turn: "An entry's fixed bytes end in its own loop length."
-use Rattle.std.specs.Prelude.{ℕ, ◌+◌, ◌-◌, true, false, List, leb, eqb}
-use Rattle.wire.specs.If.{if◌then◌else◌}
+use Rattle.std.specs.Prelude.{ℕ, ◌+◌, ◌-◌, true, false, List, leb, eqb, if◌then◌else◌}
 use Rattle.wire.specs.Bytes.{len12_at}
 use Rattle.section.specs.Reading.{row_for}
 use Rattle.parts.specs.Parts.{part, no_part, within, behind}

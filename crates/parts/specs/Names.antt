@@ -1,7 +1,6 @@
 -- What stands in an entry's fixed bytes, by name: EN 300 468, clause 5.2; and times and durations out of their bytes. A byte that is not
 -- there reads as 0.
-use Rattle.std.specs.Prelude.{ℕ, ◌+◌, Bool, ◌||◌, List, get_or, ltb, eqb}
-use Rattle.wire.specs.If.{if◌then◌else◌}
+use Rattle.std.specs.Prelude.{ℕ, ◌+◌, Bool, ◌||◌, List, get_or, ltb, eqb, if◌then◌else◌}
 use Rattle.wire.specs.Number.{number_at}
 use Rattle.clock.specs.Fault.{Answered}
 use Rattle.clock.specs.Time.{time_of}

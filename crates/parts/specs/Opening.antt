@@ -1,6 +1,5 @@
 -- Where the time, the top loop and the entries of a section stand that the judge accepts; nothing of any other.
-use Rattle.std.specs.Prelude.{ℕ, ◌+◌, ◌-◌, ◌≡◌, List, length, get_or, eqb}
-use Rattle.wire.specs.If.{if◌then◌else◌}
+use Rattle.std.specs.Prelude.{ℕ, ◌+◌, ◌-◌, ◌≡◌, List, length, get_or, eqb, if◌then◌else◌}
 use Rattle.wire.specs.Bytes.{len12_at}
 use Rattle.verdict.specs.Verdict.{told, is_accepted}
 use Rattle.tables.specs.Tables.{is_numbered, row_of}

@@ -1,6 +1,5 @@
 -- Sections in turn, which stand in a room end to end: three bytes, and as many as section_length says.
-use Rattle.std.specs.Prelude.{ℕ, ◌+◌, ◌≤◌, ◌≡◌, true, false, List, [], ◌∷◌, length, leb}
-use Rattle.wire.specs.If.{if◌then◌else◌}
+use Rattle.std.specs.Prelude.{ℕ, ◌+◌, ◌≤◌, ◌≡◌, true, false, List, [], ◌∷◌, length, leb, if◌then◌else◌}
 use Rattle.wire.specs.Bytes.{len12_at}
 use Rattle.parts.specs.Parts.{part, no_part, within, behind, Is}
 use Rattle.parts.specs.declared.Part.{Part}

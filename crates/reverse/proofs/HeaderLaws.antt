@@ -7,7 +7,7 @@ use native.Mathlib.Omega.{arith}
 use lib.ListN.{length, drop, length-append}
 use lib.Dec.{leb, eqb}
 use borrow.Author.Tests.{leb-false, eqb-true, eqb-false, lt-leb, eq-eqb, ne_eqb}
-use Rattle.wire.specs.If.{if◌then◌else◌}
+use Rattle.std.specs.Prelude.{if◌then◌else◌}
 use Rattle.packet.specs.Header.{transport_error, start_flag, pid_of, scrambling, control, counter_of, adaptation, bit_of_field, discontinuity, payload_from, payload_of}
 use Rattle.writer.specs.Packets.{header_of}
 

@@ -8,7 +8,7 @@ use native.Mathlib.Omega.{arith}
 use lib.ListN.{length, take, drop, replicate, length-append, length-take, length-map, length-replicate, take-append-drop}
 use lib.Seq.{take_at, take-append-add, take-append-le}
 use lib.Dec.{leb}
-use Rattle.wire.specs.If.{if◌then◌else◌}
+use Rattle.std.specs.Prelude.{if◌then◌else◌}
 use Rattle.wire.specs.Each.{Each}
 use Rattle.wire.proofs.EachLaws.{each_append, each_take}
 use Rattle.collector.proofs.ByteRuns.{lt_or_ge}

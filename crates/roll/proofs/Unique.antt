@@ -2,7 +2,7 @@
 use mathlib.Core.Path.{◌≡◌, refl, sym, ◌∙◌, ap, ap₂}
 use lib.Dec.{eqb}
 use mathlib.Core.Bool.{false}
-use Rattle.wire.specs.If.{if◌then◌else◌}
+use Rattle.std.specs.Prelude.{if◌then◌else◌}
 use Rattle.verdict.specs.Verdict.{told, number_of}
 use Rattle.verdict.proofs.Unique.{verdict_of, verdict_back}
 use Rattle.verdict.specs.declared.Verdict.{Verdict}

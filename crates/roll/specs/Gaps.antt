@@ -1,6 +1,5 @@
 -- One segment: how many of its numbers must come, and the first of them that has not.
-use Rattle.std.specs.Prelude.{ℕ, zero, suc, ◌+◌, ◌/◌, ◌%◌, List, Bool, true, false, ◌&&◌, eqb, get_or}
-use Rattle.wire.specs.If.{if◌then◌else◌}
+use Rattle.std.specs.Prelude.{ℕ, zero, suc, ◌+◌, ◌/◌, ◌%◌, List, Bool, true, false, ◌&&◌, eqb, get_or, if◌then◌else◌}
 use Rattle.roll.specs.Segments.{counting}
 use Rattle.roll.specs.declared.Segment.{Segment}
 use Rattle.roll.specs.declared.End.{End}

@@ -1,7 +1,6 @@
 -- The marks: which numbers have come, "in thirty-two segments of eight sections". Whatever is said of a roll elsewhere goes
 -- by `has` and by a segment's end, and by laws of these definitions, and never looks inside.
-use Rattle.std.specs.Prelude.{ℕ, zero, suc, ◌+◌, ◌/◌, ◌%◌, ◌<◌, ◌≡◌, [], Bool, true, false, length, get_or, set, replicate}
-use Rattle.wire.specs.If.{if◌then◌else◌}
+use Rattle.std.specs.Prelude.{ℕ, zero, suc, ◌+◌, ◌/◌, ◌%◌, ◌<◌, ◌≡◌, [], Bool, true, false, length, get_or, set, replicate, if◌then◌else◌}
 use Rattle.roll.specs.Answer.{Says, missing, complete}
 use Rattle.roll.specs.declared.Marks.{Marks}
 use Rattle.roll.specs.declared.Segment.{Segment}

@@ -1,6 +1,5 @@
 -- A roll and a section: document 01, "The roll", and document 02, request (i).
-use Rattle.std.specs.Prelude.{ℕ, List, Bool, true, false, not, ◌&&◌, ◌||◌, eqb, ltb, get_or}
-use Rattle.wire.specs.If.{if◌then◌else◌}
+use Rattle.std.specs.Prelude.{ℕ, List, Bool, true, false, not, ◌&&◌, ◌||◌, eqb, ltb, get_or, if◌then◌else◌}
 use Rattle.verdict.specs.Verdict.{is_accepted, number_of, place_of}
 use Rattle.section.specs.Reading.{judged}
 use Rattle.head.specs.Head.{version_in, is_current, number_in, last_in, has_no_sub_table}

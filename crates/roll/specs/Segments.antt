@@ -1,7 +1,6 @@
 -- Schedules: document 02, request (i), "for table_id 0x50 to 0x6F the numbers stand in thirty-two segments of eight
 -- sections, and a segment may end early".
-use Rattle.std.specs.Prelude.{ℕ, ◌+◌, Bool, false, ◌&&◌, ◌||◌, eqb, leb, ltb, set}
-use Rattle.wire.specs.If.{if◌then◌else◌}
+use Rattle.std.specs.Prelude.{ℕ, ◌+◌, Bool, false, ◌&&◌, ◌||◌, eqb, leb, ltb, set, if◌then◌else◌}
 use Rattle.roll.specs.Answer.{Says}
 use Rattle.roll.specs.Marks.{segment_of, blank, segment_at, has, with_mark, smallest}
 use Rattle.roll.specs.declared.Marks.{Marks}

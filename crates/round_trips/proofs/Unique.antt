@@ -1,7 +1,7 @@
 -- Each promise allows one answer: two answers that tell the same are the same.
 use mathlib.Core.Path.{◌≡◌, refl, sym, ap, ◌∙◌}
 use lib.Dec.{eqb}
-use Rattle.wire.specs.If.{if◌then◌else◌}
+use Rattle.std.specs.Prelude.{if◌then◌else◌}
 use Rattle.verdict.proofs.Unique.{verdict_of, verdict_back}
 use Rattle.verdict.specs.declared.Verdict.TheVariants as variants
 use Rattle.turn.specs.Turn.{Told, wrote, refused_with}

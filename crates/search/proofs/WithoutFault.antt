@@ -9,7 +9,7 @@ use lib.Seq.{take_all}
 use lib.Dec.{eqb}
 use native.Mathlib.Decide.{ℕ_discrete}
 use borrow.Author.Tests.{eq-eqb, ne_eqb}
-use Rattle.wire.specs.If.{if◌then◌else◌}
+use Rattle.std.specs.Prelude.{if◌then◌else◌}
 use Rattle.wire.specs.Bytes.{len12_at}
 use Rattle.wire.specs.Trail.{ended, answer}
 use Rattle.verdict.specs.Verdict.{Said, accepted, refused, is_accepted}

@@ -1,7 +1,6 @@
 -- "A search for a tag leaves its nested walk at the first hit, in reading order, and gives the body as a part of the caller's bytes, with 0 for the
 -- top loop or the entry's number from 1; or "none". It refuses 1 to 10 first."
-use Rattle.std.specs.Prelude.{ℕ, ◌+◌, ◌≡◌, List, [], ◌∷◌, length, take, drop, eqb}
-use Rattle.wire.specs.If.{if◌then◌else◌}
+use Rattle.std.specs.Prelude.{ℕ, ◌+◌, ◌≡◌, List, [], ◌∷◌, length, take, drop, eqb, if◌then◌else◌}
 use Rattle.verdict.specs.Verdict.{told, is_accepted, number_of, place_of}
 use Rattle.loops.specs.Descriptors.{Placed}
 use Rattle.section.specs.Reading.{read, judged}

@@ -1,6 +1,5 @@
 -- Entries, one after the other: "An entry's fixed bytes end in its own loop length."
-use Rattle.std.specs.Prelude.{ℕ, ◌+◌, ◌-◌, List, [], ◌∷◌, length, take, drop, ltb}
-use Rattle.wire.specs.If.{if◌then◌else◌}
+use Rattle.std.specs.Prelude.{ℕ, ◌+◌, ◌-◌, List, [], ◌∷◌, length, take, drop, ltb, if◌then◌else◌}
 use Rattle.wire.specs.Bytes.{len12_at}
 use Rattle.wire.specs.Trail.{Pace, on, stop, Trail, trail}
 use Rattle.verdict.specs.Verdict.{Said, accepted, refused, is_accepted}

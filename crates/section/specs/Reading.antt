@@ -1,6 +1,5 @@
 -- Reading a section: document 01, "Judging a section", in its order.
-use Rattle.std.specs.Prelude.{ℕ, ◌+◌, ◌-◌, ◌/◌, List, [], Bool, not, ◌&&◌, ◌||◌, length, get_or, take, drop, ltb, leb, eqb}
-use Rattle.wire.specs.If.{if◌then◌else◌}
+use Rattle.std.specs.Prelude.{ℕ, ◌+◌, ◌-◌, ◌/◌, List, [], Bool, not, ◌&&◌, ◌||◌, length, get_or, take, drop, ltb, leb, eqb, if◌then◌else◌}
 use Rattle.wire.specs.Bytes.{len12_at}
 use Rattle.wire.specs.Trail.{Trail, ended, before}
 use Rattle.crc.specs.Crc.{crc}

@@ -1,6 +1,5 @@
 -- Whole sequences of sections, by their bytes alone.
-use Rattle.std.specs.Prelude.{ℕ, ◌/◌, ◌≡◌, ◌↔◌, List, [], ◌∷◌, Bool, true, false, not, ◌&&◌, get_or}
-use Rattle.wire.specs.If.{if◌then◌else◌}
+use Rattle.std.specs.Prelude.{ℕ, ◌/◌, ◌≡◌, ◌↔◌, List, [], ◌∷◌, Bool, true, false, not, ◌&&◌, get_or, if◌then◌else◌}
 use Rattle.wire.specs.Bytes.{Bytes}
 use Rattle.verdict.specs.Verdict.{accepted, is_accepted}
 use Rattle.verdict.specs.Verdict as verdict

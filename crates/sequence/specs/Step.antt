@@ -1,7 +1,6 @@
 -- One section for any roll, also for one that a caller made by hand: document 01, "The roll", and of schedules document 02,
 -- request (i), by the section's own bytes.
-use Rattle.std.specs.Prelude.{ℕ, ◌+◌, ◌-◌, ◌*◌, ◌/◌, ◌<◌, ◌≤◌, ◌≡◌, true, false, ◌⊎◌, ◌↔◌, List, eqb, get_or}
-use Rattle.wire.specs.If.{if◌then◌else◌}
+use Rattle.std.specs.Prelude.{ℕ, ◌+◌, ◌-◌, ◌*◌, ◌/◌, ◌<◌, ◌≤◌, ◌≡◌, true, false, ◌⊎◌, ◌↔◌, List, eqb, get_or, if◌then◌else◌}
 use Rattle.wire.specs.Bytes.{Bytes}
 use Rattle.loops.specs.Descriptors.{Placed}
 use Rattle.section.specs.Grammar.{Section}

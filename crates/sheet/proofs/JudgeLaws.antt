@@ -9,7 +9,7 @@ use borrow.Author.Tests.{lt-ltb, le-ltb, le-leb}
 use lib.ListN.{length, get_or, drop, length-drop}
 use lib.Seq.{drop-length}
 use lib.Dec.{ltb}
-use Rattle.wire.specs.If.{if◌then◌else◌}
+use Rattle.std.specs.Prelude.{if◌then◌else◌}
 use Rattle.wire.specs.Bytes.{Bytes}
 use Rattle.wire.specs.Number.{number_at}
 use Rattle.wire.specs.Reading.{Reading, value, refused, ◌>>=◌}

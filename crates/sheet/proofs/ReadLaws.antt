@@ -8,7 +8,7 @@ use borrow.Author.Tests.{le-leb, lt-leb, lt-ltb, le-ltb, ne_eqb}
 use lib.ListN.{length, get_or, take, drop, length-drop}
 use lib.Seq.{drop-drop, get_or-take, get_or-drop}
 use lib.Dec.{ltb, leb, eqb}
-use Rattle.wire.specs.If.{if◌then◌else◌}
+use Rattle.std.specs.Prelude.{if◌then◌else◌}
 use Rattle.wire.specs.Number.{number, number_at}
 use Rattle.wire.specs.Reading.{value, refused, ◌>>=◌}
 use Rattle.wire.proofs.PartLaws.{two_front}

@@ -7,7 +7,7 @@ use native.Mathlib.Omega.{arith}
 use borrow.Author.Tests.{eqb-true, eqb-false}
 use lib.ListN.{length, length-append}
 use lib.Dec.{eqb}
-use Rattle.wire.specs.If.{if◌then◌else◌}
+use Rattle.std.specs.Prelude.{if◌then◌else◌}
 use Rattle.crc.specs.Crc.{crc, bytes_of}
 use Rattle.tables.specs.Tables.{row_at}
 use Rattle.tables.proofs.RowLaws.{shape}

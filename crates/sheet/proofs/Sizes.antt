@@ -6,7 +6,7 @@ use mathlib.Core.List.{List, [], ◌∷◌, ◌++◌}
 use native.Mathlib.Omega.{arith}
 use lib.ListN.{length, get_or, length-append}
 use lib.Seq.{get_or-append-add}
-use Rattle.wire.specs.If.{if◌then◌else◌}
+use Rattle.std.specs.Prelude.{if◌then◌else◌}
 use Rattle.wire.specs.Number.{number_at}
 use Rattle.tables.specs.Tables.{cell, row_at}
 use Rattle.forms.specs.Form.{Form, mute, ◌then◌, each_show, EachOk, each}

@@ -1,7 +1,6 @@
 -- What a table contains: the fields of its head, the descriptors of its top loop, its entries with their descriptors. One description, row by row,
 -- of which section and sheet are two forms.
-use Rattle.std.specs.Prelude.{ℕ, List, [], ◌∷◌, Bool, true, false, get_or, eqb}
-use Rattle.wire.specs.If.{if◌then◌else◌}
+use Rattle.std.specs.Prelude.{ℕ, List, [], ◌∷◌, Bool, true, false, get_or, eqb, if◌then◌else◌}
 use Rattle.tables.specs.Tables.{row_of, row_at}
 use Rattle.forms.specs.Fields.{Field, kept, reserved}
 

@@ -1,6 +1,5 @@
 -- Sections, as a form of what a table contains: EN 300 468, clause 5.2.
-use Rattle.std.specs.Prelude.{ℕ, ◌+◌, ◌-◌, ◌*◌, ◌/◌, ◌%◌, List, [], ◌∷◌, ◌++◌, length, get_or, take, drop, ltb, eqb}
-use Rattle.wire.specs.If.{if◌then◌else◌}
+use Rattle.std.specs.Prelude.{ℕ, ◌+◌, ◌-◌, ◌*◌, ◌/◌, ◌%◌, List, [], ◌∷◌, ◌++◌, length, get_or, take, drop, ltb, eqb, if◌then◌else◌}
 use Rattle.wire.specs.Reading.{Reading, value, refused, ◌>>=◌}
 use Rattle.crc.specs.Crc.{crc, bytes_of}
 use Rattle.tables.specs.Tables.{row_of, row_at}

@@ -1,6 +1,5 @@
 -- Content sheets: document 01, "Our desks exchange sheets, big-endian, a fixed order, each list after the two-byte number of its items."
-use Rattle.std.specs.Prelude.{ℕ, ◌<◌, List, [], ◌∷◌, Bool, length, get_or, ltb, leb}
-use Rattle.wire.specs.If.{if◌then◌else◌}
+use Rattle.std.specs.Prelude.{ℕ, ◌<◌, List, [], ◌∷◌, Bool, length, get_or, ltb, leb, if◌then◌else◌}
 use Rattle.wire.specs.Reading.{value, ◌>>=◌}
 use Rattle.tables.specs.Tables.{UNKNOWN, row_of}
 use Rattle.forms.specs.Form.{Front, Form, mute, raw_read, raw, ◌then◌, such, each}

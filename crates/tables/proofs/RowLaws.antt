@@ -9,7 +9,7 @@ use native.Mathlib.Decide.{ℕ_discrete}
 use borrow.Author.Tests.{leb-true, eqb-true, le-leb, ltb-true, ltb-false}
 use lib.ListN.{get_or}
 use lib.Dec.{leb, eqb}
-use Rattle.wire.specs.If.{if◌then◌else◌}
+use Rattle.std.specs.Prelude.{if◌then◌else◌}
 use Rattle.wire.proofs.IfLaws.{true_not_false}
 use Rattle.tables.specs.Tables.{TDT, is_numbered, rows, cell, row_at, between, holds, first, row_of, InRow, FixedTwo}
 

@@ -1,6 +1,5 @@
 -- The rows told a second time, and not as a table: by each table_id, and by what a section of the table is made of, as document 01's sheets list it.
-use Rattle.std.specs.Prelude.{ℕ, ◌+◌, ◌-◌, ◌*◌, List, [], ◌∷◌, get_or, ltb}
-use Rattle.wire.specs.If.{if◌then◌else◌}
+use Rattle.std.specs.Prelude.{ℕ, ◌+◌, ◌-◌, ◌*◌, List, [], ◌∷◌, get_or, ltb, if◌then◌else◌}
 use Rattle.tables.specs.declared.Row.{Row}
 
 -- the table_ids from 0x40 to 0x77, eight to a line: the row of each, 6 for none

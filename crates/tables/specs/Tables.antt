@@ -1,6 +1,5 @@
 -- Document 01, "Tables that are known": the rows, and the row that a table_id has.
-use Rattle.std.specs.Prelude.{ℕ, zero, suc, ◌+◌, ◌≤◌, ◌≡◌, ◌⊎◌, List, [], ◌∷◌, Bool, ◌&&◌, ◌||◌, get_or, leb, ltb}
-use Rattle.wire.specs.If.{if◌then◌else◌}
+use Rattle.std.specs.Prelude.{ℕ, zero, suc, ◌+◌, ◌≤◌, ◌≡◌, ◌⊎◌, List, [], ◌∷◌, Bool, ◌&&◌, ◌||◌, get_or, leb, ltb, if◌then◌else◌}
 use Rattle.tables.specs.declared.Row.{Row}
 
 -- ---- the rows by name

@@ -8,7 +8,7 @@ use borrow.Author.Tests.{eqb-true, lt-ltb, le-ltb}
 use lib.ListN.{length, get_or, take, length-append}
 use lib.Dec.{eqb, lit<}
 use Prim.{tt}
-use Rattle.wire.specs.If.{if◌then◌else◌}
+use Rattle.std.specs.Prelude.{if◌then◌else◌}
 use Rattle.wire.specs.Bytes.{Bytes}
 use Rattle.wire.specs.Parts.{Part}
 use Rattle.wire.specs.Reading as reading

@@ -1,7 +1,6 @@
 -- Both turns: document 01, "Content sheets". "21 comes first, then 22 to 24 as read left to right, 25, 26. Section to sheet: 21, then 1 to 10.
 -- Success writes the first n bytes and tells n; later bytes stay."
-use Rattle.std.specs.Prelude.{ℕ, List, [], ltb}
-use Rattle.wire.specs.If.{if◌then◌else◌}
+use Rattle.std.specs.Prelude.{ℕ, List, [], ltb, if◌then◌else◌}
 use Rattle.wire.specs.Reading as reading
 use Rattle.verdict.specs.Verdict as verdict
 use Rattle.section.specs.Reading.{judged}

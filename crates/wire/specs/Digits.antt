@@ -1,6 +1,5 @@
 -- Numbers in BCD: four bits for each decimal digit, the highest first.
-use Rattle.std.specs.Prelude.{ℕ, zero, suc, ◌+◌, ◌-◌, ◌*◌, ◌/◌, ◌%◌, ◌^◌, ◌<◌, ◌≤◌, ltb}
-use Rattle.wire.specs.If.{if◌then◌else◌}
+use Rattle.std.specs.Prelude.{ℕ, zero, suc, ◌+◌, ◌-◌, ◌*◌, ◌/◌, ◌%◌, ◌^◌, ◌<◌, ◌≤◌, ltb, if◌then◌else◌}
 use Rattle.wire.specs.Reading.{Result, value, refused}
 use Rattle.wire.specs.declared.digits.Digits.{Digits}
 use Rattle.wire.specs.declared.digits.Digits.TheVariants.{Value, Bad}

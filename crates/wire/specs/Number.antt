@@ -1,6 +1,5 @@
 -- Numbers of several bytes, the highest first, and fields of some bits of a byte.
-use Rattle.std.specs.Prelude.{List, [], ◌∷◌, ℕ, zero, suc, ◌+◌, ◌-◌, ◌*◌, ◌/◌, ◌%◌, ◌^◌, eqb, get_or}
-use Rattle.wire.specs.If.{if◌then◌else◌}
+use Rattle.std.specs.Prelude.{List, [], ◌∷◌, ℕ, zero, suc, ◌+◌, ◌-◌, ◌*◌, ◌/◌, ◌%◌, ◌^◌, eqb, get_or, if◌then◌else◌}
 
 -- the number a followed by the bytes of l
 abbrev pub number_after : ℕ → List ℕ → ℕ

@@ -13,7 +13,7 @@ use lib.IntN.{ℤ, pos, negsuc, nat_abs}
 use lib.ListN.{length, get_or, drop}
 use Rattle.wire.specs.Bytes.{Bytes}
 use Rattle.wire.specs.Digits.{bcd_after, bcd_of, bcd_show}
-use Rattle.wire.specs.If.{if◌then◌else◌}
+use Rattle.std.specs.Prelude.{if◌then◌else◌}
 use Rattle.wire.specs.Number.{number_at, bits_at}
 use Rattle.wire.specs.Reading.{Reading, value, refused}
 use Rattle.wire.proofs.IfLaws.{if-case, true_not_false}

@@ -13,7 +13,7 @@ use lib.IntN.{ℤ, pos, negsuc}
 use lib.ListN.{length, get_or, take, drop, length-append, length-drop, take-append-drop}
 use lib.Seq.{drop-cons, drop-drop, take_at, drop_at, get_or-drop}
 use Rattle.wire.specs.Each.{Each}
-use Rattle.wire.specs.If.{if◌then◌else◌}
+use Rattle.std.specs.Prelude.{if◌then◌else◌}
 use Rattle.wire.specs.Reading.{Result, Reading, value, refused, ◌>>=◌}
 use Rattle.wire.proofs.IfLaws.{if-case}
 use Rattle.wire.proofs.ReadingLaws.{value_is, refused_is, never, through}

@@ -1,6 +1,5 @@
 -- 0x58 local time offset, written: EN 300 468, clause 6.2.20. The layout is that of the reading.
-use Rattle.std.specs.Prelude.{◌≡◌, Bool, true, false, not, List, [], ◌∷◌, ℕ, zero, suc, ◌^◌, eqb, ltb, ℤ, pos, negsuc, nat_abs, get_or, drop}
-use Rattle.wire.specs.If.{if◌then◌else◌}
+use Rattle.std.specs.Prelude.{◌≡◌, Bool, true, false, not, List, [], ◌∷◌, ℕ, zero, suc, ◌^◌, eqb, ltb, ℤ, pos, negsuc, nat_abs, get_or, drop, if◌then◌else◌}
 use Rattle.wire.specs.Reading.{Reading, value, refused, ◌>>=◌}
 use Rattle.clock.specs.Fault.{Answered}
 use Rattle.clock.specs.declared.time.Moment.{Moment}

@@ -6,7 +6,7 @@ use native.Mathlib.Numerals.{add-one}
 use native.Mathlib.Omega.{arith}
 use lib.ListN.{length, take, drop, set, replicate, length-append, length-drop}
 use lib.Seq.{set_split, take_all, length-take-le}
-use Rattle.wire.specs.If.{if◌then◌else◌}
+use Rattle.std.specs.Prelude.{if◌then◌else◌}
 use Rattle.copy.specs.Copy.{copied}
 use Rattle.copy.specs.Laid.{laid}
 use Rattle.copy.proofs.Copies.{copied_yes}

@@ -9,7 +9,7 @@ use native.Mathlib.Omega.{arith}
 use lib.ListN.{length}
 use lib.Dec.{ltb, leb, eqb}
 use borrow.Author.Tests.{ltb-true, ltb-false, lt-ltb, le-ltb, leb-true, leb-false, eq-eqb, ne_eqb}
-use Rattle.wire.specs.If.{if◌then◌else◌}
+use Rattle.std.specs.Prelude.{if◌then◌else◌}
 use Rattle.wire.specs.Trail.{Trail, Pace, on, stop, onward, trail}
 use Rattle.wire.proofs.TrailLaws.{trail_by}
 use Rattle.writer.specs.Layout.{Ahead, sum, bytes_ahead, opened, Turn, least, waits, turn_of, behind, pace, turns_from}

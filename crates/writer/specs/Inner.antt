@@ -1,6 +1,5 @@
 -- Contracts among this crate's own functions: nothing that a caller must believe.
-use Rattle.std.specs.Prelude.{◌≡◌, true, List, ℕ, ◌+◌, ◌≤◌, ◌<◌, length, drop}
-use Rattle.wire.specs.If.{if◌then◌else◌}
+use Rattle.std.specs.Prelude.{◌≡◌, true, List, ℕ, ◌+◌, ◌≤◌, ◌<◌, length, drop, if◌then◌else◌}
 use Rattle.wire.specs.Each.{Each}
 use Rattle.copy.specs.Laid.{laid}
 use Rattle.writer.specs.Layout as Layout

@@ -1,7 +1,6 @@
 -- Where the bytes of sections stand in payloads of 184 bytes. A layout looks at sizes alone, so a section's bytes may be any things.
-use Rattle.std.specs.Prelude.{Bool, true, false, ◌&&◌, ℕ, ◌+◌, ◌-◌, length, take, drop, replicate, ltb, leb, eqb}
+use Rattle.std.specs.Prelude.{Bool, true, false, ◌&&◌, ℕ, ◌+◌, ◌-◌, length, take, drop, replicate, ltb, leb, eqb, if◌then◌else◌}
 use mathlib.Core.List.{List, [], ◌∷◌, ◌++◌, map, flatten}
-use Rattle.wire.specs.If.{if◌then◌else◌}
 use Rattle.wire.specs.Trail.{Pace, on, stop, trail}
 
 -- ---- by sizes alone

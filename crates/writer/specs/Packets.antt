@@ -1,6 +1,5 @@
 -- The packets: "188-byte packets out, without adaptation fields".
-use Rattle.std.specs.Prelude.{Bool, List, [], ◌∷◌, ◌++◌, map, ℕ, ◌+◌, ◌/◌, ◌%◌}
-use Rattle.wire.specs.If.{if◌then◌else◌}
+use Rattle.std.specs.Prelude.{Bool, List, [], ◌∷◌, ◌++◌, map, ℕ, ◌+◌, ◌/◌, ◌%◌, if◌then◌else◌}
 use Rattle.writer.specs.Layout.{Cell, pointer, byte, filler, Payload, layout}
 
 -- a filler byte is 0xFF, as document 01's collector looks for it where a section would begin

@@ -1,7 +1,6 @@
 // The packets, one after another, in the room.
-ghost use Rattle.std.specs.Prelude.{◌≡◌, true, false, ◌+◌, ◌-◌, ◌*◌, ◌≤◌, ◌<◌, length, take, drop, replicate};
+ghost use Rattle.std.specs.Prelude.{◌≡◌, true, false, ◌+◌, ◌-◌, ◌*◌, ◌≤◌, ◌<◌, length, take, drop, replicate, if◌then◌else◌};
 ghost use mathlib.Core.List.{[], ◌∷◌, ◌++◌, flatten};
-ghost use Rattle.wire.specs.If.{if◌then◌else◌};
 ghost use Rattle.copy.specs.Laid.{over, laid};
 ghost use Rattle.writer.specs.Layout.{sum, payload_of, laid_out, unbegun, turns_from};
 ghost use Rattle.writer.specs.Packets.{header_of, packet_of, packets_from};

@@ -1,7 +1,6 @@
 -- Bytes made of the fields of a layout: those that it keeps have the values given, the reserved ones what is laid down for them.
 use Prim.{Unit}
-use Rattle.std.specs.Prelude.{ℕ, ◌-◌, ◌^◌, ◌≡◌, Bool, true, false, List, [], ◌∷◌, ltb}
-use Rattle.wire.specs.If.{if◌then◌else◌}
+use Rattle.std.specs.Prelude.{ℕ, ◌-◌, ◌^◌, ◌≡◌, Bool, true, false, List, [], ◌∷◌, ltb, if◌then◌else◌}
 use Rattle.wire.specs.Number.{number}
 use Rattle.forms.specs.Fields.{Field, kept, reserved, pack, unpack}
 use Rattle.layout.specs.Widths.{size}

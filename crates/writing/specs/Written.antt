@@ -1,7 +1,6 @@
 -- What a writer of descriptors makes and answers: "fields in, tag, length, body out."
 -- "Refusals: 111 room under 257; 112 a field outside its layout; 113 body over 255 bytes; in that order."
-use Rattle.std.specs.Prelude.{ℕ, ◌≡◌, Bool, List, ◌∷◌, ltb, length}
-use Rattle.wire.specs.If.{if◌then◌else◌}
+use Rattle.std.specs.Prelude.{ℕ, ◌≡◌, Bool, List, ◌∷◌, ltb, length, if◌then◌else◌}
 use Rattle.wire.specs.Reading.{Reading, value, refused}
 pub use Rattle.forms.specs.Outcome.{Outcome, gives, refuses, Told, wrote, refused_with, answer, roomAfter}
 use Rattle.writing.specs.declared.Written.{Written}

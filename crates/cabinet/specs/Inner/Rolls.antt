@@ -1,7 +1,6 @@
 -- What the functions of rolls.rt say of each other: the marks stay flat, and one segment is made of them at a time.
-use Rattle.std.specs.Prelude.{ℕ, ◌+◌, ◌*◌, Bool, false, List, get_or}
+use Rattle.std.specs.Prelude.{ℕ, ◌+◌, ◌*◌, Bool, false, List, get_or, if◌then◌else◌}
 use Rattle.std.proofs.Math.Seq.{paste}
-use Rattle.wire.specs.If.{if◌then◌else◌}
 use Rattle.roll.specs.Roll.{begun_with, continued, asked}
 use Rattle.roll.specs.declared.Roll as of
 use Rattle.roll.specs.declared.Marks.{Marks}

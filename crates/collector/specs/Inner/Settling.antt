@@ -1,6 +1,5 @@
 -- What the functions of settling.rt say of their arguments and answers.
-use Rattle.std.specs.Prelude.{ℕ, ◌-◌, ◌%◌, min, List, nat_le}
-use Rattle.wire.specs.If.{if◌then◌else◌}
+use Rattle.std.specs.Prelude.{ℕ, ◌-◌, ◌%◌, min, List, nat_le, if◌then◌else◌}
 use Rattle.verdict.specs.Verdict.{is_accepted}
 use Rattle.section.specs.Reading.{judged}
 use Rattle.copy.specs.Laid.{laid}

@@ -1,7 +1,6 @@
 -- What the functions of stretch.rt say of their arguments and answers.
-use Rattle.std.specs.Prelude.{◌≡◌, ℕ, ◌+◌, ◌<◌, ◌≤◌, ltb, ◌⊎◌, List, length, ◌==◌, nat_lt}
+use Rattle.std.specs.Prelude.{◌≡◌, ℕ, ◌+◌, ◌<◌, ◌≤◌, ltb, ◌⊎◌, List, length, ◌==◌, nat_lt, if◌then◌else◌}
 use mathlib.Core.List.{flatten}
-use Rattle.wire.specs.If.{if◌then◌else◌}
 use Rattle.wire.specs.Sections.{total_of}
 use Rattle.copy.specs.Laid.{over, laid}
 use Rattle.collector.specs.Rules.{done, Story, count_of, hand_of, Rest, filling, skipping, breaking, kind_of}

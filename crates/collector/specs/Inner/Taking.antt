@@ -1,6 +1,5 @@
 -- What the functions of taking.rt say of their arguments and answers.
-use Rattle.std.specs.Prelude.{ℕ, ◌+◌, ◌%◌, ◌^◌, Bool, true, false}
-use Rattle.wire.specs.If.{if◌then◌else◌}
+use Rattle.std.specs.Prelude.{ℕ, ◌+◌, ◌%◌, ◌^◌, Bool, true, false, if◌then◌else◌}
 use Rattle.collector.specs.Rules.{Kind, pointer, accepted, rejected, done, sameKind, filling, skipping, breaking, kind_of}
 use Rattle.collector.specs.Collected.{bytes_counted, record_with}
 use Rattle.collector.specs.declared.Record.{Record}

@@ -1,7 +1,6 @@
 -- section_length from a sheet's length and the number of its entries, as the judge computes it. That it is the length
 -- of the section is proved.
-use Rattle.std.specs.Prelude.{ℕ, ◌+◌, ◌-◌, ◌*◌, List, [], ◌∷◌, length, get_or, ltb}
-use Rattle.wire.specs.If.{if◌then◌else◌}
+use Rattle.std.specs.Prelude.{ℕ, ◌+◌, ◌-◌, ◌*◌, List, [], ◌∷◌, length, get_or, ltb, if◌then◌else◌}
 use Rattle.wire.specs.Number.{number_at}
 use Rattle.wire.specs.Reading.{Reading, value, refused}
 use Rattle.forms.specs.Room.{sum}

@@ -1,6 +1,5 @@
 -- What the functions that turn whole tables promise each other.
-use Rattle.std.specs.Prelude.{ℕ, ◌/◌, ◌%◌, ◌≤◌, ◌≡◌, List, [], ◌∷◌, Bool, true, false, not, length, get_or, take, eqb}
-use Rattle.wire.specs.If.{if◌then◌else◌}
+use Rattle.std.specs.Prelude.{ℕ, ◌/◌, ◌%◌, ◌≤◌, ◌≡◌, List, [], ◌∷◌, Bool, true, false, not, length, get_or, take, eqb, if◌then◌else◌}
 use Rattle.wire.specs.Reading.{value}
 use Rattle.tables.specs.Tables.{row_of}
 use Rattle.verdict.specs.Verdict as verdict

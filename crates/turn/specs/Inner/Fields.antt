@@ -1,7 +1,6 @@
 -- Fields as the functions that turn them have them. All that a table has are a value below `span` and a flag, with reserved bits before
 -- them, or reserved bits alone; the span is 0 then.
-use Rattle.std.specs.Prelude.{ℕ, ◌+◌, ◌-◌, ◌*◌, ◌/◌, ◌%◌, ◌≤◌, ◌≡◌, List, [], ◌∷◌, length, get_or, eqb}
-use Rattle.wire.specs.If.{if◌then◌else◌}
+use Rattle.std.specs.Prelude.{ℕ, ◌+◌, ◌-◌, ◌*◌, ◌/◌, ◌%◌, ◌≤◌, ◌≡◌, List, [], ◌∷◌, length, get_or, eqb, if◌then◌else◌}
 use Rattle.forms.specs.Fields.{Field, kept, reserved}
 use Rattle.forms.specs.Room.{put, sum}
 use Rattle.sheet.specs.Content.{bare, status}

@@ -1,6 +1,5 @@
 -- The two ways of a turn. On the way to a section (true) sheets are read and sections are written; on the way to a sheet (false) the reverse.
-use Rattle.std.specs.Prelude.{ℕ, ◌+◌, ◌-◌, ◌/◌, ◌%◌, ◌≤◌, ◌<◌, ◌≡◌, List, [], ◌∷◌, Bool, true, false, not, length}
-use Rattle.wire.specs.If.{if◌then◌else◌}
+use Rattle.std.specs.Prelude.{ℕ, ◌+◌, ◌-◌, ◌/◌, ◌%◌, ◌≤◌, ◌<◌, ◌≡◌, List, [], ◌∷◌, Bool, true, false, not, length, if◌then◌else◌}
 use Rattle.wire.specs.Bytes.{len12_at}
 use Rattle.wire.specs.Parts.{Part}
 use Rattle.tables.specs.Tables.{TDT, row_at}

@@ -1,6 +1,5 @@
 -- The bits of a local time offset.
-use Rattle.std.specs.Prelude.{List, ℕ, ◌/◌, ◌%◌, ◌^◌, ltb, eqb, ℤ, drop}
-use Rattle.wire.specs.If.{if◌then◌else◌}
+use Rattle.std.specs.Prelude.{List, ℕ, ◌/◌, ◌%◌, ◌^◌, ltb, eqb, ℤ, drop, if◌then◌else◌}
 use Rattle.wire.specs.Reading.{Reading, value, refused, ◌>>=◌}
 use Rattle.clock.specs.Time.{time_shown}
 use Rattle.clock.specs.declared.time.Moment.{Moment}

@@ -1,7 +1,7 @@
 -- `account::progress::last_piece` meets its contract.
 use Rattle.std.proofs.Common.{◌≡◌, ℕ, Bool, true, false, eqb, List, take, sym, ap, ◌∙◌, arith, length-take-le, rules, eq-eqb, ne_eqb}
 use borrow.Author.Tests.{not-true, not-false}
-use Rattle.wire.specs.If.{if◌then◌else◌}
+use Rattle.std.specs.Prelude.{if◌then◌else◌}
 use Rattle.account.specs.Entered.{Kept, kept_as, entered}
 use Rattle.account.specs.Heard.{last_piece}
 use Rattle.account.specs.declared.progress.Progress.{Progress}

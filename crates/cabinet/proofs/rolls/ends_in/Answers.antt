@@ -4,7 +4,7 @@ use mathlib.Core.Path.{◌≡◌, refl, ◌∙◌}
 use mathlib.Core.Logic.{⊎_elim}
 use native.Mathlib.Omega.{arith}
 use lib.ListN.{length, get_or, length-set}
-use Rattle.wire.specs.If.{if◌then◌else◌}
+use Rattle.std.specs.Prelude.{if◌then◌else◌}
 use Rattle.cabinet.specs.Numbers.{is_set}
 use Rattle.cabinet.specs.Inner.Rolls.{ends_settled}
 use Rattle.cabinet.proofs.TableLaws.{Filled, filled_none, filled_more, filled_all}

@@ -5,7 +5,7 @@ use mathlib.Core.Logic.{⊎_elim}
 use mathlib.Core.Bool.{false}
 use native.Mathlib.Omega.{arith}
 use lib.ListN.{length, length-set}
-use Rattle.wire.specs.If.{if◌then◌else◌}
+use Rattle.std.specs.Prelude.{if◌then◌else◌}
 use Rattle.cabinet.specs.Roll.{came_in}
 use Rattle.cabinet.specs.Inner.Rolls.{flags_kept}
 use Rattle.cabinet.proofs.TableLaws.{Filled, filled_none, filled_more, filled_all}

@@ -1,7 +1,7 @@
 -- `collector::settling::settle` meets its contract.
 use Rattle.std.proofs.Common.{◌≡◌, ℕ, ◌+◌, ◌-◌, Bool, true, false, List, take, drop, sym, refl, ap, ◌∙◌, arith, length-drop, rules}
 use mathlib.Core.Bool.{false≢true}
-use Rattle.wire.specs.If.{if◌then◌else◌}
+use Rattle.std.specs.Prelude.{if◌then◌else◌}
 use Rattle.verdict.specs.Verdict.{Said, accepted, refused, is_accepted, number_of, told}
 use Rattle.section.specs.Reading.{judged}
 use Rattle.copy.specs.Laid.{laid}

@@ -1,6 +1,6 @@
 -- `collector::stretch::looked` meets its contract.
 use Rattle.std.proofs.Common.{◌≡◌, ℕ, ◌+◌, ◌<◌, ◌≤◌, Bool, true, false, ltb, List, length, get_or, sym, refl, ◌∙◌, subst, inl, inr, arith, rules, ltb-false, ltb-true}
-use Rattle.wire.specs.If.{if◌then◌else◌}
+use Rattle.std.specs.Prelude.{if◌then◌else◌}
 use Rattle.wire.specs.Bytes.{len12}
 use Rattle.wire.specs.Sections.{total_of}
 use Rattle.collector.specs.Inner.Stretch.{LookSays, sized_as}

@@ -1,6 +1,6 @@
 -- `collector::stretch::with_section` meets its contract.
 use Rattle.std.proofs.Common.{ℕ, ◌+◌, Bool, sym, ap, rules, eq-eqb, ne_eqb}
-use Rattle.wire.specs.If.{if◌then◌else◌}
+use Rattle.std.specs.Prelude.{if◌then◌else◌}
 use Rattle.collector.specs.Inner.Stretch.{gain_of, gain_with}
 use Rattle.collector.specs.declared.stretch.Gain.{Gain}
 use Rattle.collector.proofs.stretch.with_section.Goals as goal

@@ -1,6 +1,6 @@
 -- `collector::taking::carried` meets its contract.
 use Rattle.std.proofs.Common.{◌≡◌, Bool, take, drop, sym, ap, ◌∙◌, rules}
-use Rattle.wire.specs.If.{if◌then◌else◌}
+use Rattle.std.specs.Prelude.{if◌then◌else◌}
 use Rattle.collector.specs.Rules.{holding, joined, plain, payload}
 use Rattle.collector.specs.Judged.{by_judge}
 use Rattle.collector.specs.Refusals.{before_of}

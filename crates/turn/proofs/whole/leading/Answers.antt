@@ -1,6 +1,6 @@
 -- `turn::whole::leading` meets its contract.
 use mathlib.Core.Path.{sym, ap, ◌∙◌}
-use Rattle.wire.specs.If.{if◌then◌else◌}
+use Rattle.std.specs.Prelude.{if◌then◌else◌}
 use borrow.Author.Rules.{rules}
 use Rattle.turn.proofs.whole.leading.Goals as goal
 

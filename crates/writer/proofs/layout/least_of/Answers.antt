@@ -1,7 +1,7 @@
 -- `writer::layout::least_of` meets its contract.
 use mathlib.Core.Path.{sym, ap}
 use mathlib.Core.Bool.{Bool}
-use Rattle.wire.specs.If.{if◌then◌else◌}
+use Rattle.std.specs.Prelude.{if◌then◌else◌}
 use borrow.Author.Tests.{le-leb, lt-leb}
 use Rattle.writer.proofs.layout.least_of.Goals as goal
 

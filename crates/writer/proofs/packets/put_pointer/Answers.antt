@@ -5,7 +5,7 @@ use Prim.Native.Nat.{◌+◌}
 use native.Mathlib.Nat.{add-zero}
 use native.Mathlib.Omega.{arith}
 use borrow.Author.Rules.{rules}
-use Rattle.wire.specs.If.{if◌then◌else◌}
+use Rattle.std.specs.Prelude.{if◌then◌else◌}
 use Rattle.copy.specs.Laid.{laid}
 use Rattle.copy.proofs.LaidLaws.{laid_none}
 use Rattle.writer.proofs.PayloadLaws.{pointer_of}
