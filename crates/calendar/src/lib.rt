@@ -43,6 +43,7 @@ fn year_length(year: u16) -> u16
     if is_leap(year) { 366 } else { 365 }
 }
 
+#[tactic(auto, using(crate::proofs::Counting::by_the_list))]
 fn month_length(year: u16, month: u8) -> u16
     requires { (1 ≤ month) × (month ≤ 12) }
     ensures { result ≡ days_in year month }
@@ -96,6 +97,7 @@ fn counted(mjd: u16) -> Date
     }
 }
 
+#[tactic(auto, unfolding(crate::specs::Calendar::date_of))]
 pub fn date_of(mjd: u16) -> Answer
     ensures { told result ≡ date_of mjd }
 {

@@ -48,6 +48,7 @@ pub enum Answer {
     Refused(Refusal),
 }
 
+#[tactic(auto, unfolding(crate::specs::Satellite::system))]
 fn system_of(b: &[u8]) -> System
     ensures { result ≡ system b.now }
 {

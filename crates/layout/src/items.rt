@@ -33,6 +33,7 @@ fn remainder(n: usize, k: usize) -> usize
     if k == 0 { n } else { n % k }
 }
 
+#[tactic(auto, unfolding(crate::specs::Items::items))]
 fn whole(s: &[u8], tag: u8, k: usize) -> Body
     ensures { toldBody s.now result ≡ items s.now tag k }
 {

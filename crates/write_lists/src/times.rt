@@ -7,6 +7,7 @@ ghost use Rattle.write_lists.specs.Inner.Offsets.{day_bits, clock_bits, some_tim
 use crate::numbers::{Bits, beside, natural_at, two_digits};
 
 // A day from 15,079 on.
+#[tactic(auto, unfolding(crate::specs::Inner::Offsets::day_bits))]
 fn day(row: &[i32]) -> Bits
     ensures { Within (2 ^ 16) (day_bits row.now) result }
 {

@@ -1,23 +1,17 @@
 -- By the list, and a day more for a leap year's February.
 use mathlib.Core.Path.{sym, ◌∙◌}
 use native.Mathlib.Omega.{arith}
-use borrow.Author.Rules.{rules}
 use Rattle.calendar.proofs.Counting.{by_the_list, february-of-28, a_day_more}
 use Rattle.calendar.proofs.month_length.Goals as goal
 
-pub returns-then-month-ne2 : goal.returns-then-month-ne2
-returns-then-month-ne2 c =
-    let a = c.args in
-    by_the_list a.year a.month c.requires.0 (λ e. absurd (c.if-month-ne2.true e))
-
 pub overflow_add-result : goal.overflow_add-result
 overflow_add-result c =
-    omega (arith, february-of-28 c.args.month c.if-month-ne2.false)
+    omega (arith, february-of-28 c.args.month)
 
 pub returns-then-is_leap : goal.returns-then-is_leap
 returns-then-is_leap c =
     let a = c.args in
-    a_day_more a.year a.month c.if-month-ne2.false (sym c.is_leap.ensures ∙ c.if-is_leap.true)
+    a_day_more a.year a.month (omega arith) (sym c.is_leap.ensures ∙ c.if-is_leap.true)
 
 pub returns-else-is_leap : goal.returns-else-is_leap
 returns-else-is_leap c =

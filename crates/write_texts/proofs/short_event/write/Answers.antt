@@ -1,5 +1,5 @@
 -- `write_texts::short_event::write` meets its contract.
-use Prim.Native.Nat.{suc-le-suc}
+use native.Mathlib.Omega.{arith}
 use borrow.Author.Rules.{rules}
 use Rattle.writing.proofs.Answers.{room_short, field-outside}
 use Rattle.write_texts.specs.ShortEvent.{short_event_written}
@@ -18,4 +18,4 @@ unfolding short_event_written
 returns c =
     let a = c.args in
     writes_inside 0x4D 3 _ a.name.now a.text.now a.room.now c.write.result _
-    c.write.ensures (suc-le-suc c.if-language_code-gt16777215.false)
+    c.write.ensures (omega arith)
