@@ -11,12 +11,12 @@ use Rattle.cabinet.specs.Inner.Rolls.{known_kept}
 use Rattle.cabinet.proofs.TableLaws.{Filled, filled_none, filled_more, filled_all}
 use borrow.Author.Rules.{rules}
 use Rattle.cabinet.proofs.rolls.known_in.Goals as goal
-use Rattle.cabinet.proofs.rolls.known_in.Goals.{Joined-keep}
+use Rattle.cabinet.proofs.rolls.known_in.Goals.{Joined-keep, then-keep, else-keep}
 
 -- whether it is set there
 is : (b : Joined-keep) → let args = b.args in
-    b.if-keep.of-flag ≡ (if args.keep then is_set (get_or args.known.now b.loop-k.k 0) else false)
-is b = ⊎_elim (λ w. rw w.0.taken w.2) (λ w. rw w.0.left w.1) b.if-keep.branch
+    b.if-keep.of_flag ≡ (if args.keep then is_set (get_or args.known.now b.loop-k.k 0) else false)
+is b = elim b.if-keep.branch [ then-keep w ↦ rw w.if-keep.true w.of_flag-is | else-keep w ↦ rw w.if-keep.false w.of_flag-is ]
 
 pub loop-k-init : goal.loop-k-init
 loop-k-init c = (omega arith, refl, filled_none _)
@@ -25,8 +25,8 @@ pub loop-k-preserved : goal.loop-k-preserved
 loop-k-preserved c =
     let l = c.loop-k in (
       omega arith,
-      length-set l.numbers l.k _ ∙ l.inv.1,
-      filled_more _ l.numbers l.k _ (omega arith) (c.of_flag.ensures ∙ ap bit (is (goal.at.loop-k-preserved c).Joined-keep)) l.inv.2,
+      length-set l.numbers l.k _ ∙ l.invariant.1,
+      filled_more _ l.numbers l.k _ (omega arith) (c.of_flag.ensures ∙ ap bit (is (goal.at.loop-k-preserved c).Joined-keep)) l.invariant.2,
     )
 
 pub returns : goal.returns

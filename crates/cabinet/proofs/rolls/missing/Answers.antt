@@ -14,51 +14,41 @@ use Rattle.cabinet.specs.Inner.Rolls.{marks_of}
 use Rattle.cabinet.proofs.FlatMarks.{segment_of_lem}
 use borrow.Author.Rules.{rules}
 use Rattle.cabinet.proofs.rolls.missing.Goals as goal
-use Rattle.cabinet.proofs.rolls.missing.Goals.{After-gap-first, At-loop-k}
+use Rattle.cabinet.proofs.rolls.missing.Goals.{After-gap-first}
 
 -- What is known where the gap of segment `k` is found.
 module _ (b : After-gap-first) where
   abbrev flags : List Bool
-
   flags = b.args.flags.now
 
   abbrev known : List ℕ
-
   known = b.args.known.now
 
   abbrev end : List ℕ
-
   end = b.args.end.now
 
   abbrev schedule : Bool
-
   schedule = b.args.schedule
 
   abbrev last : ℕ
-
   last = b.args.last
 
   abbrev k : ℕ
-
   k = b.loop-k.k
 
   abbrev first : ℕ
-
   first = b.gap-first.result
 
   reached : k * 8 ≤ last
-
   reached = omega arith
 
   gap_is : first ≡ gap_of schedule last k (segment_at (marks_of flags known end) k)
-
   gap_is =
       b.gap-first.ensures
       ∙ ap (gap_of schedule last k) (b.segment_in-segment.ensures ∙ sym (segment_of_lem flags known end k (omega arith)))
 
   found : first < 8 → (k * 8 + first ≤ last)
       × (smallest (counted schedule (marks_of flags known end) last) (last + 1 - k * 8) (k * 8) ≡ missing (k * 8 + first))
-
   found = gap_missing schedule (marks_of flags known end) last k first reached gap_is
 
 pub loop-k-init : goal.loop-k-init
@@ -69,13 +59,13 @@ overflow_add-result c = let within = (found (goal.at.overflow_add-result c).Afte
 
 pub returns-then-first-lt8 : goal.returns-then-first-lt8
 returns-then-first-lt8 c =
-    sym (found (goal.at.returns-then-first-lt8 c).After-gap-first c.if-first-lt8.true).1 ∙ ((goal.at.returns-then-first-lt8 c).At-loop-k).loop.invariant.1 ∙ scan_answers (schedule (goal.at.returns-then-first-lt8 c).After-gap-first) (marks_of (flags (goal.at.returns-then-first-lt8 c).After-gap-first) (known (goal.at.returns-then-first-lt8 c).After-gap-first) (end (goal.at.returns-then-first-lt8 c).After-gap-first)) (last (goal.at.returns-then-first-lt8 c).After-gap-first)
+    sym (found (goal.at.returns-then-first-lt8 c).After-gap-first c.if-first-lt8.true).1 ∙ c.loop-k.invariant.1 ∙ scan_answers (schedule (goal.at.returns-then-first-lt8 c).After-gap-first) (marks_of (flags (goal.at.returns-then-first-lt8 c).After-gap-first) (known (goal.at.returns-then-first-lt8 c).After-gap-first) (end (goal.at.returns-then-first-lt8 c).After-gap-first)) (last (goal.at.returns-then-first-lt8 c).After-gap-first)
 
 pub loop-k-preserved : goal.loop-k-preserved
 loop-k-preserved c =
     let marks = marks_of (flags (goal.at.loop-k-preserved c).After-gap-first) (known (goal.at.loop-k-preserved c).After-gap-first) (end (goal.at.loop-k-preserved c).After-gap-first) in
     let passed = none_missing (schedule (goal.at.loop-k-preserved c).After-gap-first) marks (last (goal.at.loop-k-preserved c).After-gap-first) (k (goal.at.loop-k-preserved c).After-gap-first) (first (goal.at.loop-k-preserved c).After-gap-first) (reached (goal.at.loop-k-preserved c).After-gap-first) (gap_is (goal.at.loop-k-preserved c).After-gap-first) (omega arith) in
-    (omega arith, sym passed ∙ ((goal.at.loop-k-preserved c).At-loop-k).loop.invariant.1)
+    (omega arith, sym passed ∙ c.loop-k.invariant.1)
 
 pub returns : goal.returns
 returns c =
