@@ -13,7 +13,7 @@
 Wrong programs of different functions are tried together: a function is proved by its own text and by what others promise, so that
 what is wrong with one of them is no matter of another's proof. `refused` holds the log of such a try to each of them.
 """
-import collections, glob, os, re, sys
+import collections, glob, os, re, shutil, subprocess, sys, tempfile, threading
 
 sys.path.insert(0, os.path.join(os.path.dirname(os.path.abspath(__file__)), '..'))
 from source import code  # noqa: E402
@@ -22,8 +22,9 @@ Wrong = collections.namedtuple('Wrong', 'label functions pairs')
 HEAD = re.compile(r'^wrong: (\w+) of ([\w:]+(?:, [\w:]+)*)$')
 ERROR = re.compile(r'^(\S+?):\d+:\d+: error: (.*(?:\n +has no field .*)?)$', re.M)
 NO_PROOF = re.compile(r'^fn (\w+)::([\w:]+): no proof: expected .*?; (.*)$', re.M)
+PROOF_OF_A_FUNCTION = re.compile(r'^proofs/(.+)/(?:Proof|Answers|Invariants)\.antt$')
 FALLS_WITH_ANOTHER = re.compile(r'was not admitted|which (?:is|are) not proved')
-SHOWS_NOTHING = re.compile(FALLS_WITH_ANOTHER.pattern + r'|that can be named from here|has no field')
+SHOWS_NOTHING = re.compile(FALLS_WITH_ANOTHER.pattern + r'|that can be named from here|has no field|is not in scope')
 
 
 def read(path):
@@ -84,14 +85,81 @@ def faults_in(log, place, left_out=SHOWS_NOTHING):
     """What fails by itself: functions, and files that are no function's proof; place is where the edited crate stood."""
     functions, files = set(), set()
     for path, said in ERROR.findall(log):
-        path = path.split(place)[-1]
+        path = path.split(place)[-1].removeprefix('./')
         if left_out.search(said):
             continue
-        if path.startswith('proofs/') and path.endswith('/Proof.antt'):
-            functions.add('::'.join(path.split('/')[1:-1]))
+        function = PROOF_OF_A_FUNCTION.match(path)
+        if function:
+            functions.add(function.group(1).replace('/', '::'))
         elif not path.startswith('src/'):
             files.add(path)
     for _, function, said in NO_PROOF.findall(log):
-        if re.search(r'does not close', said):
+        if 'did not prove' in said:
             functions.add(function)
     return functions, files
+
+
+class Copy:
+    """A copy of the crates in a temporary folder, in which edits are tried one after another."""
+
+    def __init__(self, top='.'):
+        self.room = tempfile.mkdtemp(prefix='edits-')
+        shutil.copytree(os.path.join(top, 'crates'), os.path.join(self.room, 'crates'))
+        shutil.copy(os.path.join(top, 'crates.txt'), self.room)
+        subprocess.run(['git', 'init', '-q', self.room], check=True)
+
+    def check(self, crate, altered):
+        """What `rt check` says of the crate with these texts, by their path from the top, in the place of the tree's own."""
+        was = {}
+        for path, text in altered.items():
+            with open(os.path.join(self.room, path), encoding='utf-8') as f:
+                was[path] = f.read()
+            with open(os.path.join(self.room, path), 'w', encoding='utf-8') as f:
+                f.write(text)
+        run = subprocess.run(['rt', 'check'], cwd=os.path.join(self.room, 'crates', crate), stdin=subprocess.DEVNULL,
+                             stdout=subprocess.PIPE, stderr=subprocess.STDOUT, text=True, encoding='utf-8', errors='replace')
+        for path, text in was.items():
+            with open(os.path.join(self.room, path), 'w', encoding='utf-8') as f:
+                f.write(text)
+        return run.returncode, run.stdout
+
+    def away(self):
+        shutil.rmtree(self.room, ignore_errors=True)
+
+
+def altered_by(pairs, place):
+    """The texts that these pairs make, by their path from the top; place is put before each file's name."""
+    texts = {}
+    for name, old, key, new in pairs:
+        path = place + name
+        if path not in texts:
+            with open(path, encoding='utf-8') as f:
+                texts[path] = f.read()
+        if old not in texts[path] or key == 'old' and texts[path].count(old) > 1:
+            raise ValueError("'%s' stands %d times in %s" % (old, texts[path].count(old), path))
+        texts[path] = texts[path].replace(old, new)
+    return texts
+
+
+def in_copies(tasks, work, copies=2):
+    """work(copy, task) for each of the tasks, so many at a time, each in a copy of its own; what it gave, in the order of the tasks."""
+    given, waiting, lock = {}, list(enumerate(tasks)), threading.Lock()
+
+    def go():
+        copy = Copy()
+        try:
+            while True:
+                with lock:
+                    if not waiting:
+                        return
+                    at, task = waiting.pop(0)
+                given[at] = work(copy, task)
+        finally:
+            copy.away()
+
+    threads = [threading.Thread(target=go) for _ in range(min(copies, len(tasks)))]
+    for thread in threads:
+        thread.start()
+    for thread in threads:
+        thread.join()
+    return [given.get(at) for at in range(len(tasks))]
