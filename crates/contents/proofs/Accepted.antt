@@ -23,7 +23,7 @@ use Rattle.forms.specs.Fields.{Field, room, pack}
 use Rattle.forms.specs.Lists.{loop, loop_show, all, All, none, one}
 use Rattle.forms.proofs.Lawful.{two_of}
 use Rattle.forms.proofs.FieldLaws.{pack_lt}
-use Rattle.sheet.specs.Content.{Item, common, numbers, bare, head_of, entry_of, TableShape, neither, top_only, entries_only, both, shape_of, side_of, Fields, Descriptor, Loop, Entry, Entries, Content, table_of, row_in, rest_in, top_in, head_in}
+use Rattle.sheet.specs.Content.{Item, common, bare, head_of, entry_of, TableShape, neither, top_only, entries_only, both, shape_of, side_of, Fields, Descriptor, Loop, Entry, Entries, Content, table_of, row_in, rest_in, top_in, head_in}
 use Rattle.sheet.specs.Sheet.{descriptor}
 use Rattle.sheet.specs.Section.{section_item, section_entry, section_top, section_top_by, section_entries_by, section_length, front, seal, section_of}
 use Rattle.sheet.proofs.Shapes.{Columns, shape_columns}

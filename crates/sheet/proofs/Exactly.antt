@@ -31,6 +31,7 @@ use Rattle.sheet.specs.Faults.{FaultFor, AcceptedFor, RefusedExactlyFor, Accepte
 use Rattle.sheet.proofs.SheetLaws.{fields_lawful, item_lawful, items_lawful, descriptor_lawful, entry_lawful, top_lawful, sheet_lawful}
 use Rattle.sheet.proofs.SectionSize.{section_length_lem}
 use Rattle.sheet.proofs.JudgeLaws.{judged_unknown, known_id}
+use Rattle.wire.specs.If.{choose◌then◌else◌}
 
 -- ---- what stands at the front, part by part
 
@@ -73,7 +74,7 @@ descriptor_seen = record { some = (record { tag = 0; body = [] }, omega arith); 
             (read_on _ (raw_read_lem 2 (t ∷ n ∷ []) r refl) ∙ stays _ f)
         behind (wide f) = wide (λ u. read_on _ (raw_read_lem 2 (t ∷ n ∷ []) (r ++ u) refl) ∙ stays _ (f u))
 
-if-seen : {A : Type 0} (b : Bool) {c d : Form A} → Seen c → Seen d → Seen (if b then c else d)
+if-seen : {A : Type 0} (b : Bool) {c d : Form A} → Seen c → Seen d → Seen (choose b then c else d)
 if-seen true f g = f
 if-seen false f g = g
 

@@ -23,6 +23,7 @@ use Rattle.sheet.specs.Inner.Places.{Reads, Onward, Follows, Common, entry_by, s
 use Rattle.sheet.proofs.Shapes.{has_top_lem}
 use Rattle.sheet.specs.declared.End.{End}
 use Rattle.sheet.specs.declared.End.TheVariants.{At, EndsEarly, TooWide}
+use Rattle.wire.specs.If.{choose◌then◌else◌}
 
 -- ---- one behind the other
 
@@ -360,7 +361,7 @@ module _ {s : List ℕ} where
 
   pub top_none : {n : ℕ} {x : End} → (n ≡ 1 → ⊥) → Follows (top_by n) s x x
   top_none {n} {x} h =
-      subst (λ b. Follows (if b then sheet_loop bare else mute ([], [])) s x x) (sym (ne_eqb n 1 h))
+      subst (λ b. Follows (choose b then sheet_loop bare else mute ([], [])) s x x) (sym (ne_eqb n 1 h))
       (follows_mute ([], []))
 
   pub head_common : {x y z v : End} → Follows (raw 2) s x y → Follows (each below (32 ∷ 2 ∷ [])) s y z
@@ -464,7 +465,7 @@ module _ (row : ℕ) {s : List ℕ} where
 
   pub top-of : {n : ℕ} {x y : End} → n ≡ (row_at row).top → Follows (top_by n) s x y → Follows (sheet_top row) s x y
   top-of {x = x} {y} e p =
-      subst (λ b. Follows (if b then sheet_loop bare else mute ([], [])) s x y) (ap (λ n. eqb n 1) e ∙ has_top_lem row) p
+      subst (λ b. Follows (choose b then sheet_loop bare else mute ([], [])) s x y) (ap (λ n. eqb n 1) e ∙ has_top_lem row) p
 
 -- the bits before section_length stand in no sheet
 pub frame_none : {s : List ℕ} {x : End} → Follows (sheet_fields frame) s x x

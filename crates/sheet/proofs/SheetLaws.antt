@@ -19,6 +19,7 @@ use Rattle.forms.proofs.Lawful.{read_on, mute_lawful, raw_read_lem, raw_shown, o
 use Rattle.forms.proofs.ListLaws.{counted_lawful}
 use Rattle.sheet.specs.Content.{Item, plain, numbers, packed, bare, frame, head_of, entry_of, shape_of, has_top, has_entries, side_of, Descriptor, Content, table_of, row_in}
 use Rattle.sheet.specs.Sheet.{inOrder, descriptor_read, descriptor, item_for, loop_for, entry_for, top_for, entries_for, body_for, behind_for, read_for, shown_for, OkFor, sheet_for}
+use Rattle.wire.specs.If.{choose◌then◌else◌}
 
 descriptor_sound : Sound descriptor
 unfolding descriptor_read
@@ -49,7 +50,7 @@ pub descriptor_lawful : Lawful descriptor
 descriptor_lawful = record { sound = descriptor_sound; complete = descriptor_complete }
 
 -- one of two forms, by a test
-if-lawful : {A : Type 0} (b : Bool) {c d : Form A} → Lawful c → Lawful d → Lawful (if b then c else d)
+if-lawful : {A : Type 0} (b : Bool) {c d : Form A} → Lawful c → Lawful d → Lawful (choose b then c else d)
 if-lawful true f g = f
 if-lawful false f g = g
 

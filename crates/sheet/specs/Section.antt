@@ -8,6 +8,7 @@ use Rattle.forms.specs.Fields.{Field, sheet_field, pack, unpack, byte_of}
 use Rattle.forms.specs.Lists.{loop, filling}
 use Rattle.sheet.specs.Content.{Item, plain, numbers, packed, bare, frame, head_of, entry_of, TableShape, shape_of, has_top, has_entries, side_of, Loop, Entry, Entries, Body, Content, table_of, frame_of, body_of, row_in}
 use Rattle.sheet.specs.Sheet.{inOrder, descriptor, sheet_for}
+use Rattle.wire.specs.If.{choose◌then◌else◌}
 
 -- an item of a head or an entry in a section; 7 is the section's refusal of a section_number above the last
 abbrev pub section_item : Item → Form (List ℕ)
@@ -25,7 +26,7 @@ section_entry row = each section_item (entry_of row) then section_loop (side_of 
 
 -- the top loop, where the table has one
 abbrev pub section_top_by : TableShape → Form Loop
-section_top_by x = if has_top x then section_loop bare else mute ([], [])
+section_top_by x = choose has_top x then section_loop bare else mute ([], [])
 
 -- that of a row
 abbrev pub section_top : ℕ → Form Loop
@@ -34,7 +35,7 @@ section_top row = section_top_by (shape_of row)
 -- entries after a length of their own (NIT, BAT), or in the n bytes up to the CRC_32 (SDT, EIT)
 abbrev pub section_entries_by : TableShape → ℕ → ℕ → Form Entries
 section_entries_by x row n =
-    if has_entries x then (if has_top x then loop (section_entry row) bare else mute [] then filling (section_entry row) n) else mute ([], [])
+    choose has_entries x then (choose has_top x then loop (section_entry row) bare else mute [] then filling (section_entry row) n) else mute ([], [])
 
 -- those of a row
 abbrev pub section_entries : ℕ → ℕ → Form Entries

@@ -6,6 +6,7 @@ use Rattle.forms.specs.Form.{Front, Form, mute, raw_read, raw, ◌then◌, such,
 use Rattle.forms.specs.Fields.{Field, sheet_field}
 use Rattle.forms.specs.Lists.{counted}
 use Rattle.sheet.specs.Content.{Item, plain, numbers, packed, bare, frame, head_of, entry_of, TableShape, shape_of, has_top, has_entries, side_of, Descriptor, Loop, Entry, Entries, Body, Content, table_of, row_in}
+use Rattle.wire.specs.If.{choose◌then◌else◌}
 
 -- "24 .. section number above last"
 abbrev pub inOrder : List ℕ → Bool
@@ -42,7 +43,7 @@ module _ (field : Field → Form ℕ) where
 
   -- "NIT, BAT, TOT: count, descriptors as broadcast."
   abbrev pub top_for_by : TableShape → Form Loop
-  top_for_by x = if has_top x then loop_for bare else mute ([], [])
+  top_for_by x = choose has_top x then loop_for bare else mute ([], [])
 
   -- that of a row
   abbrev pub top_for : ℕ → Form Loop
@@ -51,7 +52,7 @@ module _ (field : Field → Form ℕ) where
   -- "NIT, BAT, SDT, EIT: count, entries."; the four bits before the second length of NIT and BAT are reserved
   abbrev pub entries_for_by : TableShape → ℕ → Form Entries
   entries_for_by x row =
-      if has_entries x then each field (if has_top x then bare else []) then counted (entry_for row) else mute ([], [])
+      choose has_entries x then each field (if has_top x then bare else []) then counted (entry_for row) else mute ([], [])
 
   -- those of a row
   abbrev pub entries_for : ℕ → Form Entries

@@ -1,4 +1,5 @@
 -- What the layers above share: tests, loops, bytes and digits as numbers, readings, and parts of lists.
+pub mod If
 pub mod Trail
 pub mod Bytes
 pub mod Number

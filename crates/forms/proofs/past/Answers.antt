@@ -1,7 +1,6 @@
 -- `forms::past` meets its contract.
 use mathlib.Core.Path.{sym}
 use native.Mathlib.Omega.{arith}
-use borrow.Author.Rules.{rules}
 use Rattle.forms.proofs.Puts.{sum_fits, sum_past}
 use Rattle.forms.proofs.past.Goals as goal
 

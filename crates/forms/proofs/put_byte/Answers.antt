@@ -1,7 +1,6 @@
 -- `forms::put_byte` meets its contract.
 use mathlib.Core.Path.{sym}
 use native.Mathlib.Omega.{arith}
-use borrow.Author.Rules.{rules}
 use Rattle.forms.proofs.Puts.{put_one, put_out}
 use Rattle.forms.proofs.put_byte.Goals as goal
 

@@ -3,7 +3,6 @@ use mathlib.Core.Bool.{not}
 use mathlib.Core.Path.{ap, ◌∙◌}
 use Rattle.tables.specs.Tables.{is_numbered, row_of}
 use Rattle.head.specs.Head.{has_no_sub_table}
-use borrow.Author.Rules.{rules}
 use Rattle.head.proofs.has_no_sub_table.Goals as goal
 
 pub returns : goal.returns

@@ -3,7 +3,6 @@ use Prim.Native.Nat.{ℕ, ◌%◌}
 use lib.Dec.{eqb}
 use mathlib.Core.Path.{ap}
 use Rattle.head.specs.Head.{is_current}
-use borrow.Author.Rules.{rules}
 use Rattle.head.proofs.is_current.Goals as goal
 
 pub returns : goal.returns

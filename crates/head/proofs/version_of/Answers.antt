@@ -2,7 +2,6 @@
 use Prim.Native.Nat.{ℕ, ◌/◌, ◌%◌}
 use mathlib.Core.Path.{ap}
 use Rattle.head.specs.Head.{version_in}
-use borrow.Author.Rules.{rules}
 use Rattle.head.proofs.version_of.Goals as goal
 
 pub returns : goal.returns

@@ -2,7 +2,6 @@
 use mathlib.Core.Path.{ap, ◌∙◌}
 use mathlib.Core.Bool.{Bool}
 use Rattle.roll.specs.Roll.{answered, asked}
-use borrow.Author.Rules.{rules}
 use Rattle.roll.proofs.ask.Goals as goal
 
 pub returns-then-roll : goal.returns-then-roll

@@ -1,6 +1,5 @@
 -- `roll::empty` meets its contract.
 use Rattle.roll.specs.Roll.{empty_roll}
-use borrow.Author.Rules.{rules}
 use Rattle.roll.proofs.empty.Goals as goal
 
 pub returns : goal.returns

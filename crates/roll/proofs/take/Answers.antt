@@ -2,7 +2,6 @@
 use mathlib.Core.Path.{◌≡◌, sym, ap, ◌∙◌}
 use Rattle.roll.specs.Roll.{taking, answering, told_course}
 use Rattle.roll.proofs.Outcomes.{came_to, taking_by}
-use borrow.Author.Rules.{rules}
 use Rattle.roll.proofs.take.Goals as goal
 use Rattle.roll.proofs.take.Goals.{After-course_of-course}
 

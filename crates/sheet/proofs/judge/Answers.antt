@@ -4,7 +4,6 @@ use mathlib.Core.Path.{sym, subst}
 use Prim.Native.Nat.{◌≤◌}
 use Rattle.forms.specs.Fields.{sheet_field}
 use Rattle.sheet.proofs.JudgeLaws.{judged_empty, judged_unknown}
-use borrow.Author.Rules.{rules}
 use Rattle.sheet.proofs.judge.Goals as goal
 
 pub returns-then-sheet-eq0 : goal.returns-then-sheet-eq0

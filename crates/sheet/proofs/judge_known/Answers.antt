@@ -4,7 +4,6 @@ use mathlib.Core.Path.{sym, ap, ap₂, ◌∙◌}
 use Rattle.sheet.specs.Inner.Lengths.{judged_length}
 use Rattle.sheet.proofs.ReadLaws.{seen}
 use Rattle.sheet.proofs.JudgeLaws.{judged_refused, judged_after, judged_whole}
-use borrow.Author.Rules.{rules}
 use Rattle.sheet.proofs.judge_known.Goals as goal
 
 pub behind_id-end-requires : goal.behind_id-end-requires

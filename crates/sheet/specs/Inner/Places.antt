@@ -1,5 +1,5 @@
 -- A sheet read from left to right, by places: what the parts of the judge promise each other.
-use Rattle.std.specs.Prelude.{ℕ, ◌≤◌, ◌<◌, ◌≡◌, Bool, true, false, List, [], ◌∷◌, length, get_or, drop, eqb, if◌then◌else◌}
+use Rattle.std.specs.Prelude.{ℕ, ◌≤◌, ◌<◌, ◌≡◌, Bool, true, false, List, [], ◌∷◌, length, get_or, drop, eqb}
 use Rattle.wire.specs.Bytes.{Bytes}
 use Rattle.wire.specs.Reading.{value, refused}
 use Rattle.tables.specs.Tables.{row_of}
@@ -9,6 +9,7 @@ use Rattle.sheet.specs.Content.{Item, plain, flags, bare, status, common, Loop, 
 use Rattle.sheet.specs.Sheet.{sheet_item, sheet_loop}
 use Rattle.sheet.specs.declared.End.{End}
 use Rattle.sheet.specs.declared.End.TheVariants.{At, EndsEarly, TooWide}
+use Rattle.wire.specs.If.{choose◌then◌else◌}
 
 -- what the judge knows of a sheet whose table_id is in the table
 pub record Known (s : List ℕ) (row : ℕ) : Type 0 where
@@ -62,4 +63,4 @@ entry_with n flagged running = each sheet_item (entry_by n flagged) then sheet_l
 
 -- by the row's column for a top loop
 abbrev pub top_by : ℕ → Form Loop
-top_by top = if eqb top 1 then sheet_loop bare else mute ([], [])
+top_by top = choose eqb top 1 then sheet_loop bare else mute ([], [])

@@ -6,7 +6,6 @@ use Rattle.tables.specs.Tables.{row_of}
 use Rattle.sheet.specs.Reads.{told}
 use Rattle.turn.specs.Turn.{wrote, answer, roomAfter}
 use Rattle.turn.proofs.WholeLaws.{told_refusal, section_told, section_no_room, section_made}
-use borrow.Author.Rules.{rules}
 use Rattle.turn.proofs.to_section.Goals as goal
 
 pub returns-then-room-lt4096 : goal.returns-then-room-lt4096

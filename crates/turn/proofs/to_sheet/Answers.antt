@@ -5,7 +5,6 @@ use Rattle.verdict.specs.Verdict.{is_accepted}
 use Rattle.turn.specs.Turn.{wrote, answer, roomAfter}
 use Rattle.turn.specs.Answers.{toldRefusal}
 use Rattle.turn.proofs.WholeLaws.{told_refusal, sheet_no_room, sheet_refused, sheet_made, accepted_is}
-use borrow.Author.Rules.{rules}
 use Rattle.turn.proofs.to_sheet.Goals as goal
 
 pub returns-then-room-lt5120 : goal.returns-then-room-lt5120

@@ -13,6 +13,7 @@ use Rattle.sheet.specs.Sheet.{descriptor, sheet_item, sheet_loop, entries_for_by
 use Rattle.sheet.specs.Section.{section_item, section_loop, section_entries_by}
 use Rattle.turn.specs.Inner.Fields.{Shape}
 use Rattle.forms.specs.declared.Place.{Place}
+use Rattle.wire.specs.If.{choose◌then◌else◌}
 
 -- of a form in sheets and a form in sections the one that is read; of what a sheet has it is known that a section can hold it
 abbrev pub from : {A : Type 0} → Bool → Form A → Form A → Form A
@@ -89,7 +90,7 @@ pub record LoopTurned (forth : Bool) (span : ℕ) (s : List ℕ) (p : Place) (o 
 
 -- the top loop that is read, where the table has one
 abbrev pub top_if : Bool → Bool → Form Loop
-top_if b top = from b (if top then sheet_loop bare else mute ([], [])) (if top then section_loop bare else mute ([], []))
+top_if b top = from b (choose top then sheet_loop bare else mute ([], [])) (choose top then section_loop bare else mute ([], []))
 
 -- the place behind the entries' own length, where they have one
 abbrev pub behind_own : Bool → ℕ → ℕ

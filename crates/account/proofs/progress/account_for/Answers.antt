@@ -1,10 +1,6 @@
 -- `account::progress::account_for` meets its contract.
-<<<<<<< ours
 use Rattle.std.proofs.Common.{Bool, sym, ap, ◌∙◌, rules}
 use Rattle.std.specs.Prelude.{if◌then◌else◌}
-=======
-use Rattle.std.proofs.Common.{Bool, sym, ap, ◌∙◌}
->>>>>>> theirs
 use Rattle.account.specs.Entered.{first_pid, fresh_account}
 use Rattle.account.specs.declared.tally.Account.{Account}
 use Rattle.account.proofs.progress.account_for.Goals as goal

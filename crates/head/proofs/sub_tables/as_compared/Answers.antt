@@ -1,6 +1,5 @@
 -- `head::sub_tables::as_compared` meets its contract.
 use Rattle.head.specs.SubTable.{compared}
-use borrow.Author.Rules.{rules}
 use Rattle.head.proofs.sub_tables.as_compared.Goals as goal
 
 pub returns : goal.returns

@@ -4,7 +4,6 @@ use native.Mathlib.Omega.{arith}
 use Rattle.tables.specs.Tables.{row_of}
 use borrow.Author.Tests.{eq-eqb, ne_eqb}
 use Rattle.head.specs.SubTable.{ids_that_count}
-use borrow.Author.Rules.{rules}
 use Rattle.head.proofs.sub_tables.ids_that_count.Goals as goal
 
 pub returns-then-row-eq-SDT : goal.returns-then-row-eq-SDT

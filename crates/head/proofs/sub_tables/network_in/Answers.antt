@@ -3,7 +3,6 @@ use mathlib.Core.Path.{sym, ap, ◌∙◌}
 use borrow.Author.Tests.{eq-eqb, ne_eqb}
 use Rattle.tables.specs.Tables.{row_of}
 use Rattle.head.specs.SubTable.{network_in}
-use borrow.Author.Rules.{rules}
 use Rattle.head.proofs.sub_tables.network_in.Goals as goal
 
 pub returns-then-row_of-eq-SDT : goal.returns-then-row_of-eq-SDT

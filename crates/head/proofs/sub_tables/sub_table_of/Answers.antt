@@ -1,6 +1,5 @@
 -- `head::sub_tables::sub_table_of` meets its contract.
 use Rattle.head.specs.SubTable.{sub_table_of}
-use borrow.Author.Rules.{rules}
 use Rattle.head.proofs.sub_tables.sub_table_of.Goals as goal
 
 pub returns : goal.returns

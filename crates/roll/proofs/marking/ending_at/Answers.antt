@@ -1,7 +1,6 @@
 -- `roll::marking::ending_at` meets its contract, case by case.
 use borrow.Author.Tests.{eq-eqb, ne_eqb}
 use Rattle.roll.specs.Segments.{ending_by}
-use borrow.Author.Rules.{rules}
 use Rattle.roll.proofs.marking.ending_at.Goals as goal
 
 pub returns-in-Unknown : goal.returns-in-Unknown

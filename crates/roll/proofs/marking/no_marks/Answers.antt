@@ -1,6 +1,5 @@
 -- `roll::marking::no_marks` meets its contract: no number has come, and no end is known.
 use Rattle.roll.specs.Marks.{unmarked}
-use borrow.Author.Rules.{rules}
 use Rattle.roll.proofs.marking.no_marks.Goals as goal
 
 pub returns : goal.returns

@@ -1,7 +1,6 @@
 -- `roll::marking::with_mark` meets its contract: one mark is set, the others stay, and so does the end.
 use mathlib.Core.Path.{refl}
 use Rattle.roll.specs.Marks.{with_mark}
-use borrow.Author.Rules.{rules}
 use Rattle.roll.proofs.marking.with_mark.Goals as goal
 
 pub returns : goal.returns

@@ -1,8 +1,6 @@
 -- `roll::segments::all_come` meets its contract: the first `i` have come, or one of them has not.
-use Prim.Native.Nat.{◌-◌, ◌≤◌}
 use mathlib.Core.Path.{◌≡◌, sym, ◌∙◌}
 use native.Mathlib.Omega.{arith}
-use Rattle.roll.specs.Gaps.{all_came}
 use Rattle.roll.proofs.Gaps.{all_start, all_more, all_less}
 use Rattle.roll.proofs.segments.all_come.Goals as goal
 use Rattle.roll.proofs.segments.all_come.Goals.{then-not-came-i, else-not-came-i}

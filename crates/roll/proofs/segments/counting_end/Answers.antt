@@ -1,7 +1,6 @@
 -- `roll::segments::counting_end` meets its contract, case by case.
 use borrow.Author.Tests.{eq-eqb, ne_eqb, le-leb, lt-leb}
 use Rattle.roll.specs.Segments.{counting}
-use borrow.Author.Rules.{rules}
 use Rattle.roll.proofs.segments.counting_end.Goals as goal
 
 pub returns-then-e-segment : goal.returns-then-e-segment

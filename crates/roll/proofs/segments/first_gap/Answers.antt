@@ -1,8 +1,6 @@
 -- `roll::segments::first_gap` meets its contract: the first gap from `i` on is the first of all, while all before `i` have come.
-use Prim.Native.Nat.{◌-◌, ◌≤◌}
-use mathlib.Core.Path.{◌≡◌, sym, ◌∙◌}
+use mathlib.Core.Path.{sym, ◌∙◌}
 use native.Mathlib.Omega.{arith}
-use Rattle.roll.specs.Gaps.{first_gap}
 use Rattle.roll.proofs.Gaps.{gap-start, gap_on, gap_here, gap-end}
 use Rattle.roll.proofs.segments.first_gap.Goals as goal
 

@@ -3,7 +3,6 @@ use Prim.Native.Nat.{◌≤◌}
 use mathlib.Core.Path.{◌≡◌, sym, ap, ◌∙◌, subst}
 use Rattle.roll.specs.Gaps.{gap_among, gap_of}
 use Rattle.roll.proofs.Gaps.{gap_unknown, gap_known, all_none, wanted_few}
-use borrow.Author.Rules.{rules}
 use Rattle.roll.proofs.segments.gap.Goals as goal
 use Rattle.roll.proofs.segments.gap.Goals.{After-wanted-count}
 

@@ -10,7 +10,6 @@ use Rattle.roll.specs.Gaps.{gap_of}
 use Rattle.roll.proofs.Smallest.{smallest-start, smallest-end}
 use Rattle.roll.proofs.Turns.{counted, gap_missing, none_missing, scan_answers}
 use Rattle.roll.specs.declared.Marks.{Marks}
-use borrow.Author.Rules.{rules}
 use Rattle.roll.proofs.segments.missing.Goals as goal
 use Rattle.roll.proofs.segments.missing.Goals.{After-gap-first}
 

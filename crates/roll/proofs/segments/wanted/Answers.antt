@@ -2,7 +2,6 @@
 use mathlib.Core.Path.{sym, ◌∙◌}
 use borrow.Author.Tests.{eq-eqb, ne_eqb}
 use Rattle.roll.specs.Gaps.{up_to, wanted_of}
-use borrow.Author.Rules.{rules}
 use Rattle.roll.proofs.segments.wanted.Goals as goal
 
 pub returns-in-Unknown : goal.returns-in-Unknown

@@ -1,6 +1,5 @@
 -- `roll::stepping::answered_by` meets its contract.
 use Rattle.roll.proofs.Outcomes.{told_and_asked}
-use borrow.Author.Rules.{rules}
 use Rattle.roll.proofs.stepping.answered_by.Goals as goal
 
 pub returns : goal.returns

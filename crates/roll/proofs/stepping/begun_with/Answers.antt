@@ -1,6 +1,5 @@
 -- `roll::stepping::begun_with` meets its contract.
 use Rattle.roll.specs.Roll.{begun_with}
-use borrow.Author.Rules.{rules}
 use Rattle.roll.proofs.stepping.begun_with.Goals as goal
 
 pub returns : goal.returns

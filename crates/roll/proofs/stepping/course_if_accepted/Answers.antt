@@ -1,7 +1,6 @@
 -- `roll::stepping::course_if_accepted` meets its contract.
 use mathlib.Core.Path.{sym, ◌∙◌}
 use Rattle.roll.specs.Roll.{course_if_accepted}
-use borrow.Author.Rules.{rules}
 use Rattle.roll.proofs.stepping.course_if_accepted.Goals as goal
 
 pub returns-then-has_no_sub_table : goal.returns-then-has_no_sub_table

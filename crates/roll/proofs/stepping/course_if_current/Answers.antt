@@ -2,7 +2,6 @@
 use mathlib.Core.Path.{sym, ap, ◌∙◌}
 use mathlib.Core.Bool.{Bool, not}
 use Rattle.roll.specs.Roll.{takes, course_if_current}
-use borrow.Author.Rules.{rules}
 use Rattle.roll.proofs.stepping.course_if_current.Goals as goal
 
 pub returns-then-end_unfit : goal.returns-then-end_unfit

@@ -3,7 +3,6 @@ use mathlib.Core.Path.{sym, ap, ◌∙◌}
 use Rattle.verdict.specs.Verdict.{Said, is_accepted, number_of, place_of}
 use Rattle.roll.specs.Answer.{refusing}
 use Rattle.roll.specs.Roll.{refuses, course_of}
-use borrow.Author.Rules.{rules}
 use Rattle.roll.proofs.stepping.course_of.Goals as goal
 
 pub returns-then-is_accepted : goal.returns-then-is_accepted

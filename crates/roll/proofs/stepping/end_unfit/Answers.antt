@@ -11,7 +11,6 @@ use Rattle.head.specs.Head.{number_in, last_in}
 use Rattle.roll.specs.Marks.{segment_of}
 use Rattle.roll.specs.Segments.{is_schedule}
 use Rattle.roll.specs.Roll.{segment_end_in, end_unfit}
-use borrow.Author.Rules.{rules}
 use Rattle.roll.proofs.stepping.end_unfit.Goals as goal
 use Rattle.roll.proofs.stepping.end_unfit.Goals.{After-number_of-number}
 

@@ -2,7 +2,6 @@
 use mathlib.Core.Path.{ap, ap₂, ◌∙◌}
 use mathlib.Core.Bool.{not}
 use Rattle.head.specs.SubTable.{same_ids}
-use borrow.Author.Rules.{rules}
 use Rattle.roll.proofs.stepping.is_another.Goals as goal
 
 pub returns-then-begun : goal.returns-then-begun

@@ -1,7 +1,6 @@
 -- `roll::stepping::marked_by` meets its contract: one segment is altered, the others stay.
 use Rattle.roll.specs.Marks.{segment_at}
 use Rattle.roll.proofs.Outcomes.{marked_by_segment}
-use borrow.Author.Rules.{rules}
 use Rattle.roll.proofs.stepping.marked_by.Goals as goal
 
 pub returns : goal.returns

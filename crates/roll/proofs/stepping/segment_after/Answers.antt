@@ -6,7 +6,6 @@ use lib.ListN.{get_or}
 use Rattle.head.specs.Head.{number_in}
 use Rattle.roll.specs.Segments.{is_schedule}
 use Rattle.roll.specs.Roll.{segment_after}
-use borrow.Author.Rules.{rules}
 use Rattle.roll.proofs.stepping.segment_after.Goals as goal
 use Rattle.roll.proofs.stepping.segment_after.Goals.{After-is_schedule}
 

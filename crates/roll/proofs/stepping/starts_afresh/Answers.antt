@@ -6,7 +6,6 @@ use Prim.Native.Nat.{ℕ}
 use mathlib.Core.Bool.{not}
 use lib.Dec.{eqb}
 use borrow.Author.Tests.{eq-eqb, ne_eqb}
-use borrow.Author.Rules.{rules}
 use Rattle.roll.proofs.stepping.starts_afresh.Goals as goal
 
 pub returns-then-version-version_of : goal.returns-then-version-version_of

@@ -1,6 +1,5 @@
 -- `roll::stepping::with_section` meets its contract.
 use Rattle.roll.specs.Roll.{continued}
-use borrow.Author.Rules.{rules}
 use Rattle.roll.proofs.stepping.with_section.Goals as goal
 
 pub returns : goal.returns

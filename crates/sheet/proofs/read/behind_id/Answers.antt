@@ -1,6 +1,5 @@
 -- `sheet::read::behind_id` meets its contract.
 use Rattle.sheet.proofs.ReadLaws.{follows_then, frame_none, top-of}
-use borrow.Author.Rules.{rules}
 use Rattle.sheet.proofs.read.behind_id.Goals as goal
 
 pub returns : goal.returns

@@ -1,7 +1,6 @@
 -- `sheet::read::below_at` meets its contract.
 use native.Mathlib.Omega.{arith}
 use Rattle.sheet.proofs.ReadLaws.{reads_below, wide_below, early_below}
-use borrow.Author.Rules.{rules}
 use Rattle.sheet.proofs.read.below_at.Goals as goal
 
 pub returns-then-s-at : goal.returns-then-s-at

@@ -1,6 +1,5 @@
 -- `sheet::read::common` meets its contract.
 use Rattle.sheet.proofs.ReadLaws.{head_common}
-use borrow.Author.Rules.{rules}
 use Rattle.sheet.proofs.read.common.Goals as goal
 
 pub returns : goal.returns

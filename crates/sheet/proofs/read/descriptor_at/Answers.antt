@@ -5,7 +5,6 @@ use Prim.Native.Nat.{◌+◌}
 use Rattle.sheet.specs.declared.End.TheVariants.{At}
 use Rattle.sheet.specs.Sheet.{descriptor}
 use Rattle.sheet.proofs.ReadLaws.{reads_descriptor, early_descriptor, early_body, follows_told}
-use borrow.Author.Rules.{rules}
 use Rattle.sheet.proofs.read.descriptor_at.Goals as goal
 
 pub returns-then-left-lt2 : goal.returns-then-left-lt2

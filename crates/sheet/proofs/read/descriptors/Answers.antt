@@ -2,7 +2,6 @@
 use Rattle.forms.specs.Lists.{counted}
 use Rattle.sheet.specs.Sheet.{descriptor}
 use Rattle.sheet.proofs.ReadLaws.{follows_on, still_early, still_wide}
-use borrow.Author.Rules.{rules}
 use Rattle.sheet.proofs.read.descriptors.Goals as goal
 
 pub returns-in-At : goal.returns-in-At

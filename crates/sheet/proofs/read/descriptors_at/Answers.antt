@@ -2,7 +2,6 @@
 use native.Mathlib.Omega.{arith}
 use Rattle.sheet.specs.Sheet.{descriptor}
 use Rattle.sheet.proofs.ReadLaws.{follows_counted, follows_early}
-use borrow.Author.Rules.{rules}
 use Rattle.sheet.proofs.read.descriptors_at.Goals as goal
 
 pub returns-then-less-lt2 : goal.returns-then-less-lt2

@@ -1,8 +1,7 @@
 -- `sheet::read::descriptors_times` meets its contract.
-use borrow.Author.Rules.{rules}
 use native.Mathlib.Omega.{arith}
 use Rattle.sheet.specs.Sheet.{descriptor}
-use Rattle.sheet.proofs.ReadLaws.{Rest, item_on, item_early, item_wide, items_done}
+use Rattle.sheet.proofs.ReadLaws.{item_on, item_early, item_wide, items_done}
 use Rattle.sheet.proofs.read.descriptors_times.Goals as goal
 
 pub loop-left-init : goal.loop-left-init

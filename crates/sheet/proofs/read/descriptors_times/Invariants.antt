@@ -1,8 +1,6 @@
 -- `sheet::read::descriptors_times` meets its contract.
-use borrow.Author.Rules.{rules}
-use native.Mathlib.Omega.{arith}
 use Rattle.sheet.specs.Sheet.{descriptor}
-use Rattle.sheet.proofs.ReadLaws.{Rest, item_on, item_early, item_wide, items_done}
+use Rattle.sheet.proofs.ReadLaws.{Rest}
 use Rattle.sheet.proofs.read.descriptors_times.Given as goal
 
 abbrev pub invariant-loop-left : goal.invariant-loop-left

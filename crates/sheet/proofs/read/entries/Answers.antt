@@ -1,6 +1,5 @@
 -- `sheet::read::entries` meets its contract.
 use Rattle.sheet.proofs.ReadLaws.{follows_on, still_early, still_wide}
-use borrow.Author.Rules.{rules}
 use Rattle.sheet.proofs.read.entries.Goals as goal
 
 pub returns-in-At : goal.returns-in-At

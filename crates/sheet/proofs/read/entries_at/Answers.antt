@@ -1,7 +1,6 @@
 -- `sheet::read::entries_at` meets its contract.
 use native.Mathlib.Omega.{arith}
 use Rattle.sheet.proofs.ReadLaws.{follows_counted, follows_early}
-use borrow.Author.Rules.{rules}
 use Rattle.sheet.proofs.read.entries_at.Goals as goal
 
 pub returns-then-less-lt2 : goal.returns-then-less-lt2

@@ -1,7 +1,6 @@
 -- `sheet::read::entries_of` meets its contract, row by row.
 use Rattle.tables.proofs.RowLaws.{numbered_below, unnumbered_from}
 use Rattle.sheet.proofs.ReadLaws.{entries_none, entries_service, entries_event, entries_stream}
-use borrow.Author.Rules.{rules}
 use Rattle.sheet.proofs.read.entries_of.Goals as goal
 
 pub returns-then-not-is_numbered : goal.returns-then-not-is_numbered

@@ -1,8 +1,6 @@
 -- `sheet::read::entries_times` meets its contract.
-use borrow.Author.Rules.{rules}
-use native.Mathlib.Omega.{arith}
 use Rattle.sheet.specs.Inner.Places.{entry_with}
-use Rattle.sheet.proofs.ReadLaws.{Rest, item_on, item_early, item_wide, items_done}
+use Rattle.sheet.proofs.ReadLaws.{Rest}
 use Rattle.sheet.proofs.read.entries_times.Given as goal
 
 abbrev pub invariant-loop-k : goal.invariant-loop-k

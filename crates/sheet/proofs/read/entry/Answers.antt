@@ -1,6 +1,5 @@
 -- `sheet::read::entry` meets its contract.
 use Rattle.sheet.proofs.ReadLaws.{follows_then}
-use borrow.Author.Rules.{rules}
 use Rattle.sheet.proofs.read.entry.Goals as goal
 
 pub returns : goal.returns

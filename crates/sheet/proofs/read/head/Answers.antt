@@ -1,7 +1,6 @@
 -- `sheet::read::head` meets its contract, row by row.
 use Rattle.tables.proofs.RowLaws.{numbered_below, unnumbered_from}
 use Rattle.sheet.proofs.ReadLaws.{head_time, head_alone, head_service, head_event}
-use borrow.Author.Rules.{rules}
 use Rattle.sheet.proofs.read.head.Goals as goal
 
 pub returns-then-not-is_numbered : goal.returns-then-not-is_numbered

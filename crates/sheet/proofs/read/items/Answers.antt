@@ -1,6 +1,5 @@
 -- `sheet::read::items` meets its contract.
 use Rattle.sheet.proofs.ReadLaws.{items_plain, items_flagged}
-use borrow.Author.Rules.{rules}
 use Rattle.sheet.proofs.read.items.Goals as goal
 
 pub returns-then-flagged : goal.returns-then-flagged

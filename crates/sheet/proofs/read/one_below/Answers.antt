@@ -1,7 +1,6 @@
 -- `sheet::read::one_below` meets its contract.
 use Rattle.forms.specs.Fields.{below}
 use Rattle.sheet.proofs.ReadLaws.{follows_on, still_early, still_wide}
-use borrow.Author.Rules.{rules}
 use Rattle.sheet.proofs.read.one_below.Goals as goal
 
 pub returns-in-At : goal.returns-in-At

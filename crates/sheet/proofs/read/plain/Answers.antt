@@ -1,7 +1,6 @@
 -- `sheet::read::plain` meets its contract.
 use Rattle.forms.specs.Form.{raw}
 use Rattle.sheet.proofs.ReadLaws.{follows_on, still_early, still_wide}
-use borrow.Author.Rules.{rules}
 use Rattle.sheet.proofs.read.plain.Goals as goal
 
 pub returns-in-At : goal.returns-in-At

@@ -1,7 +1,6 @@
 -- `sheet::read::plain_at` meets its contract.
 use native.Mathlib.Omega.{arith}
 use Rattle.sheet.proofs.ReadLaws.{reads_raw, early_raw}
-use borrow.Author.Rules.{rules}
 use Rattle.sheet.proofs.read.plain_at.Goals as goal
 
 pub returns-then-less-n : goal.returns-then-less-n

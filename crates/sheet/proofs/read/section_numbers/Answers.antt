@@ -2,7 +2,6 @@
 use Rattle.sheet.specs.Content.{numbers}
 use Rattle.sheet.specs.Sheet.{sheet_item}
 use Rattle.sheet.proofs.ReadLaws.{follows_on, still_early, still_wide}
-use borrow.Author.Rules.{rules}
 use Rattle.sheet.proofs.read.section_numbers.Goals as goal
 
 pub returns-in-At : goal.returns-in-At

@@ -1,7 +1,6 @@
 -- `sheet::read::section_numbers_at` meets its contract.
 use native.Mathlib.Omega.{arith}
 use Rattle.sheet.proofs.ReadLaws.{reads_numbers, wide_numbers, early_numbers}
-use borrow.Author.Rules.{rules}
 use Rattle.sheet.proofs.read.section_numbers_at.Goals as goal
 
 pub returns-then-less-lt2 : goal.returns-then-less-lt2

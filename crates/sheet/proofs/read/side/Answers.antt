@@ -1,6 +1,5 @@
 -- `sheet::read::side` meets its contract.
 use Rattle.sheet.proofs.ReadLaws.{side_status, side_bare}
-use borrow.Author.Rules.{rules}
 use Rattle.sheet.proofs.read.side.Goals as goal
 
 pub returns-then-running : goal.returns-then-running

@@ -1,6 +1,5 @@
 -- `sheet::read::top_loop` meets its contract.
 use Rattle.sheet.proofs.ReadLaws.{top_there, top_none}
-use borrow.Author.Rules.{rules}
 use Rattle.sheet.proofs.read.top_loop.Goals as goal
 
 pub returns-then-top-eq1 : goal.returns-then-top-eq1

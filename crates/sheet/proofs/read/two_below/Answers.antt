@@ -2,7 +2,6 @@
 use mathlib.Core.List.{[], ◌∷◌}
 use Rattle.forms.specs.Fields.{below}
 use Rattle.sheet.proofs.ReadLaws.{follows_cons, follows_one}
-use borrow.Author.Rules.{rules}
 use Rattle.sheet.proofs.read.two_below.Goals as goal
 
 pub returns : goal.returns

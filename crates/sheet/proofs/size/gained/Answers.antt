@@ -3,7 +3,6 @@ use mathlib.Core.Path.{sym, ap}
 use Rattle.tables.proofs.RowLaws.{numbered_below, unnumbered_from}
 use Rattle.sheet.specs.Inner.Lengths.{gain}
 use Rattle.sheet.proofs.Sizes.{gain_none, gain_loops}
-use borrow.Author.Rules.{rules}
 use Rattle.sheet.proofs.size.gained.Goals as goal
 
 pub returns-then-row-eq-SDT : goal.returns-then-row-eq-SDT

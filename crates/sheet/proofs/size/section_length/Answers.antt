@@ -4,7 +4,6 @@ use Prim.Native.Nat.{◌-◌}
 use lib.ListN.{length}
 use Rattle.forms.specs.Room.{sum}
 use Rattle.sheet.specs.Inner.Lengths.{length_by}
-use borrow.Author.Rules.{rules}
 use Rattle.sheet.proofs.size.section_length.Goals as goal
 
 pub returns : goal.returns

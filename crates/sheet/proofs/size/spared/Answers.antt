@@ -3,7 +3,6 @@ use mathlib.Core.Path.{sym, ap, ◌∙◌}
 use Prim.Native.Nat.{◌+◌, ◌*◌}
 use Rattle.sheet.specs.Inner.Lengths.{spare, cut, count_at}
 use Rattle.sheet.proofs.Sizes.{spare_one}
-use borrow.Author.Rules.{rules}
 use Rattle.sheet.proofs.size.spared.Goals as goal
 
 pub returns-then-row-eq-SDT : goal.returns-then-row-eq-SDT

@@ -1,6 +1,5 @@
 -- `turn::bodies::body_back` meets its contract.
 use Rattle.turn.proofs.BodyLaws.{entries_known, rest_some, rest_none, body_turned}
-use borrow.Author.Rules.{rules}
 use Rattle.turn.proofs.bodies.body_back.Goals as goal
 
 pub returns-then-fixed-eq0 : goal.returns-then-fixed-eq0

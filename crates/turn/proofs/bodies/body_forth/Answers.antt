@@ -1,6 +1,5 @@
 -- `turn::bodies::body_forth` meets its contract.
 use Rattle.turn.proofs.BodyLaws.{rest_some, rest_none, body_turned}
-use borrow.Author.Rules.{rules}
 use Rattle.turn.proofs.bodies.body_forth.Goals as goal
 
 pub returns-then-row-eq0 : goal.returns-then-row-eq0

@@ -1,10 +1,9 @@
 -- `turn::counts::descriptors_in` meets its contract.
-use Prim.Native.Nat.{◌-◌}
 use native.Mathlib.Omega.{arith}
 use lib.ListN.{length}
 use Rattle.sheet.specs.Sheet.{descriptor}
 use Rattle.contents.proofs.SectionLaws.{descriptor_full}
-use Rattle.turn.proofs.CountLaws.{Counting, count_begins, count_on, count_less, count_ends, descriptor_says_lem}
+use Rattle.turn.proofs.CountLaws.{count_begins, count_on, count_less, count_ends, descriptor_says_lem}
 use borrow.Author.Rules.{rules}
 use Rattle.turn.proofs.counts.descriptors_in.Goals as goal
 

@@ -1,6 +1,6 @@
 -- `turn::counts::descriptors_size` meets its contract.
 use native.Mathlib.Omega.{arith}
-use Rattle.turn.proofs.CountLaws.{Sizing, size_begins, size_on, size_ends}
+use Rattle.turn.proofs.CountLaws.{size_begins, size_on, size_ends}
 use borrow.Author.Rules.{rules}
 use Rattle.turn.proofs.counts.descriptors_size.Goals as goal
 

@@ -1,7 +1,5 @@
 -- `turn::counts::descriptors_size` meets its contract.
-use native.Mathlib.Omega.{arith}
-use Rattle.turn.proofs.CountLaws.{Sizing, size_begins, size_on, size_ends}
-use borrow.Author.Rules.{rules}
+use Rattle.turn.proofs.CountLaws.{Sizing}
 use Rattle.turn.proofs.counts.descriptors_size.Given as goal
 
 abbrev pub invariant-loop-left : goal.invariant-loop-left

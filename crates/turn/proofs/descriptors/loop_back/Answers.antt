@@ -1,6 +1,5 @@
 -- `turn::descriptors::loop_back` meets its contract.
 use Rattle.turn.proofs.LoopLaws.{loop-back}
-use borrow.Author.Rules.{rules}
 use Rattle.turn.proofs.descriptors.loop_back.Goals as goal
 
 pub returns : goal.returns

@@ -1,7 +1,5 @@
 -- `turn::descriptors::loop_forth` meets its contract.
-use native.Mathlib.Omega.{arith}
 use Rattle.turn.proofs.LoopLaws.{loop-forth}
-use borrow.Author.Rules.{rules}
 use Rattle.turn.proofs.descriptors.loop_forth.Goals as goal
 
 pub returns : goal.returns

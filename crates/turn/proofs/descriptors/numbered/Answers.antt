@@ -1,6 +1,5 @@
 -- `turn::descriptors::numbered` meets its contract.
 use Rattle.turn.proofs.LoopLaws.{numbered_done}
-use borrow.Author.Rules.{rules}
 use Rattle.turn.proofs.descriptors.numbered.Goals as goal
 
 pub returns : goal.returns

@@ -1,5 +1,4 @@
 -- `turn::descriptors::put_number` meets its contract.
-use borrow.Author.Rules.{rules}
 use Rattle.turn.proofs.descriptors.put_number.Goals as goal
 
 pub returns : goal.returns

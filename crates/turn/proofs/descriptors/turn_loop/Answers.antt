@@ -1,6 +1,5 @@
 -- `turn::descriptors::turn_loop` meets its contract.
 use Rattle.turn.proofs.PieceLaws.{loop-as}
-use borrow.Author.Rules.{rules}
 use Rattle.turn.proofs.descriptors.turn_loop.Goals as goal
 
 pub returns-then-forth : goal.returns-then-forth

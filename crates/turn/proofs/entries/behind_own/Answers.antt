@@ -1,6 +1,5 @@
 -- `turn::entries::behind_own` meets its contract.
 use mathlib.Core.Path.{refl}
-use borrow.Author.Rules.{rules}
 use Rattle.turn.proofs.entries.behind_own.Goals as goal
 
 pub returns-then-top : goal.returns-then-top

@@ -1,5 +1,5 @@
 -- `turn::entries::entries` meets its contract.
-use Rattle.turn.proofs.EntriesLaws.{Turning, turning_begins, turning_on, turning_ends}
+use Rattle.turn.proofs.EntriesLaws.{turning_begins, turning_on, turning_ends}
 use borrow.Author.Rules.{rules}
 use Rattle.turn.proofs.entries.entries.Goals as goal
 

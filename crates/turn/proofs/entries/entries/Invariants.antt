@@ -1,6 +1,5 @@
 -- `turn::entries::entries` meets its contract.
-use Rattle.turn.proofs.EntriesLaws.{Turning, turning_begins, turning_on, turning_ends}
-use borrow.Author.Rules.{rules}
+use Rattle.turn.proofs.EntriesLaws.{Turning}
 use Rattle.turn.proofs.entries.entries.Given as goal
 
 abbrev pub invariant-loop-left : goal.invariant-loop-left

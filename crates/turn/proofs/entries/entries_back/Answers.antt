@@ -1,6 +1,5 @@
 -- `turn::entries::entries_back` meets its contract.
 use Rattle.turn.proofs.EntriesLaws.{entries_back}
-use borrow.Author.Rules.{rules}
 use Rattle.turn.proofs.entries.entries_back.Goals as goal
 
 pub returns : goal.returns

@@ -1,7 +1,5 @@
 -- `turn::entries::entries_forth` meets its contract.
-use native.Mathlib.Omega.{arith}
 use Rattle.turn.proofs.EntriesLaws.{entries_forth}
-use borrow.Author.Rules.{rules}
 use Rattle.turn.proofs.entries.entries_forth.Goals as goal
 
 pub returns : goal.returns

@@ -1,6 +1,5 @@
 -- `turn::entries::entry` meets its contract.
 use Rattle.forms.proofs.Turns.{turned_then}
-use borrow.Author.Rules.{rules}
 use Rattle.turn.proofs.entries.entry.Goals as goal
 
 pub returns : goal.returns

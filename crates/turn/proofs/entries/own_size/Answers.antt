@@ -1,5 +1,4 @@
 -- `turn::entries::own_size` meets its contract.
-use borrow.Author.Rules.{rules}
 use Rattle.turn.proofs.entries.own_size.Goals as goal
 
 pub returns-then-top : goal.returns-then-top

@@ -1,7 +1,6 @@
 -- `turn::entries::put_own` meets its contract.
 use mathlib.Core.Path.{refl}
 use Rattle.turn.proofs.EntriesLaws.{own_written}
-use borrow.Author.Rules.{rules}
 use Rattle.turn.proofs.entries.put_own.Goals as goal
 
 pub returns-then-top : goal.returns-then-top

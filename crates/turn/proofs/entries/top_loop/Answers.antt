@@ -1,7 +1,6 @@
 -- `turn::entries::top_loop` meets its contract.
 use mathlib.Core.List.{[]}
 use Rattle.turn.proofs.EntriesLaws.{top_turned, none_turned}
-use borrow.Author.Rules.{rules}
 use Rattle.turn.proofs.entries.top_loop.Goals as goal
 
 pub returns-then-top : goal.returns-then-top

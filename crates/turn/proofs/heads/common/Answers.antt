@@ -4,7 +4,6 @@ use lib.ListN.{drop}
 use Rattle.sheet.specs.Content.{plain, numbers, version, head_of}
 use Rattle.turn.specs.Inner.Fields.{versioned}
 use Rattle.turn.proofs.HeadLaws.{common_items, an_item, plain_item, numbers_item, as_items}
-use borrow.Author.Rules.{rules}
 use Rattle.turn.proofs.heads.common.Goals as goal
 
 pub returns : goal.returns

@@ -4,7 +4,6 @@ use Rattle.tables.proofs.RowLaws.{numbered_below, unnumbered_from}
 use Rattle.sheet.specs.Content.{plain, flags}
 use Rattle.turn.specs.Inner.Fields.{flagged}
 use Rattle.turn.proofs.HeadLaws.{sdt_entry, eit_entry, networks, no_entry_lem, no_items, an_item, last_item, plain_item, as_items}
-use borrow.Author.Rules.{rules}
 use Rattle.turn.proofs.heads.entry_fields.Goals as goal
 
 pub returns-then-row-eq-SDT : goal.returns-then-row-eq-SDT

@@ -2,7 +2,6 @@
 use Rattle.sheet.specs.Content.{plain}
 use Rattle.tables.proofs.RowLaws.{numbered_below, unnumbered_from}
 use Rattle.turn.proofs.HeadLaws.{time_items, last_item, plain_item, as_items}
-use borrow.Author.Rules.{rules}
 use Rattle.turn.proofs.heads.head.Goals as goal
 
 pub common-requires : goal.common-requires

@@ -3,7 +3,6 @@ use mathlib.Core.List.{[], ◌∷◌}
 use Rattle.sheet.specs.Content.{plain, filler}
 use Rattle.turn.specs.Inner.Fields.{filled}
 use Rattle.turn.proofs.HeadLaws.{sdt_ids, eit_ids, networks, no_items, an_item, last_item, plain_item, as_items}
-use borrow.Author.Rules.{rules}
 use Rattle.turn.proofs.heads.ids.Goals as goal
 
 pub returns-then-row-eq-SDT : goal.returns-then-row-eq-SDT

@@ -1,7 +1,6 @@
 -- `turn::pieces::joined` meets its contract.
 use native.Mathlib.Omega.{arith}
 use Rattle.turn.proofs.PieceLaws.{joined_none, joined_two}
-use borrow.Author.Rules.{rules}
 use Rattle.turn.proofs.pieces.joined.Goals as goal
 
 pub returns-then-span-eq0 : goal.returns-then-span-eq0

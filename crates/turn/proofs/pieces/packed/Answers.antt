@@ -1,7 +1,5 @@
 -- `turn::pieces::packed` meets its contract.
-use native.Mathlib.Omega.{arith}
 use Rattle.turn.proofs.PieceLaws.{byte_joined, byte_parted, byte_as}
-use borrow.Author.Rules.{rules}
 use Rattle.turn.proofs.pieces.packed.Goals as goal
 
 pub returns-then-forth : goal.returns-then-forth

@@ -1,7 +1,6 @@
 -- `turn::pieces::parted` meets its contract.
 use native.Mathlib.Omega.{arith}
 use Rattle.turn.proofs.PieceLaws.{parted_none, parted_two}
-use borrow.Author.Rules.{rules}
 use Rattle.turn.proofs.pieces.parted.Goals as goal
 
 pub returns-then-span-eq0 : goal.returns-then-span-eq0

@@ -2,7 +2,6 @@
 use native.Mathlib.Omega.{arith}
 use Rattle.copy.proofs.Copies.{copies_fits}
 use Rattle.turn.proofs.PieceLaws.{turned_raw, raw_not_there}
-use borrow.Author.Rules.{rules}
 use Rattle.turn.proofs.pieces.plain.Goals as goal
 
 pub overflow_add-result : goal.overflow_add-result

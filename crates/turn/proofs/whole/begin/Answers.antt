@@ -1,6 +1,5 @@
 -- `turn::whole::begin` meets its contract.
 use Rattle.turn.proofs.WholeLaws.{begun_is}
-use borrow.Author.Rules.{rules}
 use Rattle.turn.proofs.whole.begin.Goals as goal
 
 pub returns : goal.returns

@@ -1,7 +1,6 @@
 -- `turn::whole::leading` meets its contract.
 use mathlib.Core.Path.{sym, ap, ◌∙◌}
 use Rattle.std.specs.Prelude.{if◌then◌else◌}
-use borrow.Author.Rules.{rules}
 use Rattle.turn.proofs.whole.leading.Goals as goal
 
 pub returns-then-is_one : goal.returns-then-is_one

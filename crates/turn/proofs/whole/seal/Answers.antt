@@ -1,6 +1,5 @@
 -- `turn::whole::seal` meets its contract.
 use mathlib.Core.Path.{refl, sym, ◌∙◌}
-use borrow.Author.Rules.{rules}
 use Rattle.turn.proofs.whole.seal.Goals as goal
 
 pub returns-then-is_one : goal.returns-then-is_one

@@ -1,6 +1,5 @@
 -- `turn::whole::write_accepted` meets its contract.
 use Rattle.turn.proofs.WholeLaws.{accepted_written, refused_kept}
-use borrow.Author.Rules.{rules}
 use Rattle.turn.proofs.whole.write_accepted.Goals as goal
 
 pub returns-then-accepted : goal.returns-then-accepted

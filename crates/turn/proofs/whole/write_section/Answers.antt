@@ -1,7 +1,6 @@
 -- `turn::whole::write_section` meets its contract.
 use native.Mathlib.Omega.{arith}
 use Rattle.turn.proofs.WholeLaws.{written_never, section_written}
-use borrow.Author.Rules.{rules}
 use Rattle.turn.proofs.whole.write_section.Goals as goal
 
 pub returns-then-number-ge-UNKNOWN : goal.returns-then-number-ge-UNKNOWN

@@ -1,7 +1,6 @@
 -- `turn::whole::write_sheet` meets its contract.
 use native.Mathlib.Omega.{arith}
 use Rattle.turn.proofs.WholeLaws.{sheet_never, sheet_written}
-use borrow.Author.Rules.{rules}
 use Rattle.turn.proofs.whole.write_sheet.Goals as goal
 
 pub returns-then-number-ge-UNKNOWN : goal.returns-then-number-ge-UNKNOWN
