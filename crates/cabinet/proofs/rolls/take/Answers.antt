@@ -7,16 +7,16 @@ use Rattle.cabinet.specs.Roll.{sub_table_in, holds}
 use Rattle.cabinet.proofs.RollTaken.{refused_says, answering_says}
 use borrow.Author.Rules.{rules}
 use Rattle.cabinet.proofs.rolls.take.Goals as goal
-use Rattle.cabinet.proofs.rolls.take.Goals.{After-course_of-course, After-shared_slice_known-1}
+use Rattle.cabinet.proofs.rolls.take.Goals.{After-course_of-course}
 
 -- what the section does to the roll that the numbers stand for
-does : (b : After-course_of-course) → let args = (b.BARE-After-shared_slice_known-1).before.args in
+does : (b : After-course_of-course) → let args = b.args in
     course_of (is_set args.roll.begun) (sub_table_in args.roll) args.roll.version args.roll.last args.section.now
     ≡ told_course b.course_of-course.result
 does b = cc
 
 pub taken-requires : goal.taken-requires
-taken-requires c =
+taken-requires c keep =
     let args = c.args in
     course_on (is_set args.roll.begun) (sub_table_in args.roll) args.roll.version args.roll.last args.section.now
     (does (goal.at.taken-requires c).After-course_of-course ∙ ap told_course c.in-Taken.is ∙ ap takes keep)
