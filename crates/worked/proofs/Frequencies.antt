@@ -49,7 +49,8 @@ module _ {A : Type 0} (count : A → ℕ) where
 
   module _ (tag : ℕ) (fields : List ℕ → Answered A)
       (first : (b : List ℕ) (a : A) → fields b ≡ value a → digits_at b 0 8 ≡ value (count a)) where
-    by_digits : (l : List ℕ) (n : ℕ) → digits_at l 0 8 ≡ value n → (a : A) → (fixed (tag ∷ 11 ∷ l) tag 11 >>= fields) ≡ value a → count a ≡ n
+    by_digits : (l : List ℕ) (n : ℕ) → digits_at l 0 8 ≡ value n → (a : A)
+        → (fixed (tag ∷ 11 ∷ l) tag 11 >>= fields) ≡ value a → count a ≡ n
     by_digits l n d a e = go (through (fixed (tag ∷ 11 ∷ l) tag 11) fields a e)
       where
         go : (b : List ℕ) × (fixed (tag ∷ 11 ∷ l) tag 11 ≡ value b) × (fields b ≡ value a) → count a ≡ n

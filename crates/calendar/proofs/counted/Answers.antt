@@ -1,8 +1,7 @@
 -- What was counted off and what is left make the days of the year; so the date's MJD is the one given.
 use mathlib.Core.Path.{◌≡◌}
-use Prim.Native.Nat.{ℕ, ◌+◌, ◌-◌, ◌<◌, ◌≤◌}
+use Prim.Native.Nat.{ℕ, ◌-◌, ◌≤◌}
 use native.Mathlib.Omega.{arith}
-use borrow.Author.Rules.{rules}
 use Rattle.calendar.specs.Calendar.{days_in}
 use Rattle.calendar.specs.Dates.{days_of_months}
 use Rattle.calendar.proofs.Dates.{IsLength, is_length}
@@ -33,11 +32,12 @@ loop-left-smaller c = omega (arith, (length-here (goal.at.loop-left-smaller c).A
 pub loop-left-preserved : goal.loop-left-preserved
 loop-left-preserved c =
     let l = c.loop-left in
-    let is : c.month_length-left.result ≡ days_in (year (goal.at.loop-left-preserved c).At-loop-left) l.month = c.month_length-left.ensures in
-    let whole : days_in (year (goal.at.loop-left-preserved c).At-loop-left) l.month ≤ l.left = omega arith in (
+    let y = year (goal.at.loop-left-preserved c).At-loop-left in
+    let is : c.month_length-left.result ≡ days_in y l.month = c.month_length-left.ensures in
+    let whole : days_in y l.month ≤ l.left = omega arith in (
       omega arith,
-      not_december (year (goal.at.loop-left-preserved c).At-loop-left) l.month l.left l.invariant.0 l.invariant.1 whole (omega arith),
-      omega (arith, month_off (year (goal.at.loop-left-preserved c).At-loop-left) l.month l.left l.invariant.0 whole),
+      not_december y l.month l.left l.invariant.0 l.invariant.1 whole (omega arith),
+      omega (arith, month_off y l.month l.left l.invariant.0 whole),
       l.invariant.3,
     )
 

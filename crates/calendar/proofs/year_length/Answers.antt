@@ -1,6 +1,5 @@
 -- A day more in a leap year.
 use mathlib.Core.Path.{sym, ◌∙◌}
-use borrow.Author.Rules.{rules}
 use Rattle.calendar.proofs.Counting.{leap_year, common_year}
 use Rattle.calendar.proofs.year_length.Goals as goal
 

@@ -1,8 +1,6 @@
 -- What was counted off and what is left make the days given.
-use mathlib.Core.Path.{◌≡◌}
-use Prim.Native.Nat.{◌+◌, ◌-◌, ◌≤◌}
+use Prim.Native.Nat.{◌-◌}
 use native.Mathlib.Omega.{arith}
-use borrow.Author.Rules.{rules}
 use Rattle.calendar.specs.Dates.{days_of_years}
 use Rattle.calendar.proofs.Dates.{year_adds}
 use Rattle.calendar.proofs.Counting.{years_long, year_long}

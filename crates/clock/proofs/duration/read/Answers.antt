@@ -1,6 +1,5 @@
 -- A duration is the clock with hours to 99.
 use Rattle.clock.specs.Duration.{duration_of}
-use borrow.Author.Rules.{rules}
 use Rattle.clock.proofs.duration.read.Goals as goal
 
 pub returns-in-Refused : goal.returns-in-Refused

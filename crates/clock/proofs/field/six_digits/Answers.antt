@@ -1,5 +1,4 @@
 -- Three fields left to right: the first refusal is the answer.
-use borrow.Author.Rules.{rules}
 use Rattle.clock.specs.Field.{hms}
 use Rattle.clock.proofs.field.six_digits.Goals as goal
 

@@ -1,7 +1,6 @@
 -- Two digits first, then the limit.
 use borrow.Author.Tests.{lt-ltb, le-ltb}
 use Rattle.clock.specs.Field.{field}
-use borrow.Author.Rules.{rules}
 use Rattle.clock.proofs.field.two_digits.Goals as goal
 
 pub returns-in-Bad : goal.returns-in-Bad

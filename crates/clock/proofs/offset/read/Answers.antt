@@ -1,5 +1,4 @@
 -- At the place 0.
-use borrow.Author.Rules.{rules}
 use Rattle.clock.proofs.offset.read.Goals as goal
 
 pub returns : goal.returns

@@ -3,7 +3,7 @@ use Rattle.clock.specs.Offset.{offset_at}
 use mathlib.Core.Path.{ap, ◌∙◌}
 use mir.Facts.{to_z-of_z}
 use mir.Syntax.{w16}
-use borrow.Author.Rules.{rules, sfits_of}
+use borrow.Author.Rules.{sfits_of}
 use Rattle.wire.specs.Reading.{value}
 use Rattle.clock.proofs.offset.read_at.Goals as goal
 

@@ -3,7 +3,6 @@ use mathlib.Core.Bool.{true}
 use Prim.Native.Nat.{ℕ}
 use mir.Syntax.{w16}
 use mir.Facts.{to_z_pos}
-use borrow.Author.Rules.{rules}
 use Rattle.clock.proofs.SignedMinutes.{negated, signed_fits, signed_kept}
 use Rattle.clock.proofs.offset.signed_minutes.Goals as goal
 

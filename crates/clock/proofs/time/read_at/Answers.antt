@@ -1,7 +1,6 @@
 -- Forty ones before any check, then the day, then the clock.
 use borrow.Author.Tests.{lt-ltb, le-ltb, eq-eqb, ne_eqb}
 use Rattle.clock.specs.Time.{time_at}
-use borrow.Author.Rules.{rules}
 use Rattle.clock.proofs.time.read_at.Goals as goal
 
 pub returns-then-mjd-hour-eq1099511627775 : goal.returns-then-mjd-hour-eq1099511627775

@@ -1,6 +1,5 @@
 -- Frequency and symbol rate left to right, then the fields that cannot be refused.
 use Rattle.delivery.specs.Cable.{fields}
-use borrow.Author.Rules.{rules}
 use Rattle.delivery.proofs.cable.fields_of.Goals as goal
 
 pub returns-in-Refused : goal.returns-in-Refused

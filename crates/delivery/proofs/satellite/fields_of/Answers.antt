@@ -1,6 +1,5 @@
 -- Frequency, position and symbol rate left to right, then the fields that cannot be refused.
 use Rattle.delivery.specs.Satellite.{fields}
-use borrow.Author.Rules.{rules}
 use Rattle.delivery.proofs.satellite.fields_of.Goals as goal
 
 pub returns-in-Refused : goal.returns-in-Refused

@@ -1,6 +1,5 @@
 -- The layout's refusal, or the fields of the body.
 use Rattle.delivery.specs.Satellite.{satellite}
-use borrow.Author.Rules.{rules}
 use Rattle.delivery.proofs.satellite.read.Goals as goal
 
 pub returns-in-Refused : goal.returns-in-Refused

@@ -1,5 +1,4 @@
 -- The fields that cannot be refused, each by its bits.
-use borrow.Author.Rules.{rules}
 use Rattle.delivery.proofs.satellite.satellite_of.Goals as goal
 
 pub returns : goal.returns

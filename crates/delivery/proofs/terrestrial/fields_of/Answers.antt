@@ -1,5 +1,4 @@
 -- Each field by its bits.
-use borrow.Author.Rules.{rules}
 use Rattle.delivery.proofs.terrestrial.fields_of.Goals as goal
 
 pub returns : goal.returns

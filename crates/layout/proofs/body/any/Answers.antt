@@ -5,7 +5,6 @@ use native.Mathlib.Omega.{arith}
 use Prim.Native.Nat.{ℕ, ◌<◌}
 use mathlib.Core.List.{List}
 use mathlib.Core.Path.{◌≡◌, sym, ◌∙◌}
-use borrow.Author.Rules.{rules}
 use Rattle.layout.proofs.body.any.Goals as goal
 use Rattle.layout.proofs.body.any.Goals.{After-byte_at-2}
 
@@ -35,12 +34,14 @@ returns-then-n-eq1 c =
 
 pub returns-then-wide-n : goal.returns-then-wide-n
 returns-then-wide-n c =
+    let at = (goal.at.returns-then-wide-n c).After-byte_at-2 in
     sym
-    (other_length _ (s (goal.at.returns-then-wide-n c).After-byte_at-2) (tag-right (goal.at.returns-then-wide-n c).After-byte_at-2) (has-length (goal.at.returns-then-wide-n c).After-byte_at-2)
+    (other_length _ (s at) (tag-right at) (has-length at)
     (λ e. c.if-wide-n.true (c.wide.ensures.same ∙ c.byte_at-2.ensures ∙ e)))
 
 pub returns : goal.returns
 returns c =
+    let at = (goal.at.returns c).After-byte_at-2 in
     sym
-    (whole _ (s (goal.at.returns c).After-byte_at-2) (tag-right (goal.at.returns c).After-byte_at-2) (has-length (goal.at.returns c).After-byte_at-2)
+    (whole _ (s at) (tag-right at) (has-length at)
     (sym c.byte_at-2.ensures ∙ sym c.wide.ensures.same ∙ c.if-wide-n.false))

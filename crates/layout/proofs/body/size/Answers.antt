@@ -1,7 +1,6 @@
 -- What follows the first two bytes, counted.
 use lib.ListN.{length}
 use mathlib.Core.Path.{ap}
-use borrow.Author.Rules.{rules}
 use Rattle.layout.proofs.body.size.Goals as goal
 
 pub returns : goal.returns

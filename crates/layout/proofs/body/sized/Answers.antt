@@ -1,7 +1,6 @@
 -- A body of a fixed size fits exactly if it has that size.
 use borrow.Author.Tests.{eq-eqb, ne_eqb}
 use Rattle.layout.specs.Body.{fixed}
-use borrow.Author.Rules.{rules}
 use Rattle.layout.proofs.body.sized.Goals as goal
 
 pub returns-in-Refused : goal.returns-in-Refused

@@ -3,7 +3,6 @@ use lib.Pow.{shr_le}
 use native.Mathlib.Omega.{arith}
 use Prim.Native.Nat.{◌*◌}
 use Rattle.layout.specs.Field.{digits_at}
-use borrow.Author.Rules.{rules}
 use Rattle.layout.proofs.digits.digits_at.Goals as goal
 
 pub overflow_cast-v-3 : goal.overflow_cast-v-3

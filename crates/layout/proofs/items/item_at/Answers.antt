@@ -5,7 +5,6 @@ use Prim.Native.Nat.{◌+◌, ◌*◌, ◌≤◌}
 use native.Mathlib.Omega.{arith}
 use borrow.Author.Tests.{lt-ltb, le-ltb}
 use Rattle.layout.specs.Items.{place}
-use borrow.Author.Rules.{rules}
 use Rattle.layout.proofs.items.item_at.Goals as goal
 use Rattle.layout.proofs.items.item_at.Goals.{Start, Then-index-quotient}
 
@@ -17,10 +16,14 @@ module _ (c : Then-index-quotient) where
       (inside c.args.k _ c.args.index (rw c.quotient.ensures at c.if-index-quotient.true))
 
 pub overflow_mul-result : goal.overflow_mul-result
-overflow_mul-result c = omega (arith, in_body (goal.at.overflow_mul-result c).Then-index-quotient, length-drop 2 ((goal.at.overflow_mul-result c).Start).args.s.now)
+overflow_mul-result c =
+    let at = goal.at.overflow_mul-result c in
+    omega (arith, in_body at.Then-index-quotient, length-drop 2 (at.Start).args.s.now)
 
 pub overflow_add-result : goal.overflow_add-result
-overflow_add-result c = omega (arith, in_body (goal.at.overflow_add-result c).Then-index-quotient, length-drop 2 ((goal.at.overflow_add-result c).Start).args.s.now)
+overflow_add-result c =
+    let at = goal.at.overflow_add-result c in
+    omega (arith, in_body at.Then-index-quotient, length-drop 2 (at.Start).args.s.now)
 
 pub returns-in-Refused : goal.returns-in-Refused
 unfolding place

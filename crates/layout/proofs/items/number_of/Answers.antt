@@ -1,6 +1,5 @@
 -- The number of items.
 use Rattle.layout.specs.Items.{count}
-use borrow.Author.Rules.{rules}
 use Rattle.layout.proofs.items.number_of.Goals as goal
 
 pub returns-in-Refused : goal.returns-in-Refused

@@ -1,7 +1,6 @@
 -- The quotient, by 0 too.
 use native.Mathlib.Nat.{div-zero}
 use mathlib.Core.Path.{sym}
-use borrow.Author.Rules.{rules}
 use Rattle.layout.proofs.items.quotient.Goals as goal
 
 pub returns-then-k-eq0 : goal.returns-then-k-eq0

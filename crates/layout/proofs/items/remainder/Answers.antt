@@ -1,7 +1,6 @@
 -- The remainder, by 0 too.
 use native.Mathlib.Nat.{mod-zero}
 use mathlib.Core.Path.{sym}
-use borrow.Author.Rules.{rules}
 use Rattle.layout.proofs.items.remainder.Goals as goal
 
 pub returns-then-k-eq0 : goal.returns-then-k-eq0

@@ -1,7 +1,6 @@
 -- Two texts fit exactly if their lengths fill the body.
 use borrow.Author.Tests.{eq-eqb, ne_eqb}
 use Rattle.layout.specs.Texts.{two_texts}
-use borrow.Author.Rules.{rules}
 use Rattle.layout.proofs.texts.two_texts.Goals as goal
 
 pub returns-then-b-h : goal.returns-then-b-h

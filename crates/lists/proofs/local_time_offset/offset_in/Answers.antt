@@ -1,6 +1,5 @@
 -- The bytes of an offset at their places, and its place in the body.
 use Rattle.lists.specs.LocalTimeOffset.{offset_in}
-use borrow.Author.Rules.{rules}
 use Rattle.lists.proofs.local_time_offset.offset_in.Goals as goal
 
 pub returns : goal.returns

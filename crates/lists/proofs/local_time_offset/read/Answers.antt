@@ -7,7 +7,6 @@ use Rattle.wire.specs.Reading.{value}
 use Rattle.layout.specs.Items.{place, item, told_place}
 use Rattle.layout.proofs.Exactly.{item_place, item_low}
 use Rattle.lists.specs.LocalTimeOffset.{fields, localTimeOffset}
-use borrow.Author.Rules.{rules}
 use Rattle.lists.proofs.local_time_offset.read.Goals as goal
 use Rattle.lists.proofs.local_time_offset.read.Goals.{In-At}
 

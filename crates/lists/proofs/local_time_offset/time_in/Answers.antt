@@ -1,6 +1,5 @@
 -- The bytes of a time at their places, and its place in the body.
 use Rattle.lists.specs.LocalTimeOffset.{time_in}
-use borrow.Author.Rules.{rules}
 use Rattle.lists.proofs.local_time_offset.time_in.Goals as goal
 
 pub returns : goal.returns

@@ -1,5 +1,4 @@
 -- Each field at its place.
-use borrow.Author.Rules.{rules}
 use Rattle.lists.proofs.parental_rating.fields_of.Goals as goal
 
 pub returns : goal.returns

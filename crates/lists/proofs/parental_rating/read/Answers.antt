@@ -1,7 +1,6 @@
 -- The layout's refusal, or the fields of the item.
 use Rattle.layout.specs.Items.{item}
 use Rattle.lists.specs.ParentalRating.{parental_rating}
-use borrow.Author.Rules.{rules}
 use Rattle.lists.proofs.parental_rating.read.Goals as goal
 
 pub returns-in-Refused : goal.returns-in-Refused

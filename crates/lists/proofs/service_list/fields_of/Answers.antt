@@ -1,5 +1,4 @@
 -- Each field at its place.
-use borrow.Author.Rules.{rules}
 use Rattle.lists.proofs.service_list.fields_of.Goals as goal
 
 pub returns : goal.returns

@@ -1,6 +1,5 @@
 -- The body is the name.
 use Rattle.texts.specs.NetworkName.{network_name}
-use borrow.Author.Rules.{rules}
 use Rattle.texts.proofs.network_name.read.Goals as goal
 
 pub returns : goal.returns

@@ -1,6 +1,5 @@
 -- The type, and the two names that fill the rest.
 use Rattle.texts.specs.Service.{fields}
-use borrow.Author.Rules.{rules}
 use Rattle.texts.proofs.service.fields_of.Goals as goal
 
 pub returns-in-DoNotFit : goal.returns-in-DoNotFit

@@ -1,6 +1,5 @@
 -- The layout's refusal, or the fields of the body.
 use Rattle.texts.specs.Service.{service}
-use borrow.Author.Rules.{rules}
 use Rattle.texts.proofs.service.read.Goals as goal
 
 pub returns-in-Refused : goal.returns-in-Refused

@@ -1,6 +1,5 @@
 -- The language, and the two texts that fill the rest.
 use Rattle.texts.specs.ShortEvent.{fields}
-use borrow.Author.Rules.{rules}
 use Rattle.texts.proofs.short_event.fields_of.Goals as goal
 
 pub returns-in-DoNotFit : goal.returns-in-DoNotFit

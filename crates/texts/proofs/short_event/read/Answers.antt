@@ -1,6 +1,5 @@
 -- The layout's refusal, or the fields of the body.
 use Rattle.texts.specs.ShortEvent.{short_event}
-use borrow.Author.Rules.{rules}
 use Rattle.texts.proofs.short_event.read.Goals as goal
 
 pub returns-in-Refused : goal.returns-in-Refused

@@ -1,6 +1,5 @@
 -- The body is the stuffing.
 use Rattle.texts.specs.Stuffing.{stuffing}
-use borrow.Author.Rules.{rules}
 use Rattle.texts.proofs.stuffing.read.Goals as goal
 
 pub returns : goal.returns

@@ -1,6 +1,5 @@
 -- The body is the part.
 use Rattle.texts.specs.Whole.{whole}
-use borrow.Author.Rules.{rules}
 use Rattle.texts.proofs.whole.read.Goals as goal
 
 pub returns-in-Refused : goal.returns-in-Refused

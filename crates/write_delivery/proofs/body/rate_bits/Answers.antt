@@ -1,6 +1,5 @@
 -- `write_delivery::body::rate_bits` meets its contract.
 use native.Mathlib.Omega.{arith}
-use borrow.Author.Rules.{rules}
 use Rattle.write_delivery.proofs.Bodies.{fewer_digits}
 use Rattle.write_delivery.proofs.body.rate_bits.Goals as goal
 

@@ -1,6 +1,5 @@
 -- `write_delivery::satellite::is_inside` meets its contract.
 use native.Mathlib.Omega.{arith}
-use borrow.Author.Rules.{rules}
 use Rattle.writing.proofs.Below.{test_true, test_false}
 use Rattle.write_delivery.proofs.Flags.{bit_is, system_is}
 use Rattle.write_delivery.proofs.satellite.is_inside.Goals as goal

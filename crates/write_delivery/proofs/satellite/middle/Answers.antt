@@ -1,6 +1,5 @@
 -- `write_delivery::satellite::middle` meets its contract.
 use native.Mathlib.Omega.{arith}
-use borrow.Author.Rules.{rules}
 use Rattle.write_delivery.proofs.Bodies.{fewer_digits}
 use Rattle.write_delivery.proofs.satellite.middle.Goals as goal
 

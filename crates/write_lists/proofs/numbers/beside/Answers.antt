@@ -2,7 +2,6 @@
 use mathlib.Core.Path.{◌≡◌, refl, subst₂}
 use Prim.Native.Nat.{ℕ, ◌+◌, ◌*◌, ◌^◌, ◌<◌}
 use native.Mathlib.Omega.{arith}
-use borrow.Author.Rules.{rules}
 use mir.Syntax.{w64}
 use mir.Val.{Fits}
 use Rattle.write_lists.specs.Inner.Numbers.{bits_or, joint, Joined}

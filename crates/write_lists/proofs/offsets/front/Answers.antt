@@ -1,6 +1,5 @@
 -- `write_lists::offsets::front` meets its contract.
 use native.Mathlib.Omega.{arith}
-use borrow.Author.Rules.{rules}
 use Rattle.write_lists.proofs.offsets.front.Goals as goal
 
 pub returns : goal.returns

@@ -1,6 +1,5 @@
 -- `write_lists::pieces::content` meets its contract.
 use native.Mathlib.Omega.{arith}
-use borrow.Author.Rules.{rules}
 use Rattle.write_lists.proofs.pieces.content.Goals as goal
 
 pub returns : goal.returns

@@ -1,6 +1,5 @@
 -- `write_lists::pieces::rating` meets its contract.
 use native.Mathlib.Omega.{arith}
-use borrow.Author.Rules.{rules}
 use Rattle.write_lists.proofs.pieces.rating.Goals as goal
 
 pub returns : goal.returns

@@ -1,6 +1,5 @@
 -- `write_lists::pieces::service` meets its contract.
 use native.Mathlib.Omega.{arith}
-use borrow.Author.Rules.{rules}
 use Rattle.write_lists.proofs.pieces.service.Goals as goal
 
 pub returns : goal.returns

@@ -1,10 +1,6 @@
 -- `write_lists::rows::are_items` meets its contract: what is left is judged as all are.
-use mathlib.Core.Path.{◌≡◌, refl}
-use Prim.Native.Nat.{◌*◌, ◌≤◌}
+use mathlib.Core.Path.{refl}
 use borrow.Author.Rules.{rules}
-use lib.ListN.{length}
-use Rattle.writing.specs.Rows.{rows}
-use Rattle.write_lists.specs.Inner.Kinds.{row_size, piece_of, judged}
 use Rattle.write_lists.proofs.RowLaws.{row_there, rows_behind, none_left, row_refused, row_passed}
 use Rattle.write_lists.proofs.rows.are_items.Goals as goal
 

@@ -3,7 +3,6 @@ use mathlib.Core.Path.{◌≡◌}
 use mathlib.Core.Bool.{true, false}
 use mathlib.Core.List.{List}
 use Prim.Native.Nat.{ℕ}
-use borrow.Author.Rules.{rules}
 use Rattle.wire.specs.Reading.{Reading}
 use Rattle.write_lists.specs.Inner.Kinds.{told_piece, judged, passed}
 use Rattle.write_lists.specs.declared.kinds.Kind.{Kind}

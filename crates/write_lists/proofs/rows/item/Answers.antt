@@ -1,7 +1,6 @@
 -- `write_lists::rows::item` meets its contract.
 use mathlib.Core.Path.{◌≡◌}
 use Prim.Native.Nat.{ℕ}
-use borrow.Author.Rules.{rules}
 use Rattle.write_lists.specs.Inner.Numbers.{told_bits}
 use Rattle.write_lists.specs.Inner.Kinds.{item_of, told_piece}
 use Rattle.write_lists.specs.declared.kinds.Kind.{Kind}

@@ -2,7 +2,6 @@
 use mathlib.Core.Path.{◌≡◌, sym, ap, ap₂, ◌∙◌}
 use mathlib.Core.List.{List}
 use Prim.Native.Nat.{ℕ, ◌^◌}
-use borrow.Author.Rules.{rules}
 use lib.IntN.{ℤ}
 use Rattle.wire.specs.Reading.{Reading, value}
 use Rattle.write_lists.specs.Inner.Numbers.{told_bits, Within}

@@ -1,9 +1,5 @@
 -- `write_lists::rows::put_items` meets its contract: the items that are left make all that is put.
-use borrow.Author.Rules.{rules}
-use Rattle.forms.specs.Room.{put}
-use Rattle.writing.specs.Rows.{rows}
-use Rattle.write_lists.specs.Inner.Kinds.{row_size, piece_of, joined_rows}
-use Rattle.write_lists.proofs.RowLaws.{Ahead, all_ahead, none_ahead, row_ahead, room_for, next_fits, next_ahead}
+use Rattle.write_lists.proofs.RowLaws.{all_ahead, none_ahead, row_ahead, room_for, next_fits, next_ahead}
 use Rattle.write_lists.proofs.rows.put_items.Goals as goal
 
 pub loop-left-init : goal.loop-left-init

@@ -1,6 +1,5 @@
 -- `write_lists::times::clock` meets its contract.
 use native.Mathlib.Omega.{arith}
-use borrow.Author.Rules.{rules}
 use Rattle.write_lists.proofs.times.clock.Goals as goal
 
 pub returns : goal.returns

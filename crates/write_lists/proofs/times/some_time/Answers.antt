@@ -1,6 +1,5 @@
 -- `write_lists::times::some_time` meets its contract.
 use native.Mathlib.Omega.{arith}
-use borrow.Author.Rules.{rules}
 use Rattle.write_lists.proofs.times.some_time.Goals as goal
 
 pub returns : goal.returns

@@ -1,5 +1,4 @@
 -- `write_texts::network_name::write` meets its contract.
-use borrow.Author.Rules.{rules}
 use Rattle.write_texts.specs.NetworkName.{network_name_written}
 use Rattle.write_texts.proofs.network_name.write.Goals as goal
 

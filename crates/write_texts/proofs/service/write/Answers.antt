@@ -1,5 +1,4 @@
 -- `write_texts::service::write` meets its contract.
-use borrow.Author.Rules.{rules}
 use Rattle.write_texts.specs.Service.{service_written}
 use Rattle.write_texts.proofs.Numbered.{writes_inside}
 use Rattle.write_texts.proofs.service.write.Goals as goal

@@ -1,6 +1,5 @@
 -- `write_texts::short_event::write` meets its contract.
 use native.Mathlib.Omega.{arith}
-use borrow.Author.Rules.{rules}
 use Rattle.writing.proofs.Answers.{room_short, field-outside}
 use Rattle.write_texts.specs.ShortEvent.{short_event_written}
 use Rattle.write_texts.proofs.Numbered.{written_outside, writes_inside}
@@ -11,7 +10,8 @@ returns-then-room-lt257 c = room_short _ _ c.if-room-lt257.true
 
 pub returns-then-language_code-gt16777215 : goal.returns-then-language_code-gt16777215
 unfolding short_event_written
-returns-then-language_code-gt16777215 c = field-outside _ _ c.if-room-lt257.false (written_outside 0x4D 3 _ _ _ c.if-language_code-gt16777215.true)
+returns-then-language_code-gt16777215 c =
+    field-outside _ _ (omega arith) (written_outside 0x4D 3 _ _ _ c.if-language_code-gt16777215.true)
 
 pub returns : goal.returns
 unfolding short_event_written

@@ -1,5 +1,4 @@
 -- `write_texts::stuffing::write` meets its contract.
-use borrow.Author.Rules.{rules}
 use Rattle.write_texts.specs.Stuffing.{stuffing_written}
 use Rattle.write_texts.proofs.stuffing.write.Goals as goal
 

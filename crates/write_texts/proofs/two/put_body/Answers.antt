@@ -1,6 +1,5 @@
 -- `write_texts::two::put_body` meets its contract.
 use native.Mathlib.Omega.{arith}
-use borrow.Author.Rules.{rules}
 use Rattle.write_texts.proofs.Numbered.{numbered_put}
 use Rattle.write_texts.proofs.two.put_body.Goals as goal
 

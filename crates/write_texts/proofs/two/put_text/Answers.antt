@@ -2,7 +2,6 @@
 use mathlib.Core.Path.{refl, ◌∙◌}
 use mathlib.Core.List.{[], ◌∷◌}
 use native.Mathlib.Omega.{arith}
-use borrow.Author.Rules.{rules}
 use Rattle.write_texts.proofs.Rooms.{copied_whole, put_next}
 use Rattle.write_texts.proofs.two.put_text.Goals as goal
 

@@ -1,7 +1,6 @@
 -- `write_texts::whole::write` meets its contract.
 use native.Mathlib.Omega.{arith}
 use mathlib.Core.Path.{refl, ◌∙◌}
-use borrow.Author.Rules.{rules}
 use Rattle.writing.proofs.Answers.{room_short, headed_long, body-long}
 use Rattle.write_texts.proofs.Rooms.{copied_whole, behind}
 use Rattle.write_texts.proofs.whole.write.Goals as goal

@@ -3,7 +3,6 @@ use mathlib.Core.Path.{sym, ap}
 use Prim.Native.Nat.{◌*◌, ◌%◌, ◌≤◌}
 use native.Mathlib.Nat.{div-eq_of_lt, lt_of_lt_of_le}
 use native.Mathlib.Omega.{arith}
-use borrow.Author.Rules.{rules}
 use lib.Pow.{pow_mono}
 use Rattle.writing.proofs.numbers.byte_of.Goals as goal
 
