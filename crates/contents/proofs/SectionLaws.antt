@@ -5,7 +5,7 @@ use mathlib.Core.List.{List, [], ◌∷◌, ◌++◌, append-nil}
 use native.Mathlib.Omega.{arith}
 use lib.ListN.{length, get_or, take, drop, length-append}
 use lib.Seq.{take_at}
-use Rattle.wire.proofs.IfLaws.{if-case}
+use Rattle.wire.proofs.IfLaws.{if-case, choose-case}
 use Rattle.wire.specs.Reading.{value, ◌>>=◌}
 use Rattle.tables.specs.Tables.{cell, row_of, row_at}
 use Rattle.forms.specs.Form.{Form, mute, raw, ◌then◌, each, each_show, EachOk}
@@ -68,7 +68,7 @@ entry_full row e o =
 
 top_complete : (x : TableShape) → Complete (section_top_by x)
 top_complete x =
-    if-case Complete (has_top x) (λ _. loop-complete descriptor descriptor_complete descriptor_full bare half_bare)
+    choose-case Complete (has_top x) (λ _. loop-complete descriptor descriptor_complete descriptor_full bare half_bare)
     (λ _. (mute_lawful ([], [])).complete)
 
 entries_complete : (x : TableShape) (row n : ℕ) → Complete (section_entries_by x row n)
