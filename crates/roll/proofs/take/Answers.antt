@@ -14,14 +14,17 @@ came_to_lem b =
 
 pub returns-then-on : goal.returns-then-on
 returns-then-on c =
+    let b = (goal.at.returns-then-on c).After-course_of-course in
     c.answered_by.ensures ∙ ap answering c.with_section.ensures
-    ∙ sym (came_to_lem (goal.at.returns-then-on c).After-course_of-course ∙ rw (c.in-Taken.is, c.if-on.true))
+    ∙ sym (came_to_lem b ∙ rw (c.in-Taken.is, c.if-on.true))
 
 pub returns-in-Refused : goal.returns-in-Refused
 returns-in-Refused c =
-    sym (came_to_lem (goal.at.returns-in-Refused c).After-course_of-course ∙ rw c.in-Refused.is)
+    let b = (goal.at.returns-in-Refused c).After-course_of-course in
+    sym (came_to_lem b ∙ rw c.in-Refused.is)
 
 pub returns-else-on : goal.returns-else-on
 returns-else-on c =
+    let b = (goal.at.returns-else-on c).After-course_of-course in
     c.answered_by-in-Taken.ensures ∙ ap answering c.begun_with.ensures
-    ∙ sym (came_to_lem (goal.at.returns-else-on c).After-course_of-course ∙ rw (c.in-Taken.is, c.if-on.false))
+    ∙ sym (came_to_lem b ∙ rw (c.in-Taken.is, c.if-on.false))

@@ -45,15 +45,19 @@ pub loop-k-init : goal.loop-k-init
 loop-k-init c = (omega arith, smallest-start _ _)
 
 pub overflow_add-result : goal.overflow_add-result
-overflow_add-result c = let within = (found (goal.at.overflow_add-result c).After-gap-first c.if-first-lt8.true).0 in omega arith
+overflow_add-result c =
+    let b = (goal.at.overflow_add-result c).After-gap-first in
+    let within = (found b c.if-first-lt8.true).0 in omega arith
 
 pub returns-then-first-lt8 : goal.returns-then-first-lt8
 returns-then-first-lt8 c =
-    sym (found (goal.at.returns-then-first-lt8 c).After-gap-first c.if-first-lt8.true).1 ∙ c.loop-k.invariant.1 ∙ scan_answers (schedule (goal.at.returns-then-first-lt8 c).After-gap-first) (marks (goal.at.returns-then-first-lt8 c).After-gap-first) (last (goal.at.returns-then-first-lt8 c).After-gap-first)
+    let b = (goal.at.returns-then-first-lt8 c).After-gap-first in
+    sym (found b c.if-first-lt8.true).1 ∙ c.loop-k.invariant.1 ∙ scan_answers (schedule b) (marks b) (last b)
 
 pub loop-k-preserved : goal.loop-k-preserved
 loop-k-preserved c =
-    let passed = none_missing (schedule (goal.at.loop-k-preserved c).After-gap-first) (marks (goal.at.loop-k-preserved c).After-gap-first) (last (goal.at.loop-k-preserved c).After-gap-first) (k (goal.at.loop-k-preserved c).After-gap-first) (first (goal.at.loop-k-preserved c).After-gap-first) (reached (goal.at.loop-k-preserved c).After-gap-first) (gap_is (goal.at.loop-k-preserved c).After-gap-first) (omega arith) in
+    let b = (goal.at.loop-k-preserved c).After-gap-first in
+    let passed = none_missing (schedule b) (marks b) (last b) (k b) (first b) (reached b) (gap_is b) (omega arith) in
     (omega arith, sym passed ∙ c.loop-k.invariant.1)
 
 pub returns : goal.returns

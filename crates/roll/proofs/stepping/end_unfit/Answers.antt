@@ -31,22 +31,25 @@ module _ (b : After-number_of-number) where
 pub returns-then-end-number : goal.returns-then-end-number
 unfolding end_unfit
 returns-then-end-number c =
-    let below = lt-ltb (segment_end_in (section (goal.at.returns-then-end-number c).After-number_of-number)) (number_in (section (goal.at.returns-then-end-number c).After-number_of-number)) (omega arith) in
-    rw (is_one (goal.at.returns-then-end-number c).After-number_of-number, below)
+    let b = (goal.at.returns-then-end-number c).After-number_of-number in
+    let below = lt-ltb (segment_end_in (section b)) (number_in (section b)) (omega arith) in
+    rw (is_one b, below)
 
 pub returns-then-last_of-end : goal.returns-then-last_of-end
 unfolding end_unfit
 returns-then-last_of-end c =
-    let not_below = le-ltb (segment_end_in (section (goal.at.returns-then-last_of-end c).After-number_of-number)) (number_in (section (goal.at.returns-then-last_of-end c).After-number_of-number)) (omega arith) in
-    let above = lt-ltb (last_in (section (goal.at.returns-then-last_of-end c).After-number_of-number)) (segment_end_in (section (goal.at.returns-then-last_of-end c).After-number_of-number)) (omega arith) in
-    rw (is_one (goal.at.returns-then-last_of-end c).After-number_of-number, not_below, above)
+    let b = (goal.at.returns-then-last_of-end c).After-number_of-number in
+    let not_below = le-ltb (segment_end_in (section b)) (number_in (section b)) (omega arith) in
+    let above = lt-ltb (last_in (section b)) (segment_end_in (section b)) (omega arith) in
+    rw (is_one b, not_below, above)
 
 pub returns-then-is_schedule : goal.returns-then-is_schedule
 unfolding end_unfit
 returns-then-is_schedule c =
-    let not_below = le-ltb (segment_end_in (section (goal.at.returns-then-is_schedule c).After-number_of-number)) (number_in (section (goal.at.returns-then-is_schedule c).After-number_of-number)) (omega arith) in
-    let not-above = le-ltb (last_in (section (goal.at.returns-then-is_schedule c).After-number_of-number)) (segment_end_in (section (goal.at.returns-then-is_schedule c).After-number_of-number)) (omega arith) in
-    rw (is_one (goal.at.returns-then-is_schedule c).After-number_of-number, not_below, not-above) (ap₂ (λ (e n : ℕ). not (eqb (segment_of e) (segment_of n))) (end_is (goal.at.returns-then-is_schedule c).After-number_of-number) (number_is (goal.at.returns-then-is_schedule c).After-number_of-number))
+    let b = (goal.at.returns-then-is_schedule c).After-number_of-number in
+    let not_below = le-ltb (segment_end_in (section b)) (number_in (section b)) (omega arith) in
+    let not-above = le-ltb (last_in (section b)) (segment_end_in (section b)) (omega arith) in
+    rw (is_one b, not_below, not-above) (ap₂ (λ (e n : ℕ). not (eqb (segment_of e) (segment_of n))) (end_is b) (number_is b))
 
 pub returns : goal.returns
 unfolding end_unfit

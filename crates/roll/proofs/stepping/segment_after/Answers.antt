@@ -25,9 +25,11 @@ module _ (b : After-is_schedule) where
 pub returns-then-is_schedule : goal.returns-then-is_schedule
 unfolding segment_after
 returns-then-is_schedule c =
-    rw (schedule (goal.at.returns-then-is_schedule c).After-is_schedule ∙ c.if-is_schedule.true) (cc)
+    let b = (goal.at.returns-then-is_schedule c).After-is_schedule in
+    rw (schedule b ∙ c.if-is_schedule.true) (cc)
 
 pub returns : goal.returns
 unfolding segment_after
 returns c =
-    rw (schedule (goal.at.returns c).After-is_schedule ∙ c.if-is_schedule.false) (cc)
+    let b = (goal.at.returns c).After-is_schedule in
+    rw (schedule b ∙ c.if-is_schedule.false) (cc)
