@@ -11,7 +11,6 @@ use Rattle.account.specs.Input.{Heard, none_yet, one_more, last_read, OverAtTheE
 use Rattle.account.specs.declared.progress.Progress.{Progress}
 use Rattle.account.specs.declared.progress.Stage.{Stage}
 use Rattle.account.specs.declared.progress.Stage.TheVariants.{Reading, Over}
-use Rattle.account.specs.declared.progress.Stage.TheVariants as Stage
 use Rattle.account.specs.declared.progress.Ended.TheVariants.{NoPackets}
 use Rattle.account.specs.declared.progress.Ended.TheVariants as Ended
 use Rattle.account.specs.declared.reading.Got.{Got}

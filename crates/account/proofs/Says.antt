@@ -25,7 +25,6 @@ use Rattle.account.specs.declared.progress.Progress.{Progress}
 use Rattle.account.specs.declared.progress.Stage.TheVariants.{Over}
 use Rattle.account.specs.declared.progress.Ended.{Ended}
 use Rattle.account.specs.declared.progress.Ended.TheVariants.{NoPackets}
-use Rattle.account.specs.declared.progress.Ended.TheVariants as Ended
 use Rattle.account.proofs.Cuts.{entered_append, pid_front}
 use Rattle.account.proofs.Absorbed.{reads_end}
 use Rattle.account.proofs.RunOf.{calls_from, packets_are, runs, pid_stays, Tally, fares_by, tally_all, fares_are, taken_are}

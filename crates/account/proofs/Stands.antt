@@ -7,7 +7,6 @@ use Rattle.account.specs.Input.{Heard, none_yet, one_more}
 use Rattle.account.specs.declared.reading.Got.{Got}
 use Rattle.account.specs.declared.reading.Got.TheVariants.{Bytes, Again, End, Failed}
 use Rattle.account.specs.declared.progress.Stage.{Stage}
-use Rattle.account.specs.declared.progress.Stage.TheVariants as Stage
 
 pub still_reading : (s : Stage) → is_over s ≡ false → s ≡ Stage.Reading
 still_reading Stage.Reading e = refl

@@ -7,9 +7,7 @@ use Rattle.account.specs.declared.reading.Got.{Got}
 use Rattle.account.specs.declared.reading.Got.TheVariants.{Bytes, Again, End, Failed}
 use Rattle.account.specs.declared.progress.Progress.{Progress}
 use Rattle.account.specs.declared.progress.Stage.{Stage}
-use Rattle.account.specs.declared.progress.Stage.TheVariants as Stage
 use Rattle.account.specs.declared.progress.Ended.{Ended}
-use Rattle.account.specs.declared.progress.Ended.TheVariants as Ended
 
 -- ---- what a read came to
 

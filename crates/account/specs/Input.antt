@@ -10,7 +10,6 @@ use Rattle.account.specs.declared.progress.Stage.TheVariants.{Reading, Over}
 use Rattle.account.specs.declared.progress.Stage.TheVariants as Stage
 use Rattle.account.specs.declared.progress.Ended.{Ended}
 use Rattle.account.specs.declared.progress.Ended.TheVariants.{NoPackets}
-use Rattle.account.specs.declared.progress.Ended.TheVariants as Ended
 use Rattle.account.specs.declared.tally.Account.{Account}
 
 -- From the start, with a buffer of 65,536 bytes and rooms as small as the collector takes them: the bytes that the reads

@@ -14,7 +14,6 @@ use Rattle.account.specs.Entered.{pieces}
 use Rattle.account.specs.Input.{rest_of}
 use Rattle.account.specs.declared.tally.Account.{Account}
 use Rattle.account.specs.declared.progress.Ended.{Ended}
-use Rattle.account.specs.declared.progress.Ended.TheVariants as Ended
 
 -- the packets of an input in order: each 188 bytes, and "a last piece under 188 bytes"
 abbrev pub packets_of : List ℕ → List (List ℕ)

@@ -1,10 +1,9 @@
 -- `account::input::account_of` meets its contract: after each turn one read more is heard.
-use Rattle.std.proofs.Common.{◌≡◌, ℕ, suc, ◌+◌, ◌-◌, ◌^◌, List, [], ◌++◌, length, sym, refl, ◌∙◌, subst, arith, rules}
+use Rattle.std.proofs.Common.{ℕ, suc, [], ◌++◌, sym, refl, ◌∙◌, subst, arith}
 use Rattle.account.specs.Heard.{state_as, Behind, Fits, brought}
 use Rattle.account.specs.Input.{Heard, none_yet, one_more}
 use Rattle.account.specs.declared.progress.Progress.{Progress}
 use Rattle.account.proofs.Stands.{still_reading, over_not_reading, left_few}
-use Rattle.account.proofs.input.account_of.Invariants.{Stands}
 use Rattle.account.proofs.input.account_of.Goals as goal
 use Rattle.account.proofs.input.account_of.Goals.{After-read_behind-came}
 

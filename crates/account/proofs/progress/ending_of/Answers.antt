@@ -1,5 +1,5 @@
 -- `account::progress::ending_of` meets its contract.
-use Rattle.std.proofs.Common.{◌≡◌, Bool, true, false, sym, rules}
+use Rattle.std.proofs.Common.{◌≡◌, Bool, true, false, sym}
 use borrow.Author.Tests.{not-true, not-false}
 use Rattle.account.specs.Heard.{ended_by, ended_of}
 use Rattle.account.specs.declared.progress.Progress.{Progress}

@@ -1,5 +1,5 @@
 -- `account::progress::finish` meets its contract.
-use Rattle.std.proofs.Common.{ap, rules}
+use Rattle.std.proofs.Common.{ap}
 use Rattle.account.specs.Heard.{state_as, finished_as}
 use Rattle.account.proofs.progress.finish.Goals as goal
 

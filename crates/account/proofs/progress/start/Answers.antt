@@ -1,5 +1,5 @@
 -- `account::progress::start` meets its contract.
-use Rattle.std.proofs.Common.{false, ap, rules}
+use Rattle.std.proofs.Common.{false, ap}
 use Rattle.account.specs.Heard.{progress_as}
 use Rattle.account.specs.declared.tally.Account.{Account}
 use Rattle.account.specs.declared.progress.Stage.TheVariants.{Reading}

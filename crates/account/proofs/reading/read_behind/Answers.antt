@@ -1,5 +1,5 @@
 -- `account::reading::read_behind` meets its contract: the part that is lent begins behind what is there.
-use Rattle.std.proofs.Common.{◌-◌, length, drop, arith, length-drop, length-take, rules}
+use Rattle.std.proofs.Common.{◌-◌, length, drop, arith, length-drop, length-take}
 use borrow.Rule.Slice.PartMut.{take_put}
 use Rattle.account.proofs.reading.read_behind.Goals as goal
 

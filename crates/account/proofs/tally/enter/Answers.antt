@@ -1,5 +1,5 @@
 -- `account::tally::enter` meets its contract.
-use Rattle.std.proofs.Common.{ap, ◌∙◌, rules}
+use Rattle.std.proofs.Common.{ap, ◌∙◌}
 use Rattle.account.specs.Entered.{kept_as, entered_as}
 use Rattle.account.proofs.tally.enter.Goals as goal
 

@@ -1,5 +1,5 @@
 -- `account::tally::enter_all` meets its contract: what is still to be entered leads from here to where it led from the start.
-use Rattle.std.proofs.Common.{◌≡◌, ℕ, suc, ◌+◌, ◌-◌, ◌/◌, ◌≤◌, List, length, take, drop, sym, refl, ap, ◌∙◌, arith, drop-drop, rules}
+use Rattle.std.proofs.Common.{◌≡◌, ℕ, suc, ◌+◌, ◌-◌, ◌/◌, ◌≤◌, List, take, drop, sym, ap, ◌∙◌, arith, drop-drop}
 use Rattle.account.specs.Entered.{Kept, kept_as, entered, entered_all, pieces}
 use Rattle.account.specs.declared.tally.Account.{Account}
 use Rattle.account.proofs.tally.enter_all.Invariants.{Going}

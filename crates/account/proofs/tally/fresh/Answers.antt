@@ -1,5 +1,5 @@
 -- `account::tally::fresh` meets its contract.
-use Rattle.std.proofs.Common.{ap, rules}
+use Rattle.std.proofs.Common.{ap}
 use Rattle.collector.specs.declared.Record.{Record}
 use Rattle.account.specs.declared.tally.Account.{Account}
 use Rattle.account.proofs.tally.fresh.Goals as goal

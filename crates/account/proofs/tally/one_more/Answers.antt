@@ -1,5 +1,5 @@
 -- `account::tally::one_more` meets its contract.
-use Rattle.std.proofs.Common.{sym, ap, ◌∙◌, rules}
+use Rattle.std.proofs.Common.{sym, ap, ◌∙◌}
 use Rattle.collector.specs.Answer.{told}
 use Rattle.collector.specs.declared.Answer.{Answer}
 use Rattle.account.specs.Entered.{tallied}

@@ -1,5 +1,5 @@
 -- `collector::lent::judge` meets its contract: the tests are the first rows of the table, in their order.
-use Rattle.std.proofs.Common.{◌≡◌, false, length, sym, ◌∙◌, rules, le-ltb, lt-ltb, eq-eqb, ne_eqb}
+use Rattle.std.proofs.Common.{◌≡◌, false, length, sym, arith, ◌∙◌, le-ltb, lt-ltb, eq-eqb, ne_eqb}
 use Rattle.packet.specs.Refusals.{judged}
 use Rattle.collector.specs.Refusals.{cannot_stand, too_small}
 use Rattle.collector.proofs.lent.judge.Goals as goal
@@ -10,20 +10,23 @@ returns-then-packet-ne188 c = simp (ne_eqb _ _ c.if-packet-ne188.true)
 
 pub returns-then-hold-lt4096 : goal.returns-then-hold-lt4096
 unfolding judged
-returns-then-hold-lt4096 c = simp (eq-eqb _ _ c.if-packet-ne188.false, lt-ltb _ _ c.if-hold-lt4096.true)
+returns-then-hold-lt4096 c =
+    let long : length c.args.packet.now ≡ 188 = omega arith in
+    simp (eq-eqb _ _ long, lt-ltb _ _ c.if-hold-lt4096.true)
 
 pub returns-then-room-lt4280 : goal.returns-then-room-lt4280
 unfolding judged
-returns-then-room-lt4280 c = simp (eq-eqb _ _ c.if-packet-ne188.false, le-ltb _ _ c.if-hold-lt4096.false, lt-ltb _ _ c.if-room-lt4280.true)
+returns-then-room-lt4280 c =
+    let long : length c.args.packet.now ≡ 188 = omega arith in
+    simp (eq-eqb _ _ long, le-ltb _ _ c.if-hold-lt4096.false, lt-ltb _ _ c.if-room-lt4280.true)
 
 pub returns-then-unfit : goal.returns-then-unfit
 unfolding judged
 returns-then-unfit c =
-    let if2 = c.if-hold-lt4096 in
-    let if1 = c.if-packet-ne188 in
+    let long : length c.args.packet.now ≡ 188 = omega arith in
     simp (
-      eq-eqb _ _ if1.false,
-      le-ltb _ _ if2.false,
+      eq-eqb _ _ long,
+      le-ltb _ _ c.if-hold-lt4096.false,
       le-ltb _ _ c.if-room-lt4280.false,
       sym c.unfit.ensures ∙ c.if-unfit.true,
     )

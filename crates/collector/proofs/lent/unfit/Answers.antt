@@ -1,9 +1,9 @@
 -- `collector::lent::unfit` meets its contract: each test decides one part of `cannot_stand`.
-use Rattle.std.proofs.Common.{◌≡◌, Bool, true, false, ltb, sym, ap, ◌∙◌, rules, le-ltb, lt-ltb}
+use Rattle.std.proofs.Common.{◌≡◌, ◌≤◌, Bool, true, false, ltb, sym, ap, arith, ◌∙◌, le-ltb, lt-ltb}
 use Rattle.collector.specs.Refusals.{counter_past, held_unfit, cannot_stand}
 use Rattle.collector.specs.declared.Record.{Record}
 use Rattle.collector.proofs.lent.unfit.Goals as goal
-use Rattle.collector.proofs.lent.unfit.Goals.{After-counter_past, Start}
+use Rattle.collector.proofs.lent.unfit.Goals.{After-counter_past}
 
 -- from where the counter was looked at
 module _ (k : After-counter_past) where
@@ -32,16 +32,20 @@ returns-then-rec-gt10 c =
 pub returns-then-n-gt4095 : goal.returns-then-n-gt4095
 unfolding cannot_stand
 returns-then-n-gt4095 c =
-    simp (a-pid (goal.at.returns-then-n-gt4095 c).After-counter_past, counter_is (goal.at.returns-then-n-gt4095 c).After-counter_past false c.if-counter_past.false, le-ltb _ _ c.if-rec-gt10.false, lt-ltb _ _ c.if-n-gt4095.true)
+    let k = (goal.at.returns-then-n-gt4095 c).After-counter_past in
+    let stands : c.args.rec.rejection ≤ 10 = omega arith in
+    simp (a-pid k, counter_is k false c.if-counter_past.false, le-ltb _ _ stands, lt-ltb _ _ c.if-n-gt4095.true)
 
 pub returns : goal.returns
 unfolding cannot_stand
 returns c =
+    let k = (goal.at.returns c).After-counter_past in
+    let stands : c.args.rec.rejection ≤ 10 = omega arith in
     c.held_unfit.ensures
-    ∙ ap (λ (b : Bool). held_unfit (rec (goal.at.returns c).After-counter_past).in_hand b ((goal.at.returns c).Start).args.hold.now) c.is_none.ensures
+    ∙ ap (λ (b : Bool). held_unfit (rec k).in_hand b c.args.hold.now) c.is_none.ensures
     ∙ sym (simp (
-      a-pid (goal.at.returns c).After-counter_past,
-      counter_is (goal.at.returns c).After-counter_past false c.if-counter_past.false,
-      le-ltb _ _ c.if-rec-gt10.false,
+      a-pid k,
+      counter_is k false c.if-counter_past.false,
+      le-ltb _ _ stands,
       le-ltb _ _ c.if-n-gt4095.false,
     ))

@@ -67,4 +67,4 @@ returns-then-size-gt4096 c =
 pub returns : goal.returns
 returns c =
     goes_by _ c.args.at c.args.size c.requires (three-there (goal.at.returns c).After-length12) c.length12.result
-    c.length12.ensures.same c.if-length12-size.false c.if-size-gt4096.false
+    c.length12.ensures.same c.if-length12-size.false (omega arith)
