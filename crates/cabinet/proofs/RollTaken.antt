@@ -65,7 +65,8 @@ module _ (r : Roll) (keep : Bool) (s : List ℕ) (small : number_in s < 256) (be
   unfolding continued begun_with
   marked_kept = go keep
     where
-      go : (b : Bool) → marked_by (if b then (roll_in r).marks else unmarked) s ≡ (if b then continued (roll_in r) s else begun_with s).marks
+      go : (b : Bool) → marked_by (if b then (roll_in r).marks else unmarked) s ≡
+          (if b then continued (roll_in r) s else begun_with s).marks
       go true = refl
       go false = refl
 
@@ -78,7 +79,8 @@ module _ (r : Roll) (keep : Bool) (s : List ℕ) (small : number_in s < 256) (be
       ∙ marked_by_segment kept s refl (ap (λ (g : Segment). segment_after g s) (sym (segment_of_lem flags₀ known₀ ends₀ k (omega arith))))
       ∙ ap (λ (m : Marks). marked_by m s) (marks_kept keep r.came r.known r.end) ∙ marked_kept
 
-  settled : (j : ℕ) → j < 32 → (get_or known₁ j 0 ≡ known_says (ends_in known₁ ends₁ j)) × (get_or ends₁ j 0 ≡ end_says (ends_in known₁ ends₁ j))
+  settled : (j : ℕ) → j < 32 → (get_or known₁ j 0 ≡ known_says (ends_in known₁ ends₁ j)) ×
+      (get_or ends₁ j 0 ≡ end_says (ends_in known₁ ends₁ j))
   settled =
       put_settled flags₀ known₀ ends₀ k segment (flags_long keep r.came r.known r.end)
       (known_long keep r.came r.known r.end) (ends_long keep r.came r.known r.end) segment_long (omega arith)

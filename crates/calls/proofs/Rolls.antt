@@ -310,7 +310,8 @@ complete_exactly given r x a is s t e schedule =
 
 pub missing_exactly : MissingExactlyIf Promised PromisedAsked
 missing_exactly given r x a is s t e schedule n =
-    let told = missing_told (asked_no_refusal (roll_in r)) (subst (Tells (asked (roll_in r))) (sym is) (answer_tells (asked (roll_in r)))) n in
+    let told = missing_told (asked_no_refusal (roll_in r))
+    (subst (Tells (asked (roll_in r))) (sym is) (answer_tells (asked (roll_in r)))) n in
     let exactly = missing_exactly_if given (roll_in r) (run_beneath x) (asked (roll_in r)) refl s t e schedule n in
     (λ h. exactly.0 (told.0 h), λ h. told.1 (exactly.1 h))
 

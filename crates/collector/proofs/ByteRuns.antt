@@ -130,7 +130,8 @@ module _ (comes : List ℕ → Kind) where
       → stretch comes plain after (place inside s) l ≡ place inside (all in-hand l s)
   grow_going after s l k j =
       let h : List ℕ = hand_of s in
-      grow after s l (λ a c e. part_going h l a c e k (omega (arith, length-append h a, length-append h l, length-append a c, ap length e)))
+      grow after s l (λ a c e. part_going h l a c e k
+      (omega (arith, length-append h a, length-append h l, length-append a c, ap length e)))
 
   -- ---- the run has the byte that settles the section
 

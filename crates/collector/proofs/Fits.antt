@@ -78,7 +78,8 @@ fit_of r hold out p from start counter splice e =
           ltb-false _ _
           (and_false (start_flag p) _
           (and_false (not (eqb (control p) 2)) _ rest.1.0 (ap not (ne_eqb _ _ x.has))) flag) in
-          let there : length (payload_of p) ≡ length p - from = length-drop (payload_from p) p ∙ ap (λ (n : ℕ). length p - n) (sym x.at) in
+          let there : length (payload_of p) ≡ length p - from = length-drop (payload_from p) p ∙ ap
+          (λ (n : ℕ). length p - n) (sym x.at) in
           let same : pointer_of p ≡ get_or p from 0 = ap (λ (n : ℕ). get_or p n 0) (sym x.at) in
           omega (arith, room, there, same, x.at, at.1);
     }

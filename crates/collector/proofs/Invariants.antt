@@ -59,7 +59,8 @@ module _ (comes : List ℕ → Kind) {A : Type 0} (value : A → ℕ) where
 
     -- and if the pointer byte keeps it, a whole packet does
     module _ (points : (b : A) (l : List A) (s : Story A) → R b → P l s → P (l ++ (b ∷ [])) (given (done pointer) b s)) where
-      pub keep-payload : (t : Bool) (l : List A) (s : Story A) (bs : List A) → Each R bs → P l s → P (l ++ bs) (payload comes value t s bs)
+      pub keep-payload : (t : Bool) (l : List A) (s : Story A) (bs : List A) → Each R bs → P l s → P (l ++ bs)
+          (payload comes value t s bs)
       keep-payload false l s bs r x = keep-goes l s bs r x
       keep-payload true l s [] r x = subst (λ (z : List A). P z s) (sym (append-nil l)) x
       keep-payload true l s (p ∷ bs) r x =

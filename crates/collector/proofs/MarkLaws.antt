@@ -6,7 +6,8 @@ use Rattle.collector.specs.Rules.{Fate, in-hand, done, Mark, same_fate, out_of_h
 
 -- ---- lists
 
-alike_fate : (f f' g : Fate) → same_fate g f ≡ same_fate g f' → (k : Fate) → same_fate g (out_of_hand f k) ≡ same_fate g (out_of_hand f' k)
+alike_fate : (f f' g : Fate) → same_fate g f ≡ same_fate g f' → (k : Fate) → same_fate g (out_of_hand f k) ≡
+    same_fate g (out_of_hand f' k)
 alike_fate f f' g e (done k) = refl
 alike_fate f f' g e in-hand = e
 
@@ -35,7 +36,8 @@ module _ {A : Type 0} where
       ap (λ (l : List A). if same_fate f m.fate then m.byte ∷ l else l) (bytes_of_append f a c)
       ∙ sym (if-cons (same_fate f m.fate) m.byte (bytes_of f a) (bytes_of f c))
 
-  marked_if : (t : Bool) (b : A) (l : List A) → (if t then b ∷ (if t then l else []) else (if t then l else [])) ≡ (if t then b ∷ l else [])
+  marked_if : (t : Bool) (b : A) (l : List A) → (if t then b ∷ (if t then l else []) else (if t then l else [])) ≡
+      (if t then b ∷ l else [])
   marked_if true b l = refl
   marked_if false b l = refl
 
@@ -45,7 +47,8 @@ module _ {A : Type 0} where
       if-nil : (t : Bool) → ◌≡◌ {A = List A} [] (if t then [] else [])
       if-nil true = refl
       if-nil false = refl
-  bytes_of_marked f g (b ∷ l) = ap (λ (x : List A). if same_fate f g then b ∷ x else x) (bytes_of_marked f g l) ∙ marked_if (same_fate f g) b l
+  bytes_of_marked f g (b ∷ l) = ap (λ (x : List A). if same_fate f g then b ∷ x else x) (bytes_of_marked f g l) ∙
+      marked_if (same_fate f g) b l
 
   -- the bytes of a fate, with bytes of one fate after them
   pub bytes_of_more : (f g : Fate) (ms : List (Mark A)) (l : List A)
@@ -85,7 +88,8 @@ module _ {A : Type 0} where
       ∙ ap (λ (l : List A). if same_fate g (out_of_hand f' m.fate) then m.byte ∷ l else l) (settled_alike f f' g e ms)
 
 -- a fate that is neither in hand nor what this is settled to is found where it was
-other_fate : (f g : Fate) → same_fate g f ≡ false → same_fate g in-hand ≡ false → (k : Fate) → same_fate g (out_of_hand f k) ≡ same_fate g k
+other_fate : (f g : Fate) → same_fate g f ≡ false → same_fate g in-hand ≡ false → (k : Fate) → same_fate g
+    (out_of_hand f k) ≡ same_fate g k
 other_fate f g e₁ e₂ (done k) = refl
 other_fate f g e₁ e₂ in-hand = e₁ ∙ sym e₂
 

@@ -111,7 +111,8 @@ module _ (row p : ℕ) (size : ((row_at row).fixed ≡ 0 → ⊥) → sizes (ent
       )
 
   -- and how long that is at least
-  pub at_least : (x : TableShape) (n : ℕ) → shortest x ≤ length ((section_top_by x).show l) + length ((section_entries_by x row n).show es)
+  pub at_least : (x : TableShape) (n : ℕ) → shortest x ≤ length ((section_top_by x).show l) + length
+      ((section_entries_by x row n).show es)
   unfolding loop_show
   at_least neither n = omega arith
   at_least top_only n = omega arith

@@ -109,7 +109,8 @@ all_none came count few h = go (found came count 0)
 -- what is missing of so many, of which at most eight must come
 pub record Gap (came : List Bool) (count g : ℕ) : Type 0 where
   pub few : g ≤ 8
-  pub missing : g < 8 → ((count ≡ 0) × (g ≡ 0)) ⊎ ((g < count) × ((i : ℕ) → i < g → get_or came i false ≡ true) × (get_or came g false ≡ false))
+  pub missing : g < 8 → ((count ≡ 0) × (g ≡ 0)) ⊎
+      ((g < count) × ((i : ℕ) → i < g → get_or came i false ≡ true) × (get_or came g false ≡ false))
   pub whole : 8 ≤ g → (0 < count) × ((i : ℕ) → i < count → get_or came i false ≡ true)
 
 pub gap_is : (came : List Bool) (count : ℕ) → count ≤ 8 → Gap came count (gap_among came count)

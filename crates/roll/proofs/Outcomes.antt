@@ -78,7 +78,8 @@ pub course_on : (begun : Bool) (kept : SubTable) (version last : ℕ) (s : List 
     → begun ≡ true
 unfolding course_of course_if_accepted course_if_current
 course_on begun kept version last s =
-    go (is_accepted (judged s)) (has_no_sub_table s) (another_for begun kept s) (is_current s) (end_unfit s) begun refl refl refl refl refl refl
+    go (is_accepted (judged s)) (has_no_sub_table s) (another_for begun kept s) (is_current s) (end_unfit s) begun
+    refl refl refl refl refl refl
   where
     never : {x : Says} → refuses x ≡ takes true → begun ≡ true
     never e = let z : ◌≡◌ {A = ℕ} 0 1 = cc in absurd (omega arith)

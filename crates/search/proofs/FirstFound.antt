@@ -62,7 +62,8 @@ from_cases : (tag k : ℕ) (loops : List (List Placed)) → ((j : ℕ) × (d : P
 from_cases tag k [] = inr search.Nowhere.none
 from_cases tag k (ds ∷ loops) = go (in_cases tag ds) (from_cases tag (k + 1) loops)
   where
-    go : ((d : Placed) × FirstIn tag ds d) ⊎ Without tag ds → ((j : ℕ) × (d : Placed) × FirstHit tag (k + 1) loops j d) ⊎ Nowhere tag loops
+    go : ((d : Placed) × FirstIn tag ds d) ⊎ Without tag ds →
+        ((j : ℕ) × (d : Placed) × FirstHit tag (k + 1) loops j d) ⊎ Nowhere tag loops
         → ((j : ℕ) × (d : Placed) × FirstHit tag k (ds ∷ loops) j d) ⊎ Nowhere tag (ds ∷ loops)
     go (inl (d, f)) r = inl (k, d, search.FirstHit.here f)
     go (inr w) (inl (j, d, f)) = inl (j, d, search.FirstHit.later w f)

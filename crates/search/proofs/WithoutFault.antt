@@ -47,7 +47,8 @@ module _ (l : List ℕ) (p n : ℕ) (same : n ≡ len12_at l p) where
 
   one_ok : (fixed : ℕ) → fixed ≡ 0 → (topped fixed p (drop p l)).ends ≡ accepted → Topped fixed
   one_ok fixed f ok =
-      let t : topped fixed p (drop p l) ≡ (fills p (drop p l) and_then loop_then (descriptors (p + 2) (drop (p + 2) l)) (ended accepted)) =
+      let t : topped fixed p (drop p l) ≡
+      (fills p (drop p l) and_then loop_then (descriptors (p + 2) (drop (p + 2) l)) (ended accepted)) =
       topped_one fixed p (drop p l) f ∙ one_loop_lem l p in
       let a = then_ok _ _ (sym (ap answer t) ∙ ok) in
       let e = fills_tells l p n same a.0 in
@@ -77,7 +78,8 @@ module _ (l : List ℕ) (p n : ℕ) (same : n ≡ len12_at l p) where
         ends_there = omega arith;
         holds =
             ap items (t ∙ a.1 ∙ b.1)
-            ∙ ap (λ y. (descriptors (p + 2) (drop (p + 2) (take (p + (2 + n)) l))).items ∷ y) (ap items (s ∙ d.1) ∙ rw (ne_eqb fixed 0 f));
+            ∙ ap (λ y. (descriptors (p + 2) (drop (p + 2) (take (p + (2 + n)) l))).items ∷ y)
+            (ap items (s ∙ d.1) ∙ rw (ne_eqb fixed 0 f));
         room = λ _. r;
         onward = λ _. sym (ap answer (s ∙ d.1)) ∙ k;
       }

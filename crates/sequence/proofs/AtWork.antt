@@ -285,7 +285,8 @@ unfolding by_hand tdt coming second other opening lower higher longer services s
     schedule_shorter schedule_below schedule_above schedule_elsewhere schedule_coming schedule_left_out
     schedule_last_id events_unfit
     taken_of unrefused empty_roll taking taking_accepted taking_current end_unfit marked_by answered asked
-    is_schedule counting end_at came_by left_out_by come_or_left_out smallest_in_segments ending_by marked_until blank segment_at with_mark
+    is_schedule counting end_at came_by left_out_by come_or_left_out smallest_in_segments ending_by marked_until
+    blank segment_at with_mark
     roll_after continued begun_with starts_afresh another has_no_sub_table is_current version_in same_ids compared sub_table_of
     number_at network_in ids_that_count smallest_missing smallest marked unmarked has judged read opened header wrong_syntax
     length_outside size_differs crc_fails above_last inside topped plain two_loops second_loop leaves_room fills ◌and_then◌

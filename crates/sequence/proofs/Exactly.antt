@@ -337,7 +337,8 @@ module _ (r : Roll) (s : List ℕ) (b : Bytes s) where
         rw (segment_marks unmarked)
         ((λ y. ⊎_elim (λ z. EndFor.just z.0 z.1) (λ z. absurd (none_known _ _ _ z.1)) (x.0 y)), λ y. x.1 (from y))
       where
-        from : EndFor r s k e → ((number_in s / 8 ≡ k) × (segment_end_in s ≡ e)) ⊎ ((number_in s / 8 ≡ k → ⊥) × Known unmarked (last_in s) k e)
+        from : EndFor r s k e → ((number_in s / 8 ≡ k) × (segment_end_in s ≡ e)) ⊎
+            ((number_in s / 8 ≡ k → ⊥) × Known unmarked (last_in s) k e)
         from (EndFor.just p q) = inl (p, q)
         from (EndFor.earlier on p q) = absurd (not_on h on)
 

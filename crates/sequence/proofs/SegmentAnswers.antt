@@ -99,7 +99,8 @@ module _ (m : Marks) (last : ℕ) where
   pub smallest_in_segments_lem : AnswersInSegments (Known m last) (CameIn m last) last (smallest_in_segments m last)
   unfolding smallest_in_segments
   smallest_in_segments_lem =
-      in_segments (smallest_answers (come_or_left_out m last) (λ n. CameIn m last n ⊎ LeftOut (Known m last) n) come_or_left_out_lem counted last)
+      in_segments (smallest_answers (come_or_left_out m last) (λ n. CameIn m last n ⊎ LeftOut (Known m last) n)
+      come_or_left_out_lem counted last)
 
 -- ---- the sentences by themselves
 

@@ -84,7 +84,8 @@ module _ (s : List ℕ) where
 
   tests_contradict : tests ≡ true → Contradicts s
   tests_contradict h =
-      go (ltb (segment_end_in s) (number_in s)) (ltb (last_in s) (segment_end_in s)) (eqb (segment_of (segment_end_in s)) (segment_of (number_in s)))
+      go (ltb (segment_end_in s) (number_in s)) (ltb (last_in s) (segment_end_in s))
+      (eqb (segment_of (segment_end_in s)) (segment_of (number_in s)))
       refl refl refl h
     where
       go : (a b c : Bool) → ltb (segment_end_in s) (number_in s) ≡ a → ltb (last_in s) (segment_end_in s) ≡ b
@@ -98,7 +99,8 @@ module _ (s : List ℕ) where
   contradict_tests (below h) = rw (lt-ltb _ _ h)
   contradict_tests (above h) = go (ltb (segment_end_in s) (number_in s))
     where
-      go : (a : Bool) → (a || (ltb (last_in s) (segment_end_in s) || not (eqb (segment_of (segment_end_in s)) (segment_of (number_in s))))) ≡ true
+      go : (a : Bool) → (a || (ltb (last_in s) (segment_end_in s) || not
+          (eqb (segment_of (segment_end_in s)) (segment_of (number_in s))))) ≡ true
       go true = refl
       go false = rw (lt-ltb (last_in s) (segment_end_in s) h)
   contradict_tests (in_another h) = go (ltb (segment_end_in s) (number_in s)) (ltb (last_in s) (segment_end_in s))

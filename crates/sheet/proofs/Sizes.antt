@@ -86,10 +86,12 @@ module _ (field : Field → Form ℕ) (field_size : Field → ℕ)
   section_item_lem numbers v o = o.0
   section_item_lem (packed fs) v o = refl
 
-  sheet_items : (xs : List Item) (vs : Fields) → EachOk (item_for field) xs vs → length ((each (item_for field) xs).show vs) ≡ total in_sheet xs
+  sheet_items : (xs : List Item) (vs : Fields) → EachOk (item_for field) xs vs → length
+      ((each (item_for field) xs).show vs) ≡ total in_sheet xs
   sheet_items = items_size (item_for field) (item_for field) in_sheet sheet_item_lem
 
-  section_items : (xs : List Item) (vs : Fields) → EachOk (item_for field) xs vs → length ((each section_item xs).show vs) ≡ total in_section xs
+  section_items : (xs : List Item) (vs : Fields) → EachOk (item_for field) xs vs → length
+      ((each section_item xs).show vs) ≡ total in_section xs
   section_items = items_size section_item (item_for field) in_section section_item_lem
 
   -- ---- loops and entries
@@ -105,7 +107,8 @@ module _ (field : Field → Form ℕ) (field_size : Field → ℕ)
       omega arith
 
   module _ (row cut : ℕ) (by : total in_sheet (entry_of row) + fields_size (side_of row) ≡ cut + total in_section (entry_of row)) where
-    entry_size : (e : Entry) → (entry_for field row).Ok e → length ((entry_for field row).show e) ≡ cut + length ((section_entry row).show e)
+    entry_size : (e : Entry) → (entry_for field row).Ok e → length ((entry_for field row).show e) ≡ cut + length
+        ((section_entry row).show e)
     entry_size e o =
         let l = length-append ((each (item_for field) (entry_of row)).show e.0) ((loop_for field (side_of row)).show e.1) in
         let m = length-append ((each section_item (entry_of row)).show e.0) ((section_loop (side_of row)).show e.1) in
@@ -215,7 +218,8 @@ abbrev pub number_in : List ℕ × Body → ℕ
 number_in b = length b.1.1.1.1
 
 Sized : ℕ → List ℕ × Body → Type 0
-Sized row b = length ((section_body row 0).show b.1) + 4 * (row_at row).crc + cut row * number_in b ≡ length ((behind_id row).show b) + gain row
+Sized row b = length ((section_body row 0).show b.1) + 4 * (row_at row).crc + cut row * number_in b ≡ length
+    ((behind_id row).show b) + gain row
 
 size_of : (row : ℕ) (b : List ℕ × Body) → row < 6 → (behind_id row).Ok b → Sized row b
 unfolding Sized cell cut gain head_of entry_of shape_of side_of total fields_size
@@ -266,7 +270,8 @@ size_of (suc (suc (suc (suc (suc zero))))) b h o = omega (
 size_of (suc (suc (suc (suc (suc (suc n)))))) b h o = absurd (omega arith)
 
 -- section_length, from the length of the sheet and the number of entries
-pub section_size : (c : Content) → SheetOk c → section_length c + cut (row_in c) * number_in c.1 + 1 ≡ length (sheet_of c) + gain (row_in c)
+pub section_size : (c : Content) → SheetOk c → section_length c + cut (row_in c) * number_in c.1 + 1 ≡ length
+    (sheet_of c) + gain (row_in c)
 unfolding OkFor shown_for section_length Sized
 section_size c o = let e = size_of (row_in c) c.1 o.0 o.1 in omega arith
 

@@ -116,7 +116,8 @@ module _ {A : Type 0} (c : Form A) (full : Full c) (l : List ℕ) where
 -- ---- the bytes of so many descriptors
 
 -- a descriptor says its size in its second byte
-pub descriptor_says_lem : (s : List ℕ) (at p : ℕ) {b byte q : ℕ} → b ≡ byte → byte ≡ get_or s q 0 → (at + p + 1 < length s → q ≡ at + p + 1)
+pub descriptor_says_lem : (s : List ℕ) (at p : ℕ) {b byte q : ℕ} → b ≡ byte → byte ≡ get_or s q 0 →
+    (at + p + 1 < length s → q ≡ at + p + 1)
     → Says descriptor s at p (2 + b)
 descriptor_says_lem s at p h hb e d o t =
     let within = part_within (descriptor.show d) t in

@@ -142,7 +142,8 @@ module _ (row : ℕ) (e : Entries) where
       let v : ℕ = 0xF000 + N in
       let u : List ℕ = v / 256 % 256 ∷ v % 256 ∷ [] in
       let iv : sum 0xF000 (end - sum to 2) ≡ v = ap (sum 0xF000) left ∙ sum_fits 0xF000 N (omega arith) in
-      let put₁ : put_number o to (sum 0xF000 (end - sum to 2)) ≡ put o to u = ap (put_number o to) iv ∙ number_put o to v lo (omega arith) in
+      let put₁ : put_number o to (sum 0xF000 (end - sum to 2)) ≡ put o to u = ap (put_number o to) iv ∙ number_put
+      o to v lo (omega arith) in
       let ones = beside_ones e.0 ok.0 in
       let high : v / 256 % 256 ≡ pack bare e.0 * 16 + N / 256 = omega arith in
       let low : v % 256 ≡ N % 256 = omega arith in (

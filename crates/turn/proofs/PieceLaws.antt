@@ -99,7 +99,8 @@ shape_room running = refl
 shape_room bared = refl
 
 -- the fields of a number, as a sheet has them
-parted_is : {fs : List Field} {span all : ℕ} → Shape fs span all → (x : ℕ) → x < all → (sheet_fields fs).show (unpack fs x) ≡ parted_of span x
+parted_is : {fs : List Field} {span all : ℕ} → Shape fs span all → (x : ℕ) → x < all → (sheet_fields fs).show
+    (unpack fs x) ≡ parted_of span x
 unfolding each_show unpack room
 parted_is versioned x h = ap₂ (λ a b. a ∷ b ∷ []) (omega arith) (omega arith)
 parted_is flagged x h = ap₂ (λ a b. a ∷ b ∷ []) (omega arith) (omega arith)

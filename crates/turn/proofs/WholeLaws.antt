@@ -305,7 +305,8 @@ refused_through : {A B : Type 0} (r : reading.Reading A) (f : A → B) (k : ℕ)
 refused_through (reading.value a) f k e = absurd (never e)
 refused_through (reading.refused j) f k e = ap reading.refused (refused_is e)
 
-pub section_refused : (n : ℕ) (s : List ℕ) (k : ℕ) → 4096 ≤ n → judged_sheet s ≡ reading.refused k → turn.to_section n s ≡ turn.refuses k 0
+pub section_refused : (n : ℕ) (s : List ℕ) (k : ℕ) → 4096 ≤ n → judged_sheet s ≡ reading.refused k →
+    turn.to_section n s ≡ turn.refuses k 0
 unfolding turn.to_section judged_for
 section_refused n s k h e = let r = refused_through (read_sheet s) section_length k e in rw (le-ltb n 4096 h, r) refl
 

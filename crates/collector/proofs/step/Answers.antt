@@ -1,5 +1,5 @@
 -- `collector::step` meets its contract: the verdict decides the outcome.
-use Rattle.std.proofs.Common.{sym, ap, ◌∙◌, rules}
+use Rattle.std.proofs.Common.{sym, ap, ◌∙◌}
 use Rattle.packet.specs.Refusals.{Judged}
 use Rattle.packet.specs.Ruling.{ruled_by}
 use Rattle.packet.specs.Judgement.{meant}
@@ -28,9 +28,10 @@ returns-in-Refuse c =
 
 pub returns-in-Bare : goal.returns-in-Bare
 returns-in-Bare c =
-    let a = ((goal.at.returns-in-Bare c).Start).args in
+    let start = (goal.at.returns-in-Bare c).Start in
+    let a = start.args in
     ap (λ (r : Record). unaltered r a.hold.now a.out.now (taken 0 0)) c.marked.ensures
-    ∙ ap (outcome ((goal.at.returns-in-Bare c).Start)) (sym (ap meant c.in-Bare.is) ∙ c.judge-v.ensures)
+    ∙ ap (outcome (start)) (sym (ap meant c.in-Bare.is) ∙ c.judge-v.ensures)
 
 pub returns-in-Payload : goal.returns-in-Payload
 returns-in-Payload c =

@@ -3,7 +3,6 @@ use mathlib.Core.Path.{sym}
 use native.Mathlib.Omega.{arith}
 use Rattle.parts.proofs.Fronts.{is_out}
 use Rattle.parts.proofs.Openings.{is_left}
-use borrow.Author.Rules.{rules}
 use Rattle.parts.proofs.is_within.Goals as goal
 
 pub returns-then-bytes-start : goal.returns-then-bytes-start

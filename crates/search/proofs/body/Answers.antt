@@ -2,7 +2,6 @@
 use mathlib.Core.Path.{sym, ap, ◌∙◌}
 use Rattle.search.specs.Search.{told_found, body_of}
 use mathlib.Core.Path.{sym, ap, ◌∙◌}
-use borrow.Author.Rules.{rules}
 use Rattle.search.proofs.body.Goals as goal
 
 pub returns-in-Hit : goal.returns-in-Hit

@@ -11,7 +11,6 @@ use Rattle.search.specs.Search.{told_found, hit_from}
 use Rattle.search.specs.declared.Found.{Found}
 use Rattle.search.proofs.Hits.{or_else, hit_lead}
 use Rattle.search.proofs.WithoutFault.{Topped, topped_ok, behind}
-use borrow.Author.Rules.{rules}
 use Rattle.search.proofs.find_from_top.Goals as goal
 use Rattle.search.proofs.find_from_top.Goals.{After-find_in_top-top, After-length12_at}
 
@@ -39,7 +38,8 @@ module _ (c : After-find_in_top-top) where
   lead : (v : Found) → c.find_in_top-top.result ≡ v
       → hit_from tag 0 (topped fixed at (drop at bytes)).items
       ≡ or_else (told_found v) (hit_from tag 1 (behind bytes at c.length12_at.result c.length12_at.ensures.same fixed))
-  lead v q = hit_lead _ _ _ _ (told_found v) (topped_ok _ _ _ c.length12_at.ensures.same fixed c.requires.1).holds (sym (ap told_found q) ∙ c.find_in_top-top.ensures)
+  lead v q = hit_lead _ _ _ _ (told_found v) (topped_ok _ _ _ c.length12_at.ensures.same fixed c.requires.1).holds
+      (sym (ap told_found q) ∙ c.find_in_top-top.ensures)
 
 pub overflow_add-end-2 : goal.overflow_add-end-2
 overflow_add-end-2 c = omega (arith, (whole (goal.at.overflow_add-end-2 c).After-length12_at).ends_there)

@@ -1,20 +1,17 @@
 -- `search::find_in_entries` meets its contract. Both loops: what is still to be searched gives what the whole gives.
 use Rattle.search.proofs.Hits.{Entry}
-use borrow.Author.Rules.{rules}
 use Rattle.search.proofs.Hits.{hit_here, hit_on, hit-end, hit_cut, fits_within, told_within, entry_here}
 use Rattle.section.proofs.EntryLoops.{at-end}
-use Rattle.search.specs.declared.Found.TheVariants.{Nothing}
-use Rattle.search.specs.Search.{told_found, hit_in, hit_from}
+use Rattle.search.specs.Search.{told_found, hit_from}
 use Rattle.section.specs.Entries.{entries}
 use Rattle.wire.specs.Bytes.{len12_at}
 use Rattle.wire.specs.Trail.{Trail}
 use mathlib.Core.List.{List}
 use Rattle.loops.specs.Descriptors.{Placed, descriptors}
-use Rattle.verdict.specs.Verdict.{Said, accepted}
+use Rattle.verdict.specs.Verdict.{Said}
 use lib.Seq.{length-take-le}
-use lib.ListN.{length, take, drop}
+use lib.ListN.{length, take}
 use native.Mathlib.Omega.{arith}
-use mathlib.Core.Logic.{⊎_elim}
 use mathlib.Core.Path.{◌≡◌, refl, sym, ap, ◌∙◌}
 use Prim.Native.Nat.{ℕ, ◌+◌, ◌-◌, ◌<◌, ◌≤◌}
 use Rattle.search.proofs.find_in_entries.Goals as goal

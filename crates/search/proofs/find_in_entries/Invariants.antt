@@ -1,22 +1,12 @@
 -- `search::find_in_entries` meets its contract. Both loops: what is still to be searched gives what the whole gives.
-use Rattle.search.proofs.Hits.{Entry}
-use borrow.Author.Rules.{rules}
-use Rattle.search.proofs.Hits.{hit_here, hit_on, hit-end, hit_cut, fits_within, told_within, entry_here}
-use Rattle.section.proofs.EntryLoops.{at-end}
 use Rattle.search.specs.declared.Found.TheVariants.{Nothing}
-use Rattle.search.specs.Search.{told_found, hit_in, hit_from}
+use Rattle.search.specs.Search.{hit_in, hit_from}
 use Rattle.section.specs.Entries.{entries}
-use Rattle.wire.specs.Bytes.{len12_at}
-use Rattle.wire.specs.Trail.{Trail}
-use mathlib.Core.List.{List}
-use Rattle.loops.specs.Descriptors.{Placed, descriptors}
-use Rattle.verdict.specs.Verdict.{Said, accepted}
-use lib.Seq.{length-take-le}
+use Rattle.loops.specs.Descriptors.{descriptors}
+use Rattle.verdict.specs.Verdict.{accepted}
 use lib.ListN.{length, take, drop}
-use native.Mathlib.Omega.{arith}
-use mathlib.Core.Logic.{⊎_elim}
-use mathlib.Core.Path.{◌≡◌, refl, sym, ap, ◌∙◌}
-use Prim.Native.Nat.{ℕ, ◌+◌, ◌-◌, ◌<◌, ◌≤◌}
+use mathlib.Core.Path.{◌≡◌}
+use Prim.Native.Nat.{◌+◌, ◌-◌, ◌≤◌}
 use Rattle.search.proofs.find_in_entries.Given as goal
 
 abbrev pub invariant-descriptors : goal.invariant-descriptors
@@ -30,7 +20,8 @@ abbrev pub decreases-descriptors : goal.decreases-descriptors
 decreases-descriptors l = l.next - l.q
 
 abbrev pub invariant-entries : goal.invariant-entries
-invariant-entries l = (hit_from l.tag l.number (entries l.fixed l.p (drop l.p l.bytes)).items ≡ hit_from l.tag 1 (entries l.fixed l.at (drop l.at l.bytes)).items)
+invariant-entries l = (hit_from l.tag l.number (entries l.fixed l.p (drop l.p l.bytes)).items ≡ hit_from l.tag 1
+    (entries l.fixed l.at (drop l.at l.bytes)).items)
     × ((entries l.fixed l.p (drop l.p l.bytes)).ends ≡ accepted) × (l.found ≡ Nothing) × (l.number ≤ l.p + 1)
 
 abbrev pub decreases-entries : goal.decreases-entries

@@ -1,14 +1,12 @@
 -- `search::find_in_top` meets its contract: what is still to be searched gives what the whole loop gives.
-use borrow.Author.Rules.{rules}
 use Prim.Native.Nat.{ℕ, ◌+◌, ◌-◌, ◌<◌, ◌≤◌}
-use mathlib.Core.List.{List}
-use mathlib.Core.Path.{◌≡◌, refl, sym, ap, ◌∙◌}
+use mathlib.Core.Path.{refl, sym, ap, ◌∙◌}
 use native.Mathlib.Omega.{arith}
 use native.Mathlib.Nat.{le_of_lt}
-use lib.ListN.{length, drop}
+use lib.ListN.{length}
 use Rattle.wire.specs.Trail.{Trail}
 use Rattle.verdict.specs.Verdict.{Said}
-use Rattle.loops.specs.Descriptors.{Placed, descriptors}
+use Rattle.loops.specs.Descriptors.{Placed}
 use Rattle.search.specs.Search.{none, hit_in}
 use Rattle.loops.proofs.Loops.{at-end, told_on}
 use Rattle.search.proofs.Hits.{hit_here, hit_on, hit-end, hit_cut}
@@ -36,7 +34,8 @@ loop-p-init c = refl
 pub returns-then-t-tag : goal.returns-then-t-tag
 returns-then-t-tag c =
     sym
-    (hit_here c.args.bytes.now c.loop-p.p c.args.tag 0 none _ c.step_at-step.ensures (in_loop (goal.at.returns-then-t-tag c).After-step_at-step) _ _ _
+    (hit_here c.args.bytes.now c.loop-p.p c.args.tag 0 none _ c.step_at-step.ensures
+    (in_loop (goal.at.returns-then-t-tag c).After-step_at-step) _ _ _
     c.in-Descriptor.is c.if-t-tag.true)
     ∙ c.loop-p.invariant
 
@@ -49,19 +48,22 @@ loop-p-smaller c = omega (arith, further (goal.at.loop-p-smaller c).Else-t-tag)
 pub loop-p-preserved : goal.loop-p-preserved
 loop-p-preserved c =
     sym
-    (hit_on c.args.bytes.now c.loop-p.p c.args.tag 0 none _ c.step_at-step.ensures (in_loop (goal.at.loop-p-preserved c).After-step_at-step) _ _ _ c.in-Descriptor.is c.if-t-tag.false)
+    (hit_on c.args.bytes.now c.loop-p.p c.args.tag 0 none _ c.step_at-step.ensures
+    (in_loop (goal.at.loop-p-preserved c).After-step_at-step) _ _ _ c.in-Descriptor.is c.if-t-tag.false)
     ∙ c.loop-p.invariant
 
 pub returns-in-End : goal.returns-in-End
 returns-in-End c =
     sym
-    (hit-end c.args.bytes.now c.loop-p.p c.args.tag 0 none _ c.step_at-step.ensures (in_loop (goal.at.returns-in-End c).After-step_at-step) c.in-End.is)
+    (hit-end c.args.bytes.now c.loop-p.p c.args.tag 0 none _ c.step_at-step.ensures
+    (in_loop (goal.at.returns-in-End c).After-step_at-step) c.in-End.is)
     ∙ c.loop-p.invariant
 
 pub returns-in-Cut : goal.returns-in-Cut
 returns-in-Cut c =
     sym
-    (hit_cut c.args.bytes.now c.loop-p.p c.args.tag 0 none _ c.step_at-step.ensures (in_loop (goal.at.returns-in-Cut c).After-step_at-step) _ c.in-Cut.is)
+    (hit_cut c.args.bytes.now c.loop-p.p c.args.tag 0 none _ c.step_at-step.ensures
+    (in_loop (goal.at.returns-in-Cut c).After-step_at-step) _ c.in-Cut.is)
     ∙ c.loop-p.invariant
 
 pub returns : goal.returns

@@ -10,7 +10,6 @@ use Rattle.tables.specs.declared.Row.{Row}
 use Rattle.tables.proofs.RowLaws.{fixed_two}
 use Rattle.verdict.proofs.SaidLaws.{is_accepted_lem}
 use Rattle.search.proofs.WithoutFault.{read_inside}
-use borrow.Author.Rules.{rules}
 use Rattle.search.proofs.search.Goals as goal
 use Rattle.search.proofs.search.Goals.{After-before_crc, Then-is_accepted}
 
@@ -24,24 +23,29 @@ module _ (c : After-before_crc) where
   abbrev row : Row
   row = c.row_at-row.result
 
-  all_read : judged c.args.section.now ≡ accepted → read c.args.section.now ≡ inside row row.before (drop row.before c.before_crc.result.now)
+  all_read : judged c.args.section.now ≡ accepted → read c.args.section.now ≡ inside row row.before
+      (drop row.before c.before_crc.result.now)
   all_read accepts =
       read_inside _ _ _ (c.row_at-row.ensures ∙ ap row_at (c.row_of.ensures ∙ ap row_of c.byte_at.ensures))
       c.before_crc.ensures accepts
 
 pub find_inside-requires : goal.find_inside-requires
 unfolding judged
-find_inside-requires c = (
-  subst (λ (r : Row). FixedTwo r.fixed) (sym c.row_at-row.ensures) (fixed_two _),
-  sym (ap answer (all_read (goal.at.find_inside-requires c).After-before_crc (ok (goal.at.find_inside-requires c).Then-is_accepted))) ∙ ok ((goal.at.find_inside-requires c).Then-is_accepted),
-)
+find_inside-requires c =
+    let then_is_accepted = (goal.at.find_inside-requires c).Then-is_accepted in (
+      subst (λ (r : Row). FixedTwo r.fixed) (sym c.row_at-row.ensures) (fixed_two _),
+      sym (ap answer (all_read (goal.at.find_inside-requires c).After-before_crc (ok then_is_accepted))) ∙ ok (then_is_accepted),
+    )
 
 pub returns-then-is_accepted : goal.returns-then-is_accepted
 unfolding sought
 returns-then-is_accepted c =
+    let then_is_accepted = (goal.at.returns-then-is_accepted c).Then-is_accepted in
     let tag = c.args.tag in
-    rw (ap is_accepted (ok ((goal.at.returns-then-is_accepted c).Then-is_accepted)))
-    (c.find_inside.ensures ∙ sym (ap (λ (x : LoopsRead). hit_from tag 0 x.items) (all_read (goal.at.returns-then-is_accepted c).After-before_crc (ok (goal.at.returns-then-is_accepted c).Then-is_accepted))))
+    rw (ap is_accepted (ok (then_is_accepted)))
+    (c.find_inside.ensures ∙ sym
+    (ap (λ (x : LoopsRead). hit_from tag 0 x.items)
+    (all_read (goal.at.returns-then-is_accepted c).After-before_crc (ok then_is_accepted))))
 
 pub returns : goal.returns
 unfolding sought

@@ -2,8 +2,6 @@
 use mathlib.Core.Path.{◌≡◌, sym, ◌∙◌}
 use mathlib.Core.Bool.{true}
 use Prim.Native.Nat.{◌≤◌}
-use borrow.Author.Rules.{rules}
-use borrow.Author.Tests.{not-true, not-false}
 use Rattle.writer.specs.Cut.{fit}
 use Rattle.writer.proofs.CutLaws.{fit_sum, fit_few}
 use Rattle.writer.proofs.Outcomes.{bad_pid, bad_counter, bad_section, room_short, room_enough, all_written}
@@ -35,28 +33,33 @@ returns-then-not-fits c =
     (sym c.fits.ensures ∙ c.if-not-fits.true)
 
 pub count-n-requires : goal.count-n-requires
-count-n-requires c = (fit_sum _ _ (fits (goal.at.count-n-requires c).Else-not-fits), fit_few _ _ (fits (goal.at.count-n-requires c).Else-not-fits))
+count-n-requires c =
+    let else_not_fits = (goal.at.count-n-requires c).Else-not-fits in
+    (fit_sum _ _ (fits else_not_fits), fit_few _ _ (fits else_not_fits))
 
 pub returns-then-room-n : goal.returns-then-room-n
 returns-then-room-n c =
-    room_short _ _ _ _ _ (pid_small (goal.at.returns-then-room-n c).Else-not-fits) (counter_small (goal.at.returns-then-room-n c).Else-not-fits) (fits (goal.at.returns-then-room-n c).Else-not-fits) c.count-n.result c.count-n.ensures
+    let else_not_fits = (goal.at.returns-then-room-n c).Else-not-fits in
+    room_short _ _ _ _ _ (pid_small else_not_fits) (counter_small else_not_fits) (fits else_not_fits) c.count-n.result c.count-n.ensures
     c.if-room-n.true
 
 pub put_all-requires : goal.put_all-requires
 put_all-requires c =
+    let else_not_fits = (goal.at.put_all-requires c).Else-not-fits in
     let a = c.args in (
-      pid_small (goal.at.put_all-requires c).Else-not-fits,
-      counter_small (goal.at.put_all-requires c).Else-not-fits,
-      fit_sum _ _ (fits (goal.at.put_all-requires c).Else-not-fits),
-      fit_few _ _ (fits (goal.at.put_all-requires c).Else-not-fits),
-      room_enough a.pid a.counter a.sections.now a.sizes.now a.room.now (pid_small (goal.at.put_all-requires c).Else-not-fits)
-          (counter_small (goal.at.put_all-requires c).Else-not-fits)
-          (fits (goal.at.put_all-requires c).Else-not-fits) c.count-n.result c.count-n.ensures c.if-room-n.false,
+      pid_small else_not_fits,
+      counter_small else_not_fits,
+      fit_sum _ _ (fits else_not_fits),
+      fit_few _ _ (fits else_not_fits),
+      room_enough a.pid a.counter a.sections.now a.sizes.now a.room.now (pid_small else_not_fits)
+          (counter_small else_not_fits)
+          (fits else_not_fits) c.count-n.result c.count-n.ensures c.if-room-n.false,
     )
 
 pub returns : goal.returns
 returns c =
+    let else_not_fits = (goal.at.returns c).Else-not-fits in
     let counted = c.count-n in
-    all_written _ _ _ _ _ (pid_small (goal.at.returns c).Else-not-fits) (counter_small (goal.at.returns c).Else-not-fits) (fits (goal.at.returns c).Else-not-fits) counted.result counted.ensures
+    all_written _ _ _ _ _ (pid_small else_not_fits) (counter_small else_not_fits) (fits else_not_fits) counted.result counted.ensures
     c.if-room-n.false
     _ c.put_all.ensures

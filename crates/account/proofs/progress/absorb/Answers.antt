@@ -1,5 +1,5 @@
 -- `account::progress::absorb` meets its contract.
-use Rattle.std.proofs.Common.{◌≡◌, ℕ, ◌-◌, ◌/◌, ◌%◌, ◌<◌, ◌≤◌, Bool, true, List, sym, ap, ◌∙◌, rules, le-ltb, lt-ltb}
+use Rattle.std.proofs.Common.{◌≡◌, ℕ, ◌-◌, ◌/◌, ◌%◌, ◌<◌, ◌≤◌, Bool, true, List, sym, ap, ◌∙◌, le-ltb, lt-ltb}
 use Rattle.std.specs.Prelude.{if◌then◌else◌}
 use Rattle.account.specs.Entered.{Kept, kept_as, entered_all, pieces}
 use Rattle.account.specs.Heard.{State, state_as, progress_as, account_for, to_front, waits, moved, absorbed}

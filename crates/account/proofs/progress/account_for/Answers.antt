@@ -1,5 +1,5 @@
 -- `account::progress::account_for` meets its contract.
-use Rattle.std.proofs.Common.{Bool, sym, ap, ◌∙◌, rules}
+use Rattle.std.proofs.Common.{Bool, sym, ap, ◌∙◌}
 use Rattle.std.specs.Prelude.{if◌then◌else◌}
 use Rattle.account.specs.Entered.{first_pid, fresh_account}
 use Rattle.account.specs.declared.tally.Account.{Account}

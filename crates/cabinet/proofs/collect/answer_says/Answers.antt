@@ -1,5 +1,4 @@
 -- Case by case.
-use borrow.Author.Rules.{rules}
 use Rattle.cabinet.proofs.collect.answer_says.Goals as goal
 
 pub returns-in-Refused : goal.returns-in-Refused

@@ -1,5 +1,4 @@
 -- The fresh record in numbers.
-use borrow.Author.Rules.{rules}
 use Rattle.cabinet.proofs.collect.lohitunga_fresh.Goals as goal
 
 pub returns : goal.returns

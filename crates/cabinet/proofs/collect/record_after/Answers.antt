@@ -1,5 +1,4 @@
 -- Field by field.
-use borrow.Author.Rules.{rules}
 use Rattle.cabinet.proofs.collect.record_after.Goals as goal
 
 pub returns : goal.returns

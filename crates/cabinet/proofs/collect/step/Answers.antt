@@ -1,6 +1,5 @@
 -- The step beneath, with record and answer in numbers.
 use Rattle.cabinet.proofs.Outcomes.{collecting_is}
-use borrow.Author.Rules.{rules}
 use Rattle.cabinet.proofs.collect.step.Goals as goal
 
 pub returns : goal.returns

@@ -1,5 +1,4 @@
 -- The fields, or the refusal.
-use borrow.Author.Rules.{rules}
 use Rattle.cabinet.proofs.delivery_readings.lohitunga_read_cable.Goals as goal
 
 pub returns-in-Is : goal.returns-in-Is

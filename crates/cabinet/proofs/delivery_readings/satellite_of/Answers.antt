@@ -1,5 +1,4 @@
 -- Field by field.
-use borrow.Author.Rules.{rules}
 use Rattle.cabinet.proofs.delivery_readings.satellite_of.Goals as goal
 
 pub returns : goal.returns

@@ -1,6 +1,5 @@
 -- The judge's word in numbers.
 use Rattle.cabinet.specs.Judge.{judge_says}
-use borrow.Author.Rules.{rules}
 use Rattle.cabinet.proofs.judge.lohitunga_judge.Goals as goal
 
 pub returns : goal.returns

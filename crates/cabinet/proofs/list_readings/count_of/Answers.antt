@@ -1,5 +1,4 @@
 -- The number of items, or the refusal.
-use borrow.Author.Rules.{rules}
 use Rattle.cabinet.proofs.list_readings.count_of.Goals as goal
 
 pub returns-in-Items : goal.returns-in-Items

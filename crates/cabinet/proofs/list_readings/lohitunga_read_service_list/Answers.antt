@@ -1,5 +1,4 @@
 -- The item, or the refusal.
-use borrow.Author.Rules.{rules}
 use Rattle.cabinet.proofs.list_readings.lohitunga_read_service_list.Goals as goal
 
 pub returns-in-Is : goal.returns-in-Is

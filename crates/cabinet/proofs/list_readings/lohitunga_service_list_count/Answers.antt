@@ -1,5 +1,4 @@
 -- How many items, or the refusal.
-use borrow.Author.Rules.{rules}
 use Rattle.cabinet.proofs.list_readings.lohitunga_service_list_count.Goals as goal
 
 pub returns : goal.returns

@@ -1,5 +1,4 @@
 -- Zeros.
-use borrow.Author.Rules.{rules}
 use Rattle.cabinet.proofs.list_readings.no_local_time_offset.Goals as goal
 
 pub returns : goal.returns

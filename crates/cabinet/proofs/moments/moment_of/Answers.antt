@@ -1,5 +1,4 @@
 -- Case by case.
-use borrow.Author.Rules.{rules}
 use Rattle.cabinet.proofs.moments.moment_of.Goals as goal
 
 pub returns-in-Undefined : goal.returns-in-Undefined

@@ -1,5 +1,4 @@
 -- The time, or the refusal.
-use borrow.Author.Rules.{rules}
 use Rattle.cabinet.proofs.moments.time_answer.Goals as goal
 
 pub returns-in-Is : goal.returns-in-Is

@@ -1,5 +1,4 @@
 -- Case by case.
-use borrow.Author.Rules.{rules}
 use Rattle.cabinet.proofs.numbers.of_fault.Goals as goal
 
 pub returns-in-BadDigit : goal.returns-in-BadDigit

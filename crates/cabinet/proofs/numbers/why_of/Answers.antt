@@ -1,5 +1,4 @@
 -- Case by case.
-use borrow.Author.Rules.{rules}
 use Rattle.cabinet.proofs.numbers.why_of.Goals as goal
 
 pub returns-in-WrongTag : goal.returns-in-WrongTag

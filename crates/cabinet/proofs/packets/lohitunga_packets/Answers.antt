@@ -4,7 +4,6 @@ use Prim.Native.Nat.{ℕ}
 use Rattle.writer.specs.Answer.{Outcome}
 use Rattle.cabinet.specs.Packets.{packets_says}
 use Rattle.cabinet.specs.declared.packets.PacketsAnswer.{PacketsAnswer}
-use borrow.Author.Rules.{rules}
 use Rattle.cabinet.proofs.packets.lohitunga_packets.Goals as goal
 
 answers : ℕ → ℕ → PacketsAnswer

@@ -1,5 +1,4 @@
 -- Case by case.
-use borrow.Author.Rules.{rules}
 use Rattle.cabinet.proofs.rolls.answer_says.Goals as goal
 
 pub returns-in-Missing : goal.returns-in-Missing

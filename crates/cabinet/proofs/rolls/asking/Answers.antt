@@ -3,7 +3,6 @@ use borrow.Author.Tests.{eq-eqb, ne_eqb}
 use Rattle.roll.specs.Roll.{asked}
 use Rattle.cabinet.specs.Roll.{roll_in}
 use Rattle.cabinet.proofs.FlatMarks.{marks_kept_all}
-use borrow.Author.Rules.{rules}
 use Rattle.cabinet.proofs.rolls.asking.Goals as goal
 
 pub returns-then-roll-ne0 : goal.returns-then-roll-ne0

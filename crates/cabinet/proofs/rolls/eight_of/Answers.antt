@@ -1,12 +1,10 @@
 -- The invariant: the first i are there.
-use Prim.Native.Nat.{◌-◌, ◌≤◌}
-use mathlib.Core.Path.{◌≡◌, refl, ◌∙◌}
-use mathlib.Core.Bool.{false}
+use Prim.Native.Nat.{◌-◌}
+use mathlib.Core.Path.{refl, ◌∙◌}
 use native.Mathlib.Omega.{arith}
-use lib.ListN.{length, get_or, length-set}
-use Prim.Native.Nat.{◌+◌, ◌*◌}
+use lib.ListN.{length-set}
 use Rattle.cabinet.specs.Inner.Rolls.{eight_of}
-use Rattle.cabinet.proofs.TableLaws.{Filled, filled_none, filled_more, filled_all}
+use Rattle.cabinet.proofs.TableLaws.{filled_none, filled_more, filled_all}
 use Rattle.cabinet.proofs.rolls.eight_of.Goals as goal
 
 pub loop-i-init : goal.loop-i-init

@@ -1,12 +1,10 @@
 -- The invariant: the first i are there.
 use Prim.Native.Nat.{◌-◌, ◌≤◌}
-use mathlib.Core.Path.{◌≡◌, refl, ◌∙◌}
+use mathlib.Core.Path.{◌≡◌}
 use mathlib.Core.Bool.{false}
-use native.Mathlib.Omega.{arith}
-use lib.ListN.{length, get_or, length-set}
+use lib.ListN.{length, get_or}
 use Prim.Native.Nat.{◌+◌, ◌*◌}
-use Rattle.cabinet.specs.Inner.Rolls.{eight_of}
-use Rattle.cabinet.proofs.TableLaws.{Filled, filled_none, filled_more, filled_all}
+use Rattle.cabinet.proofs.TableLaws.{Filled}
 use Rattle.cabinet.proofs.rolls.eight_of.Given as goal
 
 abbrev pub invariant-loop-i : goal.invariant-loop-i

@@ -1,6 +1,5 @@
 -- Case by case.
 use Rattle.cabinet.specs.Roll.{end_says}
-use borrow.Author.Rules.{rules}
 use Rattle.cabinet.proofs.rolls.end_says.Goals as goal
 
 pub returns-in-Unknown : goal.returns-in-Unknown

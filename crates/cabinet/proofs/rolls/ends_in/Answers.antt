@@ -1,13 +1,12 @@
 -- The invariant: the first k are there.
-use Prim.Native.Nat.{◌-◌, ◌≤◌}
+use Prim.Native.Nat.{◌-◌}
 use mathlib.Core.Path.{◌≡◌, refl, ◌∙◌}
-use mathlib.Core.Logic.{⊎_elim}
 use native.Mathlib.Omega.{arith}
-use lib.ListN.{length, get_or, length-set}
+use lib.ListN.{get_or, length-set}
 use Rattle.std.specs.Prelude.{if◌then◌else◌}
 use Rattle.cabinet.specs.Numbers.{is_set}
 use Rattle.cabinet.specs.Inner.Rolls.{ends_settled}
-use Rattle.cabinet.proofs.TableLaws.{Filled, filled_none, filled_more, filled_all}
+use Rattle.cabinet.proofs.TableLaws.{filled_none, filled_more, filled_all}
 use borrow.Author.Tests.{eq-eqb, ne_eqb}
 use Rattle.cabinet.proofs.rolls.ends_in.Goals as goal
 use Rattle.cabinet.proofs.rolls.ends_in.Goals.{Joined-known-k-ne0, then-known-k-ne0, else-known-k-ne0}

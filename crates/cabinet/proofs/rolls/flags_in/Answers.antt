@@ -1,14 +1,13 @@
 -- The invariant: the first i are there.
-use Prim.Native.Nat.{◌-◌, ◌≤◌}
+use Prim.Native.Nat.{◌-◌}
 use mathlib.Core.Path.{◌≡◌, refl, ◌∙◌}
-use mathlib.Core.Logic.{⊎_elim}
 use mathlib.Core.Bool.{false}
 use native.Mathlib.Omega.{arith}
-use lib.ListN.{length, length-set}
+use lib.ListN.{length-set}
 use Rattle.std.specs.Prelude.{if◌then◌else◌}
 use Rattle.cabinet.specs.Roll.{came_in}
 use Rattle.cabinet.specs.Inner.Rolls.{flags_kept}
-use Rattle.cabinet.proofs.TableLaws.{Filled, filled_none, filled_more, filled_all}
+use Rattle.cabinet.proofs.TableLaws.{filled_none, filled_more, filled_all}
 use Rattle.cabinet.proofs.rolls.flags_in.Goals as goal
 use Rattle.cabinet.proofs.rolls.flags_in.Goals.{Joined-keep, then-keep, else-keep}
 

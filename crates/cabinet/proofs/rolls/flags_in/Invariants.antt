@@ -1,14 +1,11 @@
 -- The invariant: the first i are there.
 use Prim.Native.Nat.{◌-◌, ◌≤◌}
-use mathlib.Core.Path.{◌≡◌, refl, ◌∙◌}
-use mathlib.Core.Logic.{⊎_elim}
+use mathlib.Core.Path.{◌≡◌}
 use mathlib.Core.Bool.{false}
-use native.Mathlib.Omega.{arith}
-use lib.ListN.{length, length-set}
+use lib.ListN.{length}
 use Rattle.std.specs.Prelude.{if◌then◌else◌}
 use Rattle.cabinet.specs.Roll.{came_in}
-use Rattle.cabinet.specs.Inner.Rolls.{flags_kept}
-use Rattle.cabinet.proofs.TableLaws.{Filled, filled_none, filled_more, filled_all}
+use Rattle.cabinet.proofs.TableLaws.{Filled}
 use Rattle.cabinet.proofs.rolls.flags_in.Given as goal
 
 abbrev pub invariant-loop-i : goal.invariant-loop-i

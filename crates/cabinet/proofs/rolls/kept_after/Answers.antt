@@ -1,7 +1,6 @@
 -- As it was, or the section's.
 use Rattle.roll.specs.Roll.{begun_with, continued}
 use Rattle.cabinet.specs.Roll.{roll_in}
-use borrow.Author.Rules.{rules}
 use Rattle.cabinet.proofs.rolls.kept_after.Goals as goal
 
 pub returns-then-keep : goal.returns-then-keep

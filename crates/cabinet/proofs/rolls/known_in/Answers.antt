@@ -1,15 +1,13 @@
 -- The invariant: the first k are there.
-use Prim.Native.Nat.{◌-◌, ◌≤◌}
+use Prim.Native.Nat.{◌-◌}
 use mathlib.Core.Path.{◌≡◌, refl, ap, ◌∙◌}
-use mathlib.Core.Logic.{⊎_elim}
 use mathlib.Core.Bool.{false}
 use native.Mathlib.Omega.{arith}
-use lib.ListN.{length, get_or, length-set}
+use lib.ListN.{get_or, length-set}
 use Rattle.std.specs.Prelude.{if◌then◌else◌}
 use Rattle.cabinet.specs.Numbers.{bit, is_set}
 use Rattle.cabinet.specs.Inner.Rolls.{known_kept}
-use Rattle.cabinet.proofs.TableLaws.{Filled, filled_none, filled_more, filled_all}
-use borrow.Author.Rules.{rules}
+use Rattle.cabinet.proofs.TableLaws.{filled_none, filled_more, filled_all}
 use Rattle.cabinet.proofs.rolls.known_in.Goals as goal
 use Rattle.cabinet.proofs.rolls.known_in.Goals.{Joined-keep, then-keep, else-keep}
 
@@ -26,7 +24,8 @@ loop-k-preserved c =
     let l = c.loop-k in (
       omega arith,
       length-set l.numbers l.k _ ∙ l.invariant.1,
-      filled_more _ l.numbers l.k _ (omega arith) (c.of_flag.ensures ∙ ap bit (is (goal.at.loop-k-preserved c).Joined-keep)) l.invariant.2,
+      filled_more _ l.numbers l.k _ (omega arith)
+          (c.of_flag.ensures ∙ ap bit (is (goal.at.loop-k-preserved c).Joined-keep)) l.invariant.2,
     )
 
 pub returns : goal.returns

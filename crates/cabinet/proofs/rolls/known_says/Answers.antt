@@ -1,6 +1,5 @@
 -- Case by case.
 use Rattle.cabinet.specs.Roll.{known_says}
-use borrow.Author.Rules.{rules}
 use Rattle.cabinet.proofs.rolls.known_says.Goals as goal
 
 pub returns-in-Unknown : goal.returns-in-Unknown

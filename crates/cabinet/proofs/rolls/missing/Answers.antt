@@ -12,7 +12,6 @@ use Rattle.roll.proofs.Smallest.{smallest-start, smallest-end}
 use Rattle.roll.proofs.Turns.{counted, gap_missing, none_missing, scan_answers}
 use Rattle.cabinet.specs.Inner.Rolls.{marks_of}
 use Rattle.cabinet.proofs.FlatMarks.{segment_of_lem}
-use borrow.Author.Rules.{rules}
 use Rattle.cabinet.proofs.rolls.missing.Goals as goal
 use Rattle.cabinet.proofs.rolls.missing.Goals.{After-gap-first}
 
@@ -59,12 +58,17 @@ overflow_add-result c = let within = (found (goal.at.overflow_add-result c).Afte
 
 pub returns-then-first-lt8 : goal.returns-then-first-lt8
 returns-then-first-lt8 c =
-    sym (found (goal.at.returns-then-first-lt8 c).After-gap-first c.if-first-lt8.true).1 ∙ c.loop-k.invariant.1 ∙ scan_answers (schedule (goal.at.returns-then-first-lt8 c).After-gap-first) (marks_of (flags (goal.at.returns-then-first-lt8 c).After-gap-first) (known (goal.at.returns-then-first-lt8 c).After-gap-first) (end (goal.at.returns-then-first-lt8 c).After-gap-first)) (last (goal.at.returns-then-first-lt8 c).After-gap-first)
+    let after_gap_first = (goal.at.returns-then-first-lt8 c).After-gap-first in
+    sym (found after_gap_first c.if-first-lt8.true).1 ∙ c.loop-k.invariant.1 ∙ scan_answers
+    (schedule after_gap_first) (marks_of (flags after_gap_first) (known after_gap_first) (end after_gap_first))
+    (last after_gap_first)
 
 pub loop-k-preserved : goal.loop-k-preserved
 loop-k-preserved c =
-    let marks = marks_of (flags (goal.at.loop-k-preserved c).After-gap-first) (known (goal.at.loop-k-preserved c).After-gap-first) (end (goal.at.loop-k-preserved c).After-gap-first) in
-    let passed = none_missing (schedule (goal.at.loop-k-preserved c).After-gap-first) marks (last (goal.at.loop-k-preserved c).After-gap-first) (k (goal.at.loop-k-preserved c).After-gap-first) (first (goal.at.loop-k-preserved c).After-gap-first) (reached (goal.at.loop-k-preserved c).After-gap-first) (gap_is (goal.at.loop-k-preserved c).After-gap-first) (omega arith) in
+    let after_gap_first = (goal.at.loop-k-preserved c).After-gap-first in
+    let marks = marks_of (flags after_gap_first) (known after_gap_first) (end after_gap_first) in
+    let passed = none_missing (schedule after_gap_first) marks (last after_gap_first) (k after_gap_first)
+    (first after_gap_first) (reached after_gap_first) (gap_is after_gap_first) (omega arith) in
     (omega arith, sym passed ∙ c.loop-k.invariant.1)
 
 pub returns : goal.returns

@@ -1,18 +1,10 @@
 -- The invariant: the smallest missing from segment `k` on is the smallest of all. As in `roll::segments::missing`, with each
 -- segment made of the flat numbers.
-use Prim.Native.Nat.{ℕ, ◌+◌, ◌-◌, ◌*◌, ◌<◌, ◌≤◌}
-use mathlib.Core.Path.{◌≡◌, sym, ap, ◌∙◌}
-use mathlib.Core.Bool.{Bool}
-use mathlib.Core.List.{List}
-use native.Mathlib.Omega.{arith}
-use Rattle.roll.specs.Answer.{missing}
-use Rattle.roll.specs.Marks.{segment_at, smallest}
-use Rattle.roll.specs.Gaps.{gap_of}
-use Rattle.roll.proofs.Smallest.{smallest-start, smallest-end}
-use Rattle.roll.proofs.Turns.{counted, gap_missing, none_missing, scan_answers}
+use Prim.Native.Nat.{◌+◌, ◌-◌, ◌*◌, ◌≤◌}
+use mathlib.Core.Path.{◌≡◌}
+use Rattle.roll.specs.Marks.{smallest}
+use Rattle.roll.proofs.Turns.{counted}
 use Rattle.cabinet.specs.Inner.Rolls.{marks_of}
-use Rattle.cabinet.proofs.FlatMarks.{segment_of_lem}
-use borrow.Author.Rules.{rules}
 use Rattle.cabinet.proofs.rolls.missing.Given as goal
 
 abbrev pub invariant-loop-k : goal.invariant-loop-k

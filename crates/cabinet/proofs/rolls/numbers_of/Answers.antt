@@ -1,13 +1,10 @@
 -- The invariant: the first i are there.
-use Prim.Native.Nat.{◌-◌, ◌≤◌}
-use mathlib.Core.Path.{◌≡◌, refl, ◌∙◌}
-use mathlib.Core.Bool.{false}
+use Prim.Native.Nat.{◌-◌}
+use mathlib.Core.Path.{refl, ◌∙◌}
 use native.Mathlib.Omega.{arith}
-use lib.ListN.{length, get_or, length-set}
-use Rattle.cabinet.specs.Numbers.{bit}
+use lib.ListN.{length-set}
 use Rattle.cabinet.specs.Inner.Rolls.{numbersOf}
-use Rattle.cabinet.proofs.TableLaws.{Filled, filled_none, filled_more, filled_all}
-use borrow.Author.Rules.{rules}
+use Rattle.cabinet.proofs.TableLaws.{filled_none, filled_more, filled_all}
 use Rattle.cabinet.proofs.rolls.numbers_of.Goals as goal
 
 pub loop-i-init : goal.loop-i-init

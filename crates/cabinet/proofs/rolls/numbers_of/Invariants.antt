@@ -1,13 +1,10 @@
 -- The invariant: the first i are there.
 use Prim.Native.Nat.{◌-◌, ◌≤◌}
-use mathlib.Core.Path.{◌≡◌, refl, ◌∙◌}
+use mathlib.Core.Path.{◌≡◌}
 use mathlib.Core.Bool.{false}
-use native.Mathlib.Omega.{arith}
-use lib.ListN.{length, get_or, length-set}
+use lib.ListN.{length, get_or}
 use Rattle.cabinet.specs.Numbers.{bit}
-use Rattle.cabinet.specs.Inner.Rolls.{numbersOf}
-use Rattle.cabinet.proofs.TableLaws.{Filled, filled_none, filled_more, filled_all}
-use borrow.Author.Rules.{rules}
+use Rattle.cabinet.proofs.TableLaws.{Filled}
 use Rattle.cabinet.proofs.rolls.numbers_of.Given as goal
 
 abbrev pub invariant-loop-i : goal.invariant-loop-i

@@ -1,5 +1,4 @@
 -- The end where it is known, and the eight.
-use borrow.Author.Rules.{rules}
 use Rattle.cabinet.proofs.rolls.segment_in.Goals as goal
 
 pub returns : goal.returns

@@ -5,7 +5,6 @@ use Rattle.roll.proofs.Outcomes.{course_on}
 use Rattle.cabinet.specs.Numbers.{is_set}
 use Rattle.cabinet.specs.Roll.{sub_table_in, holds}
 use Rattle.cabinet.proofs.RollTaken.{refused_says, answering_says}
-use borrow.Author.Rules.{rules}
 use Rattle.cabinet.proofs.rolls.take.Goals as goal
 use Rattle.cabinet.proofs.rolls.take.Goals.{After-course_of-course}
 
@@ -25,10 +24,12 @@ pub returns-in-Refused : goal.returns-in-Refused
 returns-in-Refused c =
     let args = c.args in
     ap (holds args.roll) c.answer_says.ensures
-    ∙ refused_says args.roll args.section.now (does (goal.at.returns-in-Refused c).After-course_of-course ∙ ap told_course c.in-Refused.is)
+    ∙ refused_says args.roll args.section.now
+    (does (goal.at.returns-in-Refused c).After-course_of-course ∙ ap told_course c.in-Refused.is)
 
 pub returns-in-Taken : goal.returns-in-Taken
 returns-in-Taken c =
     let args = c.args in
     c.taken.ensures
-    ∙ answering_says args.roll args.section.now _ (does (goal.at.returns-in-Taken c).After-course_of-course ∙ ap told_course c.in-Taken.is)
+    ∙ answering_says args.roll args.section.now _
+    (does (goal.at.returns-in-Taken c).After-course_of-course ∙ ap told_course c.in-Taken.is)

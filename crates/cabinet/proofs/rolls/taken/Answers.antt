@@ -1,7 +1,6 @@
 -- Step by step, as the law has it.
 use native.Mathlib.Omega.{arith}
 use Rattle.cabinet.proofs.RollTaken.{taken_says}
-use borrow.Author.Rules.{rules}
 use Rattle.cabinet.proofs.rolls.taken.Goals as goal
 
 pub returns : goal.returns

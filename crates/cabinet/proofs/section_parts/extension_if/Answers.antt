@@ -1,6 +1,5 @@
 -- The extension, where the table has that row.
 use mathlib.Core.Path.{◌∙◌}
-use borrow.Author.Rules.{rules}
 use Rattle.cabinet.proofs.section_parts.extension_if.Goals as goal
 
 pub returns : goal.returns

@@ -1,7 +1,6 @@
 -- Of a section that is refused nothing is told.
 use mathlib.Core.Path.{◌∙◌}
 use Rattle.cabinet.specs.Parts.{head_if}
-use borrow.Author.Rules.{rules}
 use Rattle.cabinet.proofs.section_parts.head_if.Goals as goal
 
 pub returns-then-accepted : goal.returns-then-accepted

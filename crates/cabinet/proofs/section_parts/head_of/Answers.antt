@@ -1,7 +1,6 @@
 -- By the row of the table_id.
 use mathlib.Core.Path.{sym, ◌∙◌}
 use Rattle.cabinet.proofs.HeadParts.{head_numbered, head_bare}
-use borrow.Author.Rules.{rules}
 use Rattle.cabinet.proofs.section_parts.head_of.Goals as goal
 
 pub returns-then-is_numbered : goal.returns-then-is_numbered

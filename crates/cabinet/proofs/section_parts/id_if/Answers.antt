@@ -1,6 +1,5 @@
 -- The id, where the table has that row.
 use mathlib.Core.Path.{◌∙◌}
-use borrow.Author.Rules.{rules}
 use Rattle.cabinet.proofs.section_parts.id_if.Goals as goal
 
 pub returns : goal.returns

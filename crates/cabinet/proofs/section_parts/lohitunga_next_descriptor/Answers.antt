@@ -1,5 +1,4 @@
 -- A descriptor, or none, as the walk tells it.
-use borrow.Author.Rules.{rules}
 use Rattle.cabinet.proofs.section_parts.lohitunga_next_descriptor.Goals as goal
 
 pub returns : goal.returns

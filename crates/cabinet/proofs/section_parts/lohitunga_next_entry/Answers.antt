@@ -1,6 +1,5 @@
 -- An entry, or none, as the walk tells it.
 use mathlib.Core.Path.{◌∙◌}
-use borrow.Author.Rules.{rules}
 use Rattle.cabinet.proofs.section_parts.lohitunga_next_entry.Goals as goal
 
 pub returns : goal.returns

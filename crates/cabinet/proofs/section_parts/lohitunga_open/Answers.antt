@@ -1,6 +1,5 @@
 -- The judge's word, and the parts, in numbers.
 use Rattle.cabinet.specs.Parts.{open_says}
-use borrow.Author.Rules.{rules}
 use Rattle.cabinet.proofs.section_parts.lohitunga_open.Goals as goal
 
 pub returns : goal.returns

@@ -1,5 +1,4 @@
 -- The time that the bytes are, as an answer.
-use borrow.Author.Rules.{rules}
 use Rattle.cabinet.proofs.section_parts.lohitunga_time_from.Goals as goal
 
 pub returns : goal.returns

@@ -1,5 +1,4 @@
 -- Field by field.
-use borrow.Author.Rules.{rules}
 use Rattle.cabinet.proofs.section_parts.numbered_head.Goals as goal
 
 pub returns : goal.returns

@@ -1,7 +1,6 @@
 -- The transport_stream_id of an entry of NIT or BAT.
 use mathlib.Core.Path.{sym, ◌∙◌}
 use Rattle.cabinet.proofs.HeadParts.{stream_nit, stream_other}
-use borrow.Author.Rules.{rules}
 use Rattle.cabinet.proofs.section_parts.stream_in.Goals as goal
 
 pub returns-then-row-eq-NIT : goal.returns-then-row-eq-NIT

@@ -2,7 +2,6 @@
 use mathlib.Core.Path.{ap, sym, ◌∙◌}
 use Rattle.head.specs.declared.SubTable.{SubTable}
 use Rattle.cabinet.proofs.HeadParts.{transport_sdt, transport_other}
-use borrow.Author.Rules.{rules}
 use Rattle.cabinet.proofs.section_parts.transport_in.Goals as goal
 
 pub returns-then-row_of-eq-SDT : goal.returns-then-row_of-eq-SDT

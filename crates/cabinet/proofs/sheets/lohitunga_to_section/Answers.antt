@@ -3,7 +3,6 @@ use mathlib.Core.Path.{ap, ap₂, ◌∙◌}
 use Prim.Native.Nat.{ℕ}
 use Rattle.cabinet.specs.Sheets.{section_says}
 use Rattle.cabinet.specs.declared.sheets.SectionAnswer.{SectionAnswer}
-use borrow.Author.Rules.{rules}
 use Rattle.cabinet.proofs.sheets.lohitunga_to_section.Goals as goal
 
 told : ℕ → ℕ → SectionAnswer

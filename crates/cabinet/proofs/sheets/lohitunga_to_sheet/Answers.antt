@@ -1,7 +1,6 @@
 -- `cabinet::sheets::lohitunga_to_sheet` meets its contract.
 use mathlib.Core.Path.{ap, ◌∙◌}
 use Rattle.cabinet.specs.Sheets.{sheet_says}
-use borrow.Author.Rules.{rules}
 use Rattle.cabinet.proofs.sheets.lohitunga_to_sheet.Goals as goal
 
 pub returns : goal.returns

@@ -3,7 +3,6 @@ use mathlib.Core.Path.{sym, ap}
 use Rattle.turn.specs.Answers.{toldSheet}
 use Rattle.cabinet.specs.Sheets.{sheet_says}
 use Rattle.cabinet.proofs.SheetNumbers.{refused_numbers}
-use borrow.Author.Rules.{rules}
 use Rattle.cabinet.proofs.sheets.sheet_told.Goals as goal
 
 pub returns-in-Wrote : goal.returns-in-Wrote

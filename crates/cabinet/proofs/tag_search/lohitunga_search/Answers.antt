@@ -1,5 +1,4 @@
 -- A hit, none, or a refusal, as the search tells it.
-use borrow.Author.Rules.{rules}
 use Rattle.cabinet.proofs.tag_search.lohitunga_search.Goals as goal
 
 pub returns-in-Hit : goal.returns-in-Hit

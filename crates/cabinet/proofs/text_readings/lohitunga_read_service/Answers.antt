@@ -1,5 +1,4 @@
 -- The type and both names, or the refusal.
-use borrow.Author.Rules.{rules}
 use Rattle.cabinet.proofs.text_readings.lohitunga_read_service.Goals as goal
 
 pub returns-in-Is : goal.returns-in-Is

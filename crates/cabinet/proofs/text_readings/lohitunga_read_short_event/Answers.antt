@@ -1,5 +1,4 @@
 -- The language, the name and the text, or the refusal.
-use borrow.Author.Rules.{rules}
 use Rattle.cabinet.proofs.text_readings.lohitunga_read_short_event.Goals as goal
 
 pub returns-in-Is : goal.returns-in-Is

@@ -1,7 +1,6 @@
 -- The stuffing bytes, or the refusal.
 use mathlib.Core.Path.{ap, ◌∙◌}
 use Rattle.cabinet.specs.Texts.{text_answer}
-use borrow.Author.Rules.{rules}
 use Rattle.cabinet.proofs.text_readings.lohitunga_read_stuffing.Goals as goal
 
 pub returns : goal.returns

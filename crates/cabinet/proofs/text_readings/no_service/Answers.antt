@@ -1,5 +1,4 @@
 -- Zeros.
-use borrow.Author.Rules.{rules}
 use Rattle.cabinet.proofs.text_readings.no_service.Goals as goal
 
 pub returns : goal.returns

@@ -1,5 +1,4 @@
 -- Zeros.
-use borrow.Author.Rules.{rules}
 use Rattle.cabinet.proofs.text_readings.no_short_event.Goals as goal
 
 pub returns : goal.returns

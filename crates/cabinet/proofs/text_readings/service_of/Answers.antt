@@ -1,5 +1,4 @@
 -- Field by field.
-use borrow.Author.Rules.{rules}
 use Rattle.cabinet.proofs.text_readings.service_of.Goals as goal
 
 pub returns : goal.returns

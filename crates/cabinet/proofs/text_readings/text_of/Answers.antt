@@ -1,5 +1,4 @@
 -- The bytes, or the refusal.
-use borrow.Author.Rules.{rules}
 use Rattle.cabinet.proofs.text_readings.text_of.Goals as goal
 
 pub returns-in-Is : goal.returns-in-Is

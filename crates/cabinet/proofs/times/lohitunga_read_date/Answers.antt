@@ -1,5 +1,4 @@
 -- The date, or the refusal.
-use borrow.Author.Rules.{rules}
 use Rattle.cabinet.proofs.times.lohitunga_read_date.Goals as goal
 
 pub returns-in-Is : goal.returns-in-Is

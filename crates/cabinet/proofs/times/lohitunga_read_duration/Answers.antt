@@ -1,5 +1,4 @@
 -- The duration that is read, as an answer.
-use borrow.Author.Rules.{rules}
 use Rattle.cabinet.proofs.times.lohitunga_read_duration.Goals as goal
 
 pub returns : goal.returns

@@ -1,5 +1,4 @@
 -- A descriptor, the end, or 9, as the walk tells it, and where it then stands.
-use borrow.Author.Rules.{rules}
 use Rattle.cabinet.proofs.walk.lohitunga_walk.Goals as goal
 
 pub returns-in-Descriptor : goal.returns-in-Descriptor

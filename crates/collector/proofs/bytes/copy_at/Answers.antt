@@ -1,4 +1,4 @@
-use Rattle.std.proofs.Common.{◌∙◌, rules}
+use Rattle.std.proofs.Common.{◌∙◌}
 use Rattle.copy.proofs.Copies.{copied_yes}
 use Rattle.collector.proofs.bytes.copy_at.Goals as goal
 

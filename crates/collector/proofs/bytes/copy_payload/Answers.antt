@@ -1,5 +1,5 @@
 -- `collector::bytes::copy_payload` meets its contract.
-use Rattle.std.proofs.Common.{ℕ, drop, sym, ap, ◌∙◌, rules}
+use Rattle.std.proofs.Common.{ℕ, drop, sym, ap, ◌∙◌}
 use lib.Seq.{paste}
 use Rattle.collector.proofs.bytes.copy_payload.Goals as goal
 

@@ -1,5 +1,5 @@
 -- `collector::lent::counter_past` meets its contract.
-use Rattle.std.proofs.Common.{sym, ap, rules}
+use Rattle.std.proofs.Common.{sym, ap}
 use Rattle.collector.specs.Refusals.{counter_past}
 use Rattle.collector.proofs.lent.counter_past.Goals as goal
 

@@ -1,9 +1,9 @@
 -- `collector::lent::held_unfit` meets its contract: each test decides one part of `held_unfit`.
-use Rattle.std.proofs.Common.{ℕ, ◌<◌, sym, ap, arith, rules, lt-ltb, eq-eqb, ne_eqb, le-leb}
+use Rattle.std.proofs.Common.{ℕ, ◌<◌, sym, ap, arith, lt-ltb, eq-eqb, ne_eqb, le-leb}
 use borrow.Author.Tests.{lt-leb}
 use Rattle.collector.specs.Refusals.{held_unfit}
 use Rattle.collector.proofs.lent.held_unfit.Goals as goal
-use Rattle.collector.proofs.lent.held_unfit.Goals.{After-total_of-total, Else-hold, Else-n-lt3, Else-none}
+use Rattle.collector.proofs.lent.held_unfit.Goals.{Else-hold, Else-n-lt3, Else-none}
 
 -- where something is in hand, and there is a counter
 module _ (e : Else-none) where
@@ -26,7 +26,12 @@ returns-then-hold c =
 
 pub returns-then-n-lt3 : goal.returns-then-n-lt3
 returns-then-n-lt3 c =
-    simp (lt-ltb _ _ (some (goal.at.returns-then-n-lt3 c).Else-none), c.if-none.false, ne_eqb _ _ c.if-hold.false, lt-leb _ _ c.if-n-lt3.true)
+    simp (
+      lt-ltb _ _ (some (goal.at.returns-then-n-lt3 c).Else-none),
+      c.if-none.false,
+      ne_eqb _ _ c.if-hold.false,
+      lt-leb _ _ c.if-n-lt3.true,
+    )
 
 pub returns-then-total-n : goal.returns-then-total-n
 returns-then-total-n c =

@@ -22,12 +22,15 @@ returns-then-rec-gt8191 c = simp (lt-ltb _ _ c.if-rec-gt8191.true)
 
 pub returns-then-counter_past : goal.returns-then-counter_past
 unfolding cannot_stand
-returns-then-counter_past c = simp (a-pid (goal.at.returns-then-counter_past c).After-counter_past, counter_is (goal.at.returns-then-counter_past c).After-counter_past true c.if-counter_past.true)
+returns-then-counter_past c =
+    let after_counter_past = (goal.at.returns-then-counter_past c).After-counter_past in
+    simp (a-pid after_counter_past, counter_is after_counter_past true c.if-counter_past.true)
 
 pub returns-then-rec-gt10 : goal.returns-then-rec-gt10
 unfolding cannot_stand
 returns-then-rec-gt10 c =
-    simp (a-pid (goal.at.returns-then-rec-gt10 c).After-counter_past, counter_is (goal.at.returns-then-rec-gt10 c).After-counter_past false c.if-counter_past.false, lt-ltb _ _ c.if-rec-gt10.true)
+    let after_counter_past = (goal.at.returns-then-rec-gt10 c).After-counter_past in
+    simp (a-pid after_counter_past, counter_is after_counter_past false c.if-counter_past.false, lt-ltb _ _ c.if-rec-gt10.true)
 
 pub returns-then-n-gt4095 : goal.returns-then-n-gt4095
 unfolding cannot_stand

@@ -1,5 +1,5 @@
 -- `collector::payload::carry` meets its contract.
-use Rattle.std.proofs.Common.{◌≡◌, ℕ, ◌+◌, ◌≤◌, not, List, length, take, drop, arith, length-append, length-drop, length-take, length-take-le, rules}
+use Rattle.std.proofs.Common.{◌≡◌, ℕ, ◌+◌, ◌≤◌, not, List, length, take, drop, arith, length-append, length-drop, length-take, length-take-le}
 use Rattle.collector.specs.Judged.{by_judge}
 use Rattle.collector.specs.declared.payload.Front.{Front}
 use Rattle.collector.proofs.PayloadLaws.{kept_gone, kept_back, gone_bytes, small_of, front_in, carry-start, carry_on}

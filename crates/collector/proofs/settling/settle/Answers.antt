@@ -1,5 +1,5 @@
 -- `collector::settling::settle` meets its contract.
-use Rattle.std.proofs.Common.{◌≡◌, ℕ, ◌+◌, ◌-◌, Bool, true, false, List, take, drop, sym, refl, ap, ◌∙◌, arith, length-drop, rules}
+use Rattle.std.proofs.Common.{◌≡◌, ℕ, ◌+◌, ◌-◌, Bool, true, false, List, take, drop, sym, refl, ap, ◌∙◌, arith, length-drop}
 use mathlib.Core.Bool.{false≢true}
 use Rattle.std.specs.Prelude.{if◌then◌else◌}
 use Rattle.verdict.specs.Verdict.{Said, accepted, refused, is_accepted, number_of, told}

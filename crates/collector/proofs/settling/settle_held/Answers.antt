@@ -1,6 +1,6 @@
 -- `collector::settling::settle_held` meets its contract: the section stands in the hold while it is judged, and what stood
 -- behind it is put back.
-use Rattle.std.proofs.Common.{◌≡◌, ℕ, ◌+◌, ◌-◌, ◌≤◌, leb, List, ◌++◌, length, take, drop, replicate, sym, ap, ◌∙◌, arith, length-drop, length-take, length-take-le, take_all, take_at, rules, leb-true}
+use Rattle.std.proofs.Common.{◌≡◌, ℕ, ◌+◌, ◌-◌, ◌≤◌, leb, List, ◌++◌, length, take, drop, replicate, sym, ap, ◌∙◌, arith, length-drop, length-take, length-take-le, take_all, take_at, leb-true}
 use Rattle.wire.proofs.IfLaws.{if-case}
 use lib.Seq.{paste}
 use Rattle.verdict.specs.Verdict.{number_of}
@@ -8,7 +8,7 @@ use Rattle.section.specs.Reading.{judged}
 use Rattle.copy.proofs.LaidLaws.{pasted_front, window_back}
 use Rattle.collector.specs.Inner.Settling.{handedOut, laid_of}
 use Rattle.collector.proofs.settling.settle_held.Goals as goal
-use Rattle.collector.proofs.settling.settle_held.Goals.{After-copy_behind, After-laid_of-laid}
+use Rattle.collector.proofs.settling.settle_held.Goals.{After-laid_of-laid}
 
 -- no more is laid than is left and has room, and no less than is asked for
 within : (k left room : ℕ) → k ≤ left → k ≤ room

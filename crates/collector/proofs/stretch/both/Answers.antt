@@ -1,5 +1,5 @@
 -- `collector::stretch::both` meets its contract.
-use Rattle.std.proofs.Common.{arith, rules}
+use Rattle.std.proofs.Common.{arith}
 use Rattle.collector.proofs.stretch.both.Goals as goal
 
 pub overflow_add-result-6 : goal.overflow_add-result-6

@@ -1,5 +1,5 @@
 -- `collector::stretch::byte_of` meets its contract.
-use Rattle.std.proofs.Common.{sym, arith, rules}
+use Rattle.std.proofs.Common.{sym, arith}
 use Rattle.collector.proofs.HoldThenPacket.{seam_left, seam_right}
 use Rattle.collector.proofs.stretch.byte_of.Goals as goal
 

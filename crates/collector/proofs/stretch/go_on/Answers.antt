@@ -1,5 +1,5 @@
 -- `collector::stretch::go_on` meets its contract: each way out is a law of `StretchInHand`.
-use Rattle.std.proofs.Common.{ℕ, ◌+◌, ◌<◌, ◌≤◌, List, length, take, ap, arith, rules}
+use Rattle.std.proofs.Common.{ℕ, ◌+◌, ◌<◌, ◌≤◌, List, length, take, ap, arith}
 use Rattle.wire.specs.Sections.{Unfinished}
 use Rattle.collector.specs.declared.stretch.Gain.{Gain}
 use Rattle.collector.proofs.StretchInHand.{Given, end_none, going_in, end_kept, end_dropped, end_over, whole_in, end_whole}

@@ -1,5 +1,5 @@
 -- `collector::stretch::looked` meets its contract.
-use Rattle.std.proofs.Common.{◌≡◌, ℕ, ◌+◌, ◌<◌, ◌≤◌, Bool, true, false, ltb, List, length, get_or, sym, refl, ◌∙◌, subst, inl, inr, arith, rules, ltb-false, ltb-true}
+use Rattle.std.proofs.Common.{◌≡◌, ℕ, ◌+◌, ◌<◌, ◌≤◌, Bool, true, false, ltb, List, length, get_or, sym, refl, ◌∙◌, subst, inl, inr, arith, ltb-false, ltb-true}
 use Rattle.std.specs.Prelude.{if◌then◌else◌}
 use Rattle.wire.specs.Bytes.{len12}
 use Rattle.wire.specs.Sections.{total_of}
@@ -40,14 +40,16 @@ returns-then-size-lt3 c = inl (omega (arith, long (goal.at.returns-then-size-lt3
 
 pub returns-then-n-gt2 : goal.returns-then-n-gt2
 returns-then-n-gt2 c =
-    subst (LookSays (bytes (goal.at.returns-then-n-gt2 c).Start)) (sym c.sized.ensures)
-    (sized-says (bytes (goal.at.returns-then-n-gt2 c).Start) _ _ (omega arith)
-    (c.total_of.ensures ∙ (λ i. 3 + len12 (held (goal.at.returns-then-n-gt2 c).Start 1 (omega arith) i) (held (goal.at.returns-then-n-gt2 c).Start 2 (omega arith) i)))
-    (sym (long (goal.at.returns-then-n-gt2 c).Start)))
+    let start = (goal.at.returns-then-n-gt2 c).Start in
+    subst (LookSays (bytes start)) (sym c.sized.ensures)
+    (sized-says (bytes start) _ _ (omega arith)
+    (c.total_of.ensures ∙ (λ i. 3 + len12 (held start 1 (omega arith) i) (held start 2 (omega arith) i)))
+    (sym (long start)))
 
 pub returns : goal.returns
 returns c =
-    subst (LookSays (bytes (goal.at.returns c).Start)) (sym c.sized-2.ensures)
-    (sized-says (bytes (goal.at.returns c).Start) _ _ (omega arith)
+    let start = (goal.at.returns c).Start in
+    subst (LookSays (bytes start)) (sym c.sized-2.ensures)
+    (sized-says (bytes start) _ _ (omega arith)
     (c.total_of-2.ensures ∙ (λ i. 3 + len12 (c.byte_of-high.ensures i) (c.byte_of-low.ensures i)))
-    (sym (long (goal.at.returns c).Start)))
+    (sym (long start)))

@@ -1,7 +1,7 @@
 -- `collector::stretch::sections` meets its contract: the invariant is `Reached`, and each way out of a turn is a law of
 -- `SectionLoop`.
-use Rattle.std.proofs.Common.{ℕ, ◌-◌, ◌≤◌, length, arith, rules}
-use Rattle.collector.proofs.SectionLoop.{Reached, none_yet, end_all, end_filler, end_going, end_over, whole_in, again}
+use Rattle.std.proofs.Common.{ℕ, ◌-◌, ◌≤◌, length, arith}
+use Rattle.collector.proofs.SectionLoop.{none_yet, end_all, end_filler, end_going, end_over, whole_in, again}
 use Rattle.collector.proofs.stretch.sections.Goals as goal
 use Rattle.collector.proofs.stretch.sections.Goals.{In-Whole}
 
@@ -42,16 +42,18 @@ overflow_add-at c =
 
 pub settle-number-requires : goal.settle-number-requires
 settle-number-requires c =
+    let in_whole = (goal.at.settle-number-requires c).In-Whole in
     let x = c.loop-i.invariant in
-    (omega (arith, there (goal.at.settle-number-requires c).In-Whole), omega (arith, there (goal.at.settle-number-requires c).In-Whole, x.fits, x.long))
+    (omega (arith, there in_whole), omega (arith, there in_whole, x.fits, x.long))
 
 pub with_section-g-requires : goal.with_section-g-requires
 with_section-g-requires c =
+    let in_whole = (goal.at.with_section-g-requires c).In-Whole in
     let x = c.loop-i.invariant in
     record {
       sections = omega (arith, x.few, x.passed, x.inside_packet, c.requires);
-      bytes = omega (arith, there (goal.at.with_section-g-requires c).In-Whole, x.passed, x.inside_packet, c.requires);
-      rejected = omega (arith, there (goal.at.with_section-g-requires c).In-Whole, x.passed, x.inside_packet, c.requires);
+      bytes = omega (arith, there in_whole, x.passed, x.inside_packet, c.requires);
+      rejected = omega (arith, there in_whole, x.passed, x.inside_packet, c.requires);
     }
 
 pub overflow_add-i : goal.overflow_add-i

@@ -1,7 +1,7 @@
 -- `collector::stretch::sections` meets its contract: the invariant is `Reached`, and each way out of a turn is a law of
 -- `SectionLoop`.
-use Rattle.std.proofs.Common.{ℕ, ◌-◌, ◌≤◌, length, arith, rules}
-use Rattle.collector.proofs.SectionLoop.{Reached, none_yet, end_all, end_filler, end_going, end_over, whole_in, again}
+use Rattle.std.proofs.Common.{◌-◌, length}
+use Rattle.collector.proofs.SectionLoop.{Reached}
 use Rattle.collector.proofs.stretch.sections.Given as goal
 
 abbrev pub invariant-loop-i : goal.invariant-loop-i

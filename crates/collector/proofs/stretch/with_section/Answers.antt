@@ -1,5 +1,5 @@
 -- `collector::stretch::with_section` meets its contract.
-use Rattle.std.proofs.Common.{ℕ, ◌+◌, Bool, sym, ap, rules, eq-eqb, ne_eqb}
+use Rattle.std.proofs.Common.{ℕ, ◌+◌, Bool, sym, ap, eq-eqb, ne_eqb}
 use Rattle.std.specs.Prelude.{if◌then◌else◌}
 use Rattle.collector.specs.Inner.Stretch.{gain_of, gain_with}
 use Rattle.collector.specs.declared.stretch.Gain.{Gain}

@@ -1,5 +1,5 @@
 -- `collector::taking::carried` meets its contract.
-use Rattle.std.proofs.Common.{◌≡◌, Bool, take, drop, sym, ap, ◌∙◌, rules}
+use Rattle.std.proofs.Common.{◌≡◌, Bool, take, drop, sym, ap, ◌∙◌}
 use Rattle.std.specs.Prelude.{if◌then◌else◌}
 use Rattle.collector.specs.Rules.{holding, joined, plain, payload}
 use Rattle.collector.specs.Judged.{by_judge}
@@ -48,7 +48,8 @@ returns-then-is_repeat c =
 
 pub returns : goal.returns
 returns c =
+    let start = (goal.at.returns c).Start in
     let next = c.is_joined-next.ensures
     ∙ ap (λ (m : Bool). joins (before_of c.args.rec).last m c.args.counter) c.is_set-spliced.ensures in
-    c.taken.ensures ∙ ap (outcome (goal.at.returns c).Start) next
-    ∙ ap (ruled (goal.at.returns c).Start) (sym c.if-is_repeat.false ∙ again-is (goal.at.returns c).After-is_repeat)
+    c.taken.ensures ∙ ap (outcome start) next
+    ∙ ap (ruled start) (sym c.if-is_repeat.false ∙ again-is (goal.at.returns c).After-is_repeat)

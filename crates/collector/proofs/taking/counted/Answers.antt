@@ -1,5 +1,5 @@
 -- `collector::taking::counted` meets its contract.
-use Rattle.std.proofs.Common.{◌≡◌, ℕ, ◌+◌, ◌%◌, ◌^◌, refl, ap, ◌∙◌, rules}
+use Rattle.std.proofs.Common.{◌≡◌, ℕ, ◌+◌, ◌%◌, ◌^◌, refl, ap, ◌∙◌}
 use Rattle.collector.specs.Rules.{by_kind, done}
 use Rattle.collector.specs.Collected.{bytes_counted}
 use Rattle.collector.proofs.Counters.{same_record}

@@ -1,5 +1,5 @@
 -- `collector::taking::is_joined` meets its contract.
-use Rattle.std.proofs.Common.{ℕ, ◌+◌, ◌%◌, Bool, eqb, sym, ap, ◌∙◌, rules}
+use Rattle.std.proofs.Common.{ℕ, ◌+◌, ◌%◌, Bool, eqb, sym, ap, ◌∙◌}
 use Rattle.packet.specs.Ruling.{joins}
 use Rattle.collector.specs.Refusals.{last_of}
 use Rattle.collector.proofs.taking.is_joined.Goals as goal

@@ -1,5 +1,5 @@
 -- `collector::taking::is_repeat` meets its contract.
-use Rattle.std.proofs.Common.{Bool, sym, ap, rules}
+use Rattle.std.proofs.Common.{Bool, sym, ap}
 use Rattle.packet.specs.Ruling.{repeats}
 use Rattle.collector.specs.Refusals.{last_of}
 use Rattle.collector.proofs.taking.is_repeat.Goals as goal

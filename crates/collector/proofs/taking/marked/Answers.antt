@@ -1,5 +1,4 @@
 -- `collector::taking::marked` meets its contract: the mark, and every other field as it was.
-use Rattle.std.proofs.Common.{rules}
 use Rattle.collector.proofs.taking.marked.Goals as goal
 
 pub returns : goal.returns

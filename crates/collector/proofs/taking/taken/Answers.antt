@@ -1,5 +1,5 @@
 -- `collector::taking::taken` meets its contract.
-use Rattle.std.proofs.Common.{◌≡◌, ℕ, ◌<◌, ◌≤◌, List, length, take, drop, sym, arith, length-drop, length-take, length-take-le, rules}
+use Rattle.std.proofs.Common.{◌≡◌, ℕ, ◌<◌, ◌≤◌, List, length, take, drop, sym, arith, length-drop, length-take, length-take-le}
 use Rattle.collector.proofs.Outcomes.{small, outcome_is, kept_most, fit_kept}
 use Rattle.collector.proofs.taking.taken.Goals as goal
 use Rattle.collector.proofs.taking.taken.Goals.{Start}
@@ -31,15 +31,16 @@ carry-e-requires c =
 
 pub counted-requires : goal.counted-requires
 counted-requires c =
+    let start = (goal.at.counted-requires c).Start in
     let n = c.kept-n.result in (
       small c.args.rec c.args.hold.now c.args.out.now c.args.counter c.args.start
-          (take n c.args.hold.now) (bytes (goal.at.counted-requires c).Start) (bytes_long (goal.at.counted-requires c).Start).0 c.carry-e.result _ _ c.carry-e.ensures
+          (take n c.args.hold.now) (bytes start) (bytes_long start).0 c.carry-e.result _ _ c.carry-e.ensures
           (omega (
             arith,
             length-take n c.args.hold.now,
             c.kept-n.ensures,
             kept_most c.args.next c.args.rec.in_hand,
-            bytes_long (goal.at.counted-requires c).Start,
+            bytes_long start,
             c.requires.few,
           )),
       omega arith,
@@ -47,6 +48,7 @@ counted-requires c =
 
 pub returns : goal.returns
 returns c =
-    outcome_is c.args.rec c.args.hold.now c.args.out.now c.args.counter c.args.start (bytes (goal.at.returns c).Start)
-    (bytes_long (goal.at.returns c).Start).0 c.carry-e.result _ _ _ c.args.next c.kept-n.result c.kept-n.ensures (hand_long (goal.at.returns c).Start)
+    let start = (goal.at.returns c).Start in
+    outcome_is c.args.rec c.args.hold.now c.args.out.now c.args.counter c.args.start (bytes start)
+    (bytes_long start).0 c.carry-e.result _ _ _ c.args.next c.kept-n.result c.kept-n.ensures (hand_long start)
     c.carry-e.ensures c.counted.ensures

@@ -2,7 +2,6 @@
 use mathlib.Core.Path.{sym, ap}
 use Rattle.writing.specs.Written.{told}
 use Rattle.desk.specs.Answers.{says}
-use borrow.Author.Rules.{rules}
 use Rattle.desk.proofs.answers.answer_of.Goals as goal
 
 pub returns-in-Wrote : goal.returns-in-Wrote

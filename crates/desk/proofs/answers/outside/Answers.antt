@@ -1,5 +1,4 @@
 -- `desk::answers::outside` meets its contract.
-use borrow.Author.Rules.{rules}
 use borrow.Author.Tests.{lt-ltb, le-ltb}
 use Rattle.writing.specs.Written.{into}
 use Rattle.desk.proofs.answers.outside.Goals as goal

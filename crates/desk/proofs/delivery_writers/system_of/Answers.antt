@@ -13,8 +13,18 @@ returns-then-modulation_system-ne0 c = rw (ne_eqb _ 1 c.if-modulation_system-eq1
 
 pub returns-then-roll_off-ne0 : goal.returns-then-roll_off-ne0
 unfolding system_of
-returns-then-roll_off-ne0 c = rw (ne_eqb _ 1 c.if-modulation_system-eq1.false, eq-eqb _ 0 c.if-modulation_system-ne0.false, ne_eqb _ 0 c.if-roll_off-ne0.true)
+returns-then-roll_off-ne0 c = rw (
+  ne_eqb _ 1 c.if-modulation_system-eq1.false,
+  eq-eqb _ 0 c.if-modulation_system-ne0.false,
+  ne_eqb _ 0
+      c.if-roll_off-ne0.true,
+)
 
 pub returns : goal.returns
 unfolding system_of
-returns c = rw (ne_eqb _ 1 c.if-modulation_system-eq1.false, eq-eqb _ 0 c.if-modulation_system-ne0.false, eq-eqb _ 0 c.if-roll_off-ne0.false)
+returns c = rw (
+  ne_eqb _ 1 c.if-modulation_system-eq1.false,
+  eq-eqb _ 0 c.if-modulation_system-ne0.false,
+  eq-eqb _
+      0 c.if-roll_off-ne0.false,
+)

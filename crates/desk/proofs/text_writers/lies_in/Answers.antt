@@ -1,7 +1,6 @@
 -- `desk::text_writers::lies_in` meets its contract.
 use mathlib.Core.Path.{ap}
 use mathlib.Core.Bool.{not}
-use borrow.Author.Rules.{rules}
 use Rattle.desk.proofs.text_writers.lies_in.Goals as goal
 
 pub returns : goal.returns

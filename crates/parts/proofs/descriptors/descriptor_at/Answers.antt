@@ -2,7 +2,6 @@
 use mathlib.Core.Path.{sym, ◌∙◌}
 use native.Mathlib.Omega.{arith}
 use Rattle.parts.proofs.Fronts.{descriptor_short, descriptor_whole}
-use borrow.Author.Rules.{rules}
 use Rattle.parts.proofs.descriptors.descriptor_at.Goals as goal
 
 pub returns-then-size-lt2 : goal.returns-then-size-lt2

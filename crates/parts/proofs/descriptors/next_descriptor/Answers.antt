@@ -1,7 +1,6 @@
 -- The first descriptor of a part that lies in the section.
 use mathlib.Core.Path.{sym, ◌∙◌}
 use Rattle.parts.proofs.Fronts.{lies, descriptor_in, descriptor_out}
-use borrow.Author.Rules.{rules}
 use Rattle.parts.proofs.descriptors.next_descriptor.Goals as goal
 
 pub descriptor_at-requires : goal.descriptor_at-requires

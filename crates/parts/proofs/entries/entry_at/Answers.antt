@@ -2,7 +2,6 @@
 use mathlib.Core.Path.{sym, ◌∙◌}
 use native.Mathlib.Omega.{arith}
 use Rattle.parts.proofs.Fronts.{entry_none, entry_short, entry_whole}
-use borrow.Author.Rules.{rules}
 use Rattle.parts.proofs.entries.entry_at.Goals as goal
 
 pub returns-then-fixed-eq0 : goal.returns-then-fixed-eq0

@@ -6,7 +6,6 @@ use Rattle.tables.proofs.RowLaws.{fixed_two}
 use Rattle.tables.specs.Tables.{row_at, row_of}
 use Rattle.tables.specs.declared.Row.{Row}
 use Rattle.parts.proofs.Fronts.{lies, entry_in, entry_out}
-use borrow.Author.Rules.{rules}
 use Rattle.parts.proofs.entries.next_entry.Goals as goal
 
 pub entry_at-requires : goal.entry_at-requires

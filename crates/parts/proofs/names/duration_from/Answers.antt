@@ -1,6 +1,5 @@
 -- `parts::names::duration_from` meets its contract.
 use mathlib.Core.Path.{◌∙◌}
-use borrow.Author.Rules.{rules}
 use Rattle.parts.proofs.names.duration_from.Goals as goal
 
 pub returns : goal.returns

@@ -3,7 +3,6 @@ use mathlib.Core.Path.{ap, sym, ◌∙◌}
 use native.Mathlib.Omega.{arith}
 use Rattle.tables.specs.Tables.{row_of}
 use Rattle.parts.proofs.Openings.{event_short, event_there, event_other}
-use borrow.Author.Rules.{rules}
 use Rattle.parts.proofs.names.event_at.Goals as goal
 
 pub returns-then-fixed-lt12 : goal.returns-then-fixed-lt12

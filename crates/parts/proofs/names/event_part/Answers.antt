@@ -2,7 +2,6 @@
 use mathlib.Core.Path.{sym, ◌∙◌}
 use Rattle.parts.proofs.Fronts.{lies}
 use Rattle.parts.proofs.Openings.{event_in, event_out}
-use borrow.Author.Rules.{rules}
 use Rattle.parts.proofs.names.event_part.Goals as goal
 
 pub event_at-requires : goal.event_at-requires

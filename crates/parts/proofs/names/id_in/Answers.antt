@@ -1,7 +1,6 @@
 -- `parts::names::id_in` meets its contract.
 use mathlib.Core.Path.{ap, ◌∙◌}
 use Rattle.wire.specs.Number.{number_at}
-use borrow.Author.Rules.{rules}
 use Rattle.parts.proofs.names.id_in.Goals as goal
 
 pub returns : goal.returns

@@ -3,7 +3,6 @@ use mathlib.Core.Path.{ap, sym, ◌∙◌}
 use Rattle.wire.specs.Number.{number_at}
 use Rattle.tables.specs.Tables.{row_of}
 use Rattle.parts.proofs.Openings.{network_nit, network_bat, network_none}
-use borrow.Author.Rules.{rules}
 use Rattle.parts.proofs.names.network_in.Goals as goal
 
 pub returns-then-row-eq-NIT : goal.returns-then-row-eq-NIT

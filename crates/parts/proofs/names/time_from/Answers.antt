@@ -1,6 +1,5 @@
 -- `parts::names::time_from` meets its contract.
 use mathlib.Core.Path.{◌∙◌}
-use borrow.Author.Rules.{rules}
 use Rattle.parts.proofs.names.time_from.Goals as goal
 
 pub returns : goal.returns

@@ -1,7 +1,6 @@
 -- `parts::opening::entries_of` meets its contract.
 use mathlib.Core.Path.{sym, ◌∙◌}
 use Rattle.parts.proofs.Openings.{entries_none, entries_second, entries_first}
-use borrow.Author.Rules.{rules}
 use Rattle.parts.proofs.opening.entries_of.Goals as goal
 
 pub returns-then-row-eq0 : goal.returns-then-row-eq0

@@ -6,7 +6,6 @@ use Rattle.section.specs.Reading.{row_for}
 use Rattle.parts.specs.Opening.{utc_of, top_of, entries_of}
 use Rattle.parts.proofs.Fronts.{before_small}
 use Rattle.parts.proofs.Openings.{part_there, part_none}
-use borrow.Author.Rules.{rules}
 use Rattle.parts.proofs.opening.open.Goals as goal
 
 pub top_of-requires : goal.top_of-requires

@@ -1,7 +1,6 @@
 -- `parts::opening::top_of` meets its contract.
 use mathlib.Core.Path.{sym, ◌∙◌}
 use Rattle.parts.proofs.Openings.{top_there, top_none}
-use borrow.Author.Rules.{rules}
 use Rattle.parts.proofs.opening.top_of.Goals as goal
 
 pub returns-then-row-eq1 : goal.returns-then-row-eq1

@@ -1,7 +1,6 @@
 -- `parts::opening::utc_of` meets its contract.
 use mathlib.Core.Path.{sym, ◌∙◌}
 use Rattle.parts.proofs.Openings.{utc_none, utc_there}
-use borrow.Author.Rules.{rules}
 use Rattle.parts.proofs.opening.utc_of.Goals as goal
 
 pub returns-then-is_numbered : goal.returns-then-is_numbered

@@ -1,7 +1,6 @@
 -- The first section of a part that lies in the room.
 use mathlib.Core.Path.{sym, ◌∙◌}
 use Rattle.parts.proofs.Fronts.{lies, section_in, section_out}
-use borrow.Author.Rules.{rules}
 use Rattle.parts.proofs.room.next_section.Goals as goal
 
 pub section_at-requires : goal.section_at-requires

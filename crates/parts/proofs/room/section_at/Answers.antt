@@ -2,7 +2,6 @@
 use mathlib.Core.Path.{sym, ◌∙◌}
 use native.Mathlib.Omega.{arith}
 use Rattle.parts.proofs.Fronts.{section_short, section_whole}
-use borrow.Author.Rules.{rules}
 use Rattle.parts.proofs.room.section_at.Goals as goal
 
 pub returns-then-size-lt3 : goal.returns-then-size-lt3

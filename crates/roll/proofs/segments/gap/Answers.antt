@@ -22,7 +22,9 @@ returns-then-count-eq0 c = sym (gap-of (goal.at.returns-then-count-eq0 c).After-
 pub returns-then-all_come : goal.returns-then-all_come
 unfolding gap_of
 returns-then-all_come c =
-    sym (gap-of (goal.at.returns-then-all_come c).After-wanted-count ∙ gap_known _ _ c.if-count-eq0.false ∙ all_none _ _ (few (goal.at.returns-then-all_come c).After-wanted-count) (sym c.all_come.ensures ∙ c.if-all_come.true))
+    let after_wanted_count = (goal.at.returns-then-all_come c).After-wanted-count in
+    sym (gap-of after_wanted_count ∙ gap_known _ _ c.if-count-eq0.false ∙ all_none _ _ (few after_wanted_count)
+    (sym c.all_come.ensures ∙ c.if-all_come.true))
 
 pub first_gap-requires : goal.first_gap-requires
 first_gap-requires c = few (goal.at.first_gap-requires c).After-wanted-count

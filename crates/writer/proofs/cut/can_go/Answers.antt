@@ -7,7 +7,6 @@ use native.Mathlib.Nat.{add-zero}
 use native.Mathlib.Omega.{arith}
 use lib.ListN.{length, get_or}
 use lib.Dec.{eqb}
-use borrow.Author.Rules.{rules}
 use Rattle.wire.specs.Bytes.{len12}
 use Rattle.wire.specs.Sections.{total_of}
 use Rattle.writer.specs.Cut.{sendable}

@@ -5,7 +5,7 @@ use Prim.Native.Nat.{ℕ, ◌+◌, ◌-◌, ◌≤◌}
 use native.Mathlib.Nat.{zero-add}
 use native.Mathlib.Omega.{arith}
 use lib.ListN.{length}
-use Rattle.writer.specs.Layout.{bytes_ahead, unbegun, turns_from}
+use Rattle.writer.specs.Layout.{unbegun, turns_from}
 use Rattle.writer.specs.Inner.{ahead_of, Leaps}
 use Rattle.writer.specs.declared.layout.Ahead.{Ahead}
 use Rattle.writer.specs.declared.layout.Leap.{Leap}

@@ -3,7 +3,6 @@ use mathlib.Core.Path.{◌≡◌, sym, ap, ◌∙◌}
 use mathlib.Core.Bool.{Bool, true, false, ◌&&◌}
 use Prim.Native.Nat.{ℕ}
 use lib.Dec.{ltb}
-use borrow.Author.Rules.{rules}
 use Rattle.std.specs.Prelude.{if◌then◌else◌}
 use Rattle.writer.specs.Layout.{Turn, least, turn_with}
 use Rattle.writer.proofs.layout.next_turn.Goals as goal

@@ -5,7 +5,6 @@ use Prim.Native.Nat.{ℕ, ◌-◌, ◌*◌, ◌/◌, ◌≤◌, ◌<◌}
 use native.Mathlib.Omega.{arith}
 use lib.ListN.{length, drop}
 use lib.Dec.{ltb}
-use borrow.Author.Rules.{rules}
 use Rattle.writer.specs.Layout.{bytes_ahead, opened, turn_with}
 use Rattle.writer.specs.Inner.{ahead_of, turn_said, Leaps}
 use Rattle.writer.specs.declared.layout.Ahead.{Ahead}

@@ -1,7 +1,7 @@
 -- `writer::packets::put_all` meets its contract: the packets in the room and those to come are all of them.
 use mathlib.Core.Path.{◌≡◌, refl, sym, ap, ◌∙◌}
 use mathlib.Core.List.{List, [], ◌∷◌, ◌++◌, flatten}
-use Prim.Native.Nat.{ℕ, ◌+◌, ◌-◌, ◌*◌, ◌%◌, ◌≤◌, ◌<◌}
+use Prim.Native.Nat.{ℕ, ◌+◌, ◌-◌, ◌%◌, ◌≤◌, ◌<◌}
 use native.Mathlib.Nat.{zero-add}
 use native.Mathlib.Omega.{arith}
 use lib.ListN.{length, take, drop, length-append, length-drop}
@@ -10,7 +10,7 @@ use borrow.Author.Rules.{rules}
 use Rattle.copy.specs.Laid.{over, laid}
 use Rattle.copy.proofs.LaidLaws.{laid_none}
 use Rattle.writer.specs.Layout as Layout
-use Rattle.writer.specs.Layout.{bytes_ahead, turn_of, behind, unbegun, turns_from, payload_of, laid_out}
+use Rattle.writer.specs.Layout.{bytes_ahead, turn_of, behind, turns_from, payload_of, laid_out}
 use Rattle.writer.specs.Packets.{packet_of, packets_from}
 use Rattle.writer.specs.Inner.{ahead_of, Puts}
 use Rattle.writer.specs.declared.layout.Ahead.{Ahead}

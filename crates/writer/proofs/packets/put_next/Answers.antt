@@ -6,7 +6,6 @@ use Prim.Native.Nat.{ℕ, ◌+◌, ◌-◌, ◌≤◌}
 use native.Mathlib.Omega.{arith}
 use lib.ListN.{length, take, drop, length-drop}
 use lib.Dec.{ltb}
-use borrow.Author.Rules.{rules}
 use Rattle.copy.specs.Laid.{laid}
 use Rattle.writer.specs.Layout as Layout
 use Rattle.writer.specs.Layout.{bytes_ahead, opened, turn_with, payload_of}
