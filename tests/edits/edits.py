@@ -141,6 +141,42 @@ def altered_by(pairs, place):
     return texts
 
 
+def held(copy, tried):
+    """What is wrong with how an edit is refused; tried is its crate, its wrong programs and the file that it names, or None."""
+    crate, programs, only = tried
+    place = 'crates/%s/' % crate
+    try:
+        texts = altered_by([pair for wrong in programs for pair in wrong.pairs], place)
+    except ValueError as error:
+        return [str(error)]
+    status, said = copy.check(crate, texts)
+    if status == 0:
+        return ['NOT REFUSED: %s is still proved' % crate]
+    functions, files = faults_in(said, place)
+    meant = {function: wrong.label for wrong in programs for function in wrong.functions}
+    if not meant:
+        if only and files | functions != {only}:
+            return ['%s fails, and not %s alone' % (', '.join(sorted(files | functions)) or 'nothing', only)]
+        return [] if functions or files else ['nothing in its log is untrue']
+    found = ['%s is not refused by the proof of %s' % (meant[f], f) for f in sorted(meant) if f not in functions]
+    found += ['%s is refused too, and is not wrong' % f for f in sorted(functions - set(meant))]
+    if all(alters_code(crate, wrong) for wrong in programs):
+        found += ['%s fails, and no contract was altered' % f for f in sorted(files)]
+    return found
+
+
+def all_held(tries):
+    """Tries them, by what they are called; status 1 where one is not refused for what is wrong with it."""
+    wrong = 0
+    for name, faults in zip(tries, in_copies(list(tries.values()), held)):
+        for fault in ['was not tried'] if faults is None else faults:
+            print('%s: %s' % (name, fault))
+            wrong += 1
+    programs = sum(len(tried[1]) for tried in tries.values())
+    print('%d wrong programs and definitions in %d edits; %d faults' % (programs, len(tries), wrong))
+    return 1 if wrong else 0
+
+
 def in_copies(tasks, work, copies=2):
     """work(copy, task) for each of the tasks, so many at a time, each in a copy of its own; what it gave, in the order of the tasks."""
     given, waiting, lock = {}, list(enumerate(tasks)), threading.Lock()
