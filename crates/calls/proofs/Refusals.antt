@@ -9,7 +9,7 @@ use lib.ListN.{length, get_or}
 use lib.Dec.{ltb, leb}
 use Rattle.wire.specs.Reading.{Reading, value, refused, ◌>>=◌}
 use Rattle.wire.specs.Number.{number}
-use Rattle.wire.proofs.IfLaws.{if-case}
+use Rattle.wire.proofs.IfLaws.{if-case, choose-case}
 use Rattle.tables.specs.Tables.{row_of, row_at}
 use Rattle.section.specs.Faults.{First}
 use Rattle.forms.specs.Form.{Form, raw_read, raw, both_read, ◌then◌, such_read, such, each_read, each}
@@ -98,11 +98,11 @@ entry_numbered row =
     (each_numbered sheet_item item_numbered (entry_of row)) (loop-numbered (side_of row))
 
 top_numbered : (row : ℕ) → Reads (sheet_top row)
-top_numbered row = if-case Reads (has_top (shape_of row)) (λ _. loop-numbered bare) (λ _ s. tt)
+top_numbered row = choose-case Reads (has_top (shape_of row)) (λ _. loop-numbered bare) (λ _ s. tt)
 
 entries_numbered : (row : ℕ) → Reads (sheet_entries row)
 entries_numbered row =
-    if-case Reads (has_entries (shape_of row))
+    choose-case Reads (has_entries (shape_of row))
     (λ _. both_numbered (sheet_fields _) (counted (sheet_entry row)) (fields_numbered _)
     (counted_numbered (sheet_entry row) (entry_numbered row))) (λ _ s. tt)
 
