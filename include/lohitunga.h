@@ -805,40 +805,40 @@ lohitunga_roll_answer lohitunga_roll_take(lohitunga_roll *roll, const uint8_t *s
 #endif
 
 /* The stack that a call needs at most, in bytes below the caller's stack pointer, its return address included and that of memcpy and memset left out:
- *   lohitunga_roll_take                744
- *   lohitunga_collect                  712
- *   lohitunga_write_content            472
- *   lohitunga_write_local_time_offset  472
- *   lohitunga_write_parental_rating    472
- *   lohitunga_write_service_list       472
- *   lohitunga_to_sheet                 408
- *   lohitunga_roll_ask                 384
- *   lohitunga_to_section               360
- *   lohitunga_open                     296
- *   lohitunga_search                   232
- *   lohitunga_judge                    200
+ *   lohitunga_roll_take              1,368
+ *   lohitunga_collect                  776
+ *   lohitunga_roll_ask                 400
+ *   lohitunga_to_sheet                 392
+ *   lohitunga_open                     376
+ *   lohitunga_write_content            344
+ *   lohitunga_write_local_time_offset  344
+ *   lohitunga_write_parental_rating    344
+ *   lohitunga_write_service_list       344
+ *   lohitunga_read_local_time_offset   328
+ *   lohitunga_search                   328
+ *   lohitunga_to_section               312
+ *   lohitunga_judge                    280
+ *   lohitunga_read_time                248
+ *   lohitunga_time_from                248
+ *   lohitunga_crc32                    184
  *   lohitunga_next_entry               184
  *   lohitunga_packets                  184
- *   lohitunga_read_local_time_offset   184
+ *   lohitunga_read_duration            184
  *   lohitunga_read_satellite           184
  *   lohitunga_read_terrestrial         184
  *   lohitunga_write_satellite          184
  *   lohitunga_write_terrestrial        184
- *   lohitunga_write_service            152
- *   lohitunga_write_short_event        152
  *   lohitunga_read_date                136
- *   lohitunga_read_parental_rating     136
- *   lohitunga_read_service_list        136
- *   lohitunga_crc32                     88
- *   lohitunga_duration_from             48
- *   lohitunga_read_time                 48
- *   lohitunga_time_from                 48
- *   lohitunga_read_cable                40
- *   lohitunga_read_duration             32
- *   lohitunga_write_cable               32
+ *   lohitunga_read_service             136
+ *   lohitunga_write_service            128
+ *   lohitunga_write_short_event        128
+ *   lohitunga_duration_from             56
+ *   lohitunga_read_cable                56
+ *   lohitunga_write_network_name        48
+ *   lohitunga_write_stuffing            48
+ *   lohitunga_write_cable               40
+ *   lohitunga_next_section              24
  *   lohitunga_read_offset               24
- *   lohitunga_write_network_name        16
- *   lohitunga_write_stuffing            16
  *   every other                          8
  */
 

@@ -52,10 +52,10 @@ def source():
     structs, functions = {}, {}
     for path in (p for crate in crates() for p in sorted((TOP / "crates" / crate / "src").rglob("*.rt"))):
         text = re.sub(r"//.*", "", path.read_text(encoding="utf-8"))
-        for name, body in re.findall(r"#\[repr\(C\)\]\s*pub struct (\w+) \{(.*?\n)\}", text, re.S):
+        for name, body in re.findall(r"#\[repr\(C\)\]\s*(?:#\[derive\(.*?\)\]\s*)?pub struct (\w+) \{(.*?\n)\}", text, re.S):
             structs[snake(name)] = re.findall(r"pub (\w+): (.*?),\n", body)
             assert len(structs[snake(name)]) == body.count(":"), f"a field of {name} is not understood"
-        exported = r"#\[no_mangle\]\s*pub extern \"C\" fn (\w+)\((.*?)\) -> (\w+)\s"
+        exported = r"#\[unsafe\(no_mangle\)\]\s*pub extern \"C\" fn (\w+)\((.*?)\) -> (\w+)\s"
         for name, words, result in re.findall(exported, text, re.S):
             kinds = re.findall(r"\w+:\s*(&?(?:mut )?(?:\[.*?\]|\w+))", words)
             functions[name] = (kinds, result)
