@@ -2,8 +2,9 @@
 use Rattle.std.specs.Prelude.{ℕ, ◌+◌, ◌-◌, ◌≡◌, List, [], ◌∷◌, length, get_or, take, drop, leb, eqb, if◌then◌else◌}
 use Rattle.wire.specs.Trail.{Pace, on, stop, Trail, trail}
 use Rattle.verdict.specs.Verdict.{Said, accepted, refused}
-use Rattle.loops.specs.declared.walk.Step.{Step}
-use Rattle.loops.specs.declared.walk.Step.TheVariants.{Descriptor, End, Cut}
+use Rattle.std.specs.Prelude.{Option, Some, None, Result, Ok, Err}
+use Rattle.loops.specs.declared.walk.Body.{Body}
+use Rattle.loops.specs.declared.walk.Cut.{Cut}
 
 -- a descriptor where it stands: the place of its tag, the tag, the body
 pub record Placed : Type 0 where
@@ -40,11 +41,15 @@ pub data Gives : Type 0 where
   the_end : Gives
   refusing : ℕ → ℕ → Gives
 
+-- what a walk answers at one place: a descriptor, the end, or where none can be read
+abbrev pub Step : Type 0
+Step = Result (Option Body) Cut
+
 -- document 01's number and values for every answer
 abbrev pub told_step : Step → Gives
-told_step (Descriptor t b n) = descriptor t b n
-told_step End = the_end
-told_step (Cut p) = refusing 9 p
+told_step (Ok (Some d)) = descriptor d.tag d.start d.size
+told_step (Ok None) = the_end
+told_step (Err cut) = refusing 9 cut.0
 
 -- "gives each descriptor in turn, then the end; where none can be read at its place it gives 9 with that place"
 unfoldable pub step_at : List ℕ → ℕ → Gives

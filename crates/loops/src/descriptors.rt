@@ -3,7 +3,7 @@ ghost use Rattle.std.specs.Prelude.{◌≡◌, drop};
 ghost use Rattle.verdict.specs.Verdict.{told};
 ghost use Rattle.loops.specs.Descriptors.{descriptors};
 
-use crate::walk::{Step, step_at};
+use crate::walk::step_at;
 use verdict::Verdict;
 
 // The loop's bytes from the place `at` on.
@@ -12,22 +12,10 @@ pub fn judge_descriptors(bytes: &[u8], at: usize) -> Verdict
 {
     let mut p = at;
     while p < bytes.len() {
-        let step = step_at(bytes, p);
-        match step {
-            Step::Descriptor {
-                tag: _,
-                start,
-                size,
-            } => {
-                p = start + size;
-            }
-            Step::End => {
-                return Verdict::Accepted;
-            }
-            Step::Cut(place) => {
-                return Verdict::DescriptorPast(place);
-            }
+        match step_at(bytes, p)? {
+            Some(d) => p = d.start + d.size,
+            None => break,
         }
     }
-    Verdict::Accepted
+    Ok(())
 }

@@ -1,16 +1,32 @@
 // A walk over one loop of descriptors.
 ghost use Rattle.std.specs.Prelude.{◌≡◌};
+ghost use Rattle.verdict.specs.declared.Refusal.TheVariants.{DescriptorPast};
 ghost use Rattle.loops.specs.Descriptors.{step_at, told_step, Steps, descriptor_of};
 
-// What stands at a place of a loop.
+use verdict::Refusal;
+
+// A descriptor by its body: the tag, the place of the body and its size.
 #[derive(Clone, Copy)]
-pub enum Step {
-    // A descriptor: its tag, the place of its body and the body's size.
-    Descriptor { tag: u8, start: usize, size: usize },
-    End,
-    // 9: none can be read at this place.
-    Cut(usize),
+pub struct Body {
+    pub tag: u8,
+    pub start: usize,
+    pub size: usize,
 }
+
+// 9: no descriptor can be read at this place.
+#[derive(Clone, Copy)]
+pub struct Cut(pub usize);
+
+impl From<Cut> for Refusal {
+    ghost from_gives = { λ cut refusal. refusal ≡ DescriptorPast cut.0 };
+
+    fn from(cut: Cut) -> Refusal {
+        Refusal::DescriptorPast(cut.0)
+    }
+}
+
+// What stands at a place of a loop: a descriptor, or the end.
+pub type Step = Result<Option<Body>, Cut>;
 
 // What stands at the place `at` of a loop's bytes, which end where the loop ends.
 pub fn step_at(bytes: &[u8], at: usize) -> Step
@@ -18,23 +34,20 @@ pub fn step_at(bytes: &[u8], at: usize) -> Step
 {
     let n = bytes.len();
     if at == n {
-        return Step::End;
+        return Ok(None);
     }
-    if n <= at {
-        return Step::Cut(at);
-    }
-    if n - at < 2 {
-        return Step::Cut(at);
+    if n <= at || n - at < 2 {
+        return Err(Cut(at));
     }
     let size = wire::wide(bytes[at + 1]);
     if n - at - 2 < size {
-        return Step::Cut(at);
+        return Err(Cut(at));
     }
-    Step::Descriptor {
+    Ok(Some(Body {
         tag: bytes[at],
         start: at + 2,
         size,
-    }
+    }))
 }
 
 // A step, and the place at which the walk then stands.
@@ -48,18 +61,11 @@ pub fn step_from(bytes: &[u8], at: usize) -> Stepped
     ensures { Steps bytes.now at result.step result.at }
 {
     let step = step_at(bytes, at);
-    match step {
-        Step::Descriptor {
-            tag: _,
-            start,
-            size,
-        } => Stepped {
-            step,
-            at: start + size,
-        },
-        Step::End => Stepped { step, at },
-        Step::Cut(_) => Stepped { step, at },
-    }
+    let at = match step {
+        Ok(Some(d)) => d.start + d.size,
+        _ => at,
+    };
+    Stepped { step, at }
 }
 
 // The descriptor that a step gave, from its tag on, as a part of the loop's bytes; nothing where it gave none.
@@ -67,19 +73,14 @@ pub fn descriptor<'a>(bytes: &'a [u8], step: Step) -> &'a [u8]
     ensures { result.now ≡ descriptor_of bytes.now (told_step step) }
 {
     match step {
-        Step::Descriptor {
-            tag: _,
-            start,
-            size,
-        } => {
-            let from = wire::less(start, 2);
-            if bytes.len() <= size {
-                return wire::parts::part(bytes, from, size);
+        Ok(Some(d)) => {
+            let from = wire::less(d.start, 2);
+            if bytes.len() <= d.size {
+                return wire::parts::part(bytes, from, d.size);
             }
-            wire::parts::part(bytes, from, size + 2)
+            wire::parts::part(bytes, from, d.size + 2)
         }
-        Step::End => &bytes[..0],
-        Step::Cut(_) => &bytes[..0],
+        _ => &bytes[..0],
     }
 }
 

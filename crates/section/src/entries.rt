@@ -4,7 +4,7 @@ ghost use Rattle.verdict.specs.Verdict.{told};
 ghost use Rattle.section.specs.Entries.{entries};
 
 use loops::descriptors::judge_descriptors;
-use verdict::{Verdict, is_accepted};
+use verdict::{Refusal, Verdict};
 
 // The entries' bytes from the place `at` on; an entry has `fixed` bytes before its loop.
 pub fn judge_entries(bytes: &[u8], fixed: usize, at: usize) -> Verdict
@@ -15,21 +15,17 @@ pub fn judge_entries(bytes: &[u8], fixed: usize, at: usize) -> Verdict
     let mut p = at;
     while p < end {
         if end - p < fixed {
-            return Verdict::BytesLeft(p);
+            return Err(Refusal::BytesLeft(p));
         }
         let start = p + fixed;
         let length_place = p + (fixed - 2);
         let size = wire::length12(bytes[length_place], bytes[length_place + 1]);
         if end - start < size {
-            return Verdict::LoopPast(length_place);
+            return Err(Refusal::LoopPast(length_place));
         }
         let next = start + size;
-        let verdict = judge_descriptors(&bytes[..next], start);
-        if is_accepted(verdict) {
-            p = next;
-        } else {
-            return verdict;
-        }
+        judge_descriptors(&bytes[..next], start)?;
+        p = next;
     }
-    Verdict::Accepted
+    Ok(())
 }

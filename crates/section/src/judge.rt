@@ -7,8 +7,8 @@ ghost use Rattle.section.specs.Reading.{wrong_syntax, length_outside, size_diffe
 
 use crate::entries::judge_entries;
 use loops::descriptors::judge_descriptors;
-use tables::{Row, UNKNOWN, row_at, row_of};
-use verdict::{Verdict, is_accepted};
+use tables::{Row, table_of};
+use verdict::{Refusal, Verdict};
 
 // The section before its CRC_32, all of it where the table has none. In what follows this is `bytes`: places in it are
 // places in the section.
@@ -27,31 +27,28 @@ fn judge_fills(bytes: &[u8], at: usize) -> Verdict
     let left = wire::less(bytes.len(), at);
     let size = 2 + wire::length12_at(bytes, at);
     if left < size {
-        return Verdict::LoopPast(at);
+        return Err(Refusal::LoopPast(at));
     }
     if size < left {
-        return Verdict::BytesLeft(at + size);
+        return Err(Refusal::BytesLeft(at + size));
     }
-    Verdict::Accepted
+    Ok(())
 }
 
 fn judge_room(bytes: &[u8], at: usize) -> Verdict
     ensures { told result ≡ leaves_room at (drop at bytes.now) }
 {
     if wire::less(bytes.len(), at) < 2 + wire::length12_at(bytes, at) + 2 {
-        return Verdict::LoopPast(at);
+        return Err(Refusal::LoopPast(at));
     }
-    Verdict::Accepted
+    Ok(())
 }
 
 fn judge_one_loop(bytes: &[u8], at: usize) -> Verdict
     ensures { told result ≡ (one_loop at (drop at bytes.now)).ends }
 {
-    let whole = judge_fills(bytes, at);
-    if is_accepted(whole) {
-        return judge_descriptors(bytes, at + 2);
-    }
-    whole
+    judge_fills(bytes, at)?;
+    judge_descriptors(bytes, at + 2)
 }
 
 // What stands behind the top loop, whose end is the place `at`.
@@ -59,27 +56,18 @@ fn judge_second(bytes: &[u8], fixed: usize, at: usize) -> Verdict
     requires { 2 ≤ fixed }
     ensures { told result ≡ (second_loop fixed at (drop at bytes.now)).ends }
 {
-    let whole = judge_fills(bytes, at);
-    if is_accepted(whole) {
-        return judge_entries(bytes, fixed, at + 2);
-    }
-    whole
+    judge_fills(bytes, at)?;
+    judge_entries(bytes, fixed, at + 2)
 }
 
 fn judge_two_loops(bytes: &[u8], fixed: usize, at: usize) -> Verdict
     requires { 2 ≤ fixed }
     ensures { told result ≡ (two_loops fixed at (drop at bytes.now)).ends }
 {
-    let room = judge_room(bytes, at);
-    if is_accepted(room) {
-        let end = at + (2 + wire::length12_at(bytes, at));
-        let top = judge_descriptors(&bytes[..end], at + 2);
-        if is_accepted(top) {
-            return judge_second(bytes, fixed, end);
-        }
-        return top;
-    }
-    room
+    judge_room(bytes, at)?;
+    let end = at + (2 + wire::length12_at(bytes, at));
+    judge_descriptors(&bytes[..end], at + 2)?;
+    judge_second(bytes, fixed, end)
 }
 
 fn judge_inside(row: Row, bytes: &[u8]) -> Verdict
@@ -95,7 +83,7 @@ fn judge_inside(row: Row, bytes: &[u8]) -> Verdict
         return judge_two_loops(bytes, fixed, at);
     }
     if fixed == 0 {
-        return Verdict::Accepted;
+        return Ok(());
     }
     judge_entries(bytes, fixed, at)
 }
@@ -110,11 +98,7 @@ fn length_outside(row: Row, section: &[u8]) -> bool
     ensures { result ≡ length_outside row section.now }
 {
     let section_length = wire::length12_at(section, 1);
-    if section_length < row.least {
-        true
-    } else {
-        row.most < section_length
-    }
+    section_length < row.least || row.most < section_length
 }
 
 fn size_differs(section: &[u8]) -> bool
@@ -126,42 +110,34 @@ fn size_differs(section: &[u8]) -> bool
 fn crc_fails(row: Row, section: &[u8]) -> bool
     ensures { result ≡ crc_fails row section.now }
 {
-    if row.crc == 1 {
-        crc::crc32(section) != 0
-    } else {
-        false
-    }
+    row.crc == 1 && crc::crc32(section) != 0
 }
 
 fn above_last(row: Row, section: &[u8]) -> bool
     ensures { result ≡ above_last row section.now }
 {
-    if row.syntax == 1 {
-        wire::numbers::byte_at(section, 7) < wire::numbers::byte_at(section, 6)
-    } else {
-        false
-    }
+    row.syntax == 1 && wire::numbers::byte_at(section, 7) < wire::numbers::byte_at(section, 6)
 }
 
 fn judge_header(row: Row, section: &[u8]) -> Verdict
     ensures { told result ≡ header row section.now }
 {
     if wrong_syntax(row, section) {
-        return Verdict::WrongSyntax;
+        return Err(Refusal::WrongSyntax);
     }
     if length_outside(row, section) {
-        return Verdict::LengthOutside;
+        return Err(Refusal::LengthOutside);
     }
     if size_differs(section) {
-        return Verdict::SizeDiffers;
+        return Err(Refusal::SizeDiffers);
     }
     if crc_fails(row, section) {
-        return Verdict::CrcFails;
+        return Err(Refusal::CrcFails);
     }
     if above_last(row, section) {
-        return Verdict::NumberAboveLast;
+        return Err(Refusal::NumberAboveLast);
     }
-    Verdict::Accepted
+    Ok(())
 }
 
 // The judge.
@@ -169,16 +145,10 @@ pub fn judge(section: &[u8]) -> Verdict
     ensures { told result ≡ judged section.now }
 {
     if section.len() < 3 {
-        return Verdict::TooShort;
+        return Err(Refusal::TooShort);
     }
-    let i = row_of(section[0]);
-    if UNKNOWN <= i {
-        return Verdict::UnknownTable;
-    }
-    let row = row_at(i);
-    let head = judge_header(row, section);
-    if is_accepted(head) {
-        return judge_inside(row, before_crc(row, section));
-    }
-    head
+    let table = table_of(section[0]).ok_or(Refusal::UnknownTable)?;
+    let row = table.row();
+    judge_header(row, section)?;
+    judge_inside(row, before_crc(row, section))
 }

@@ -1,6 +1,9 @@
 -- Document 01, "Tables that are known": the rows, and the row that a table_id has.
 use Rattle.std.specs.Prelude.{ℕ, zero, suc, ◌+◌, ◌≤◌, ◌≡◌, ◌⊎◌, List, [], ◌∷◌, Bool, ◌&&◌, ◌||◌, get_or, leb, ltb, if◌then◌else◌}
+use Rattle.std.specs.Prelude.{Option, Some, None}
 use Rattle.tables.specs.declared.Row.{Row}
+use Rattle.tables.specs.declared.Table.{Table}
+use Rattle.tables.specs.declared.Table.TheVariants.{Nit, Sdt, Bat, Eit, Tdt, Tot}
 
 -- ---- the rows by name
 
@@ -25,6 +28,20 @@ TOT = 5
 -- in the place of a row, where none has the table_id
 abbrev pub UNKNOWN : ℕ
 UNKNOWN = 6
+
+-- the place of a table's row
+abbrev pub place : Table → ℕ
+place Nit = NIT
+place Sdt = SDT
+place Bat = BAT
+place Eit = EIT
+place Tdt = TDT
+place Tot = TOT
+
+-- and UNKNOWN, where there is none
+abbrev pub place_or_unknown : Option Table → ℕ
+place_or_unknown None = UNKNOWN
+place_or_unknown (Some t) = place t
 
 -- "NIT, BAT, SDT, EIT: extension id 2, version 1, current 1, section number 1, last 1.": the rows before that of TDT
 abbrev pub is_numbered : ℕ → Bool

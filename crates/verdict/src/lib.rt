@@ -4,9 +4,8 @@
 ghost use Rattle.std.specs.Prelude.{◌≡◌};
 ghost use Rattle.verdict.specs.Verdict.{told, is_accepted, number_of, place_of};
 
-#[derive(Clone, Copy)]
-pub enum Verdict {
-    Accepted,
+#[derive(Clone, Copy, PartialEq, Eq)]
+pub enum Refusal {
     // 1: fewer than 3 bytes.
     TooShort,
     // 2: table_id not in the table.
@@ -29,22 +28,13 @@ pub enum Verdict {
     BytesLeft(usize),
 }
 
+// Accepted, or why not.
+pub type Verdict = Result<(), Refusal>;
+
 pub fn is_accepted(v: Verdict) -> bool
     ensures { result ≡ is_accepted (told v) }
 {
-    match v {
-        Verdict::Accepted => true,
-        Verdict::TooShort => false,
-        Verdict::UnknownTable => false,
-        Verdict::WrongSyntax => false,
-        Verdict::LengthOutside => false,
-        Verdict::SizeDiffers => false,
-        Verdict::CrcFails => false,
-        Verdict::NumberAboveLast => false,
-        Verdict::LoopPast(_) => false,
-        Verdict::DescriptorPast(_) => false,
-        Verdict::BytesLeft(_) => false,
-    }
+    v.is_ok()
 }
 
 // The refusal's number; 0 where the section is accepted.
@@ -52,17 +42,17 @@ pub fn number(v: Verdict) -> u8
     ensures { result ≡ number_of (told v) }
 {
     match v {
-        Verdict::Accepted => 0,
-        Verdict::TooShort => 1,
-        Verdict::UnknownTable => 2,
-        Verdict::WrongSyntax => 3,
-        Verdict::LengthOutside => 4,
-        Verdict::SizeDiffers => 5,
-        Verdict::CrcFails => 6,
-        Verdict::NumberAboveLast => 7,
-        Verdict::LoopPast(_) => 8,
-        Verdict::DescriptorPast(_) => 9,
-        Verdict::BytesLeft(_) => 10,
+        Ok(()) => 0,
+        Err(Refusal::TooShort) => 1,
+        Err(Refusal::UnknownTable) => 2,
+        Err(Refusal::WrongSyntax) => 3,
+        Err(Refusal::LengthOutside) => 4,
+        Err(Refusal::SizeDiffers) => 5,
+        Err(Refusal::CrcFails) => 6,
+        Err(Refusal::NumberAboveLast) => 7,
+        Err(Refusal::LoopPast(_)) => 8,
+        Err(Refusal::DescriptorPast(_)) => 9,
+        Err(Refusal::BytesLeft(_)) => 10,
     }
 }
 
@@ -71,16 +61,9 @@ pub fn place(v: Verdict) -> usize
     ensures { result ≡ place_of (told v) }
 {
     match v {
-        Verdict::Accepted => 0,
-        Verdict::TooShort => 0,
-        Verdict::UnknownTable => 0,
-        Verdict::WrongSyntax => 0,
-        Verdict::LengthOutside => 0,
-        Verdict::SizeDiffers => 0,
-        Verdict::CrcFails => 0,
-        Verdict::NumberAboveLast => 0,
-        Verdict::LoopPast(p) => p,
-        Verdict::DescriptorPast(p) => p,
-        Verdict::BytesLeft(p) => p,
+        Err(Refusal::LoopPast(p)) => p,
+        Err(Refusal::DescriptorPast(p)) => p,
+        Err(Refusal::BytesLeft(p)) => p,
+        _ => 0,
     }
 }
