@@ -11,7 +11,7 @@ use lib.ListN.{get_or}
 use lib.Dec.{leb, eqb}
 use Rattle.std.specs.Prelude.{if◌then◌else◌}
 use Rattle.wire.proofs.IfLaws.{true_not_false}
-use Rattle.tables.specs.Tables.{TDT, is_numbered, rows, cell, row_at, between, holds, first, row_of, InRow, FixedTwo}
+use Rattle.tables.specs.Tables.{TDT, UNKNOWN, is_numbered, rows, cell, row_at, between, holds, first, row_of, InRow, FixedTwo}
 
 -- ---- the four tables
 
@@ -166,3 +166,18 @@ unfolding test
 row_is id i h g =
     let t : test id i ≡ true = each_at 6 (test id) (each_at 128 (λ id. each 6 (test id)) tested id (small i id h g)) i h in
     eqb-true (row_of id) i (sym (ap (λ b. not b || eqb (row_of id) i) (in_holds i id g)) ∙ t)
+
+-- ---- no place is past the last but one
+
+first_within : (k i : ℕ) (p : ℕ → Bool) → first k i p ≤ i + k
+unfolding first
+first_within zero i p = omega arith
+first_within (suc k) i p = go (p i) (first_within k (i + 1) p)
+  where
+    go : (b : Bool) → first k (i + 1) p ≤ i + 1 + k → (if b then i else first k (i + 1) p) ≤ i + suc k
+    go true h = omega arith
+    go false h = omega arith
+
+pub row_within : (id : ℕ) → row_of id ≤ UNKNOWN
+unfolding row_of
+row_within id = first_within 6 0 (λ i. holds (get_or rows i []) id)
