@@ -1,22 +1,21 @@
 // The header of a packet of 188 bytes, field by field as the table asks for them.
-ghost use Rattle.std.specs.Prelude.{◌≡◌, length};
+ghost use Rattle.std.specs.Prelude.{◌≡◌};
 ghost use Rattle.packet.specs.Header.{pid_of, bit_of_field};
 ghost use Rattle.packet.specs.Refusals.{first_of, judged_by};
 ghost use Rattle.packet.specs.Judgement.{meant};
 ghost use Rattle.packet.specs.Inner.{pointer_refusal, shape_refusals, header_refusals, PayloadAt};
 
-use crate::{Judgement, Load, Payload, Refusal};
+use crate::{Judgement, Load, Packet, Payload, Refusal};
 
 // "An adaptation field of at least one byte with that bit set": of a packet that has the field.
-fn splice_in(packet: &[u8]) -> bool
-    requires { length packet.now ≡ 188 }
+fn splice_in(packet: &Packet) -> bool
     ensures { result ≡ bit_of_field packet.now }
 {
     packet[4] != 0 && 128 <= packet[5]
 }
 
 // Refusal 49 of a packet that has payload.
-fn aimed(packet: &[u8], from: usize, splice: bool) -> Judgement
+fn aimed(packet: &Packet, from: usize, splice: bool) -> Judgement
     requires { PayloadAt packet.now from splice }
     ensures { meant result ≡ judged_by (first_of (pointer_refusal packet.now)) packet.now }
 {
@@ -33,8 +32,7 @@ fn aimed(packet: &[u8], from: usize, splice: bool) -> Judgement
 }
 
 // Refusals 48 and 49.
-fn shaped(packet: &[u8]) -> Judgement
-    requires { length packet.now ≡ 188 }
+fn shaped(packet: &Packet) -> Judgement
     ensures { meant result ≡ judged_by (first_of (shape_refusals packet.now)) packet.now }
 {
     let n = packet[4];
@@ -47,16 +45,14 @@ fn shaped(packet: &[u8]) -> Judgement
     }
 }
 
-fn pid_of(packet: &[u8]) -> usize
-    requires { length packet.now ≡ 188 }
+fn pid_of(packet: &Packet) -> usize
     ensures { result ≡ pid_of packet.now }
 {
     wire::wide(packet[1]) % 32 * 256 + wire::wide(packet[2])
 }
 
 // Refusals 44 to 49.
-pub fn addressed(pid: u16, packet: &[u8]) -> Judgement
-    requires { length packet.now ≡ 188 }
+pub fn addressed(pid: u16, packet: &Packet) -> Judgement
     ensures { meant result ≡ judged_by (first_of (header_refusals pid packet.now)) packet.now }
 {
     if packet[0] != 0x47 {

@@ -21,6 +21,8 @@ pub enum Refusal {
     Pointer,
 }
 
+type Packet = [u8; 188];
+
 // A packet with payload: where it begins. splice: discontinuity_indicator is set.
 #[derive(Clone, Copy)]
 pub struct Payload {
@@ -45,8 +47,8 @@ pub type Judgement = Result<Load, Refusal>;
 pub fn judge(pid: u16, packet: &[u8]) -> Judgement
     ensures { meant result ≡ judged false false pid packet.now }
 {
-    if packet.len() != 188 {
-        return Err(Refusal::NotAPacket);
+    match packet.as_array::<188>() {
+        Some(packet) => header::addressed(pid, packet),
+        None => Err(Refusal::NotAPacket),
     }
-    header::addressed(pid, packet)
 }
