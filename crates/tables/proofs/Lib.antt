@@ -2,3 +2,4 @@
 pub mod FirstOf
 pub mod RowLaws
 pub mod ToldTwice
+pub mod Unique

@@ -6,10 +6,11 @@ use mathlib.Core.Bool.{Bool, true, false, not, ◌&&◌, ◌||◌}
 use mathlib.Core.List.{[]}
 use native.Mathlib.Omega.{arith}
 use native.Mathlib.Decide.{ℕ_discrete}
-use borrow.Author.Tests.{leb-true, eqb-true, le-leb, ltb-true, ltb-false}
+use borrow.Author.Tests.{leb-true, eqb-true, le-leb, le-ltb, ltb-true, ltb-false}
 use lib.ListN.{get_or}
 use lib.Dec.{leb, eqb}
-use Rattle.std.specs.Prelude.{if◌then◌else◌}
+use Rattle.std.specs.Prelude.{if◌then◌else◌, min}
+use Rattle.std.proofs.Math.Nat.{min-eq_right}
 use Rattle.wire.proofs.IfLaws.{true_not_false}
 use Rattle.tables.specs.Tables.{TDT, UNKNOWN, is_numbered, rows, cell, row_at, between, holds, first, row_of, InRow, FixedTwo}
 
@@ -181,3 +182,27 @@ first_within (suc k) i p = go (p i) (first_within k (i + 1) p)
 pub row_within : (id : ℕ) → row_of id ≤ UNKNOWN
 unfolding row_of
 row_within id = first_within 6 0 (λ i. holds (get_or rows i []) id)
+
+-- ---- a place past the last is no other than UNKNOWN
+
+past : (i : ℕ) → min (suc (suc (suc (suc (suc (suc i)))))) UNKNOWN ≡ UNKNOWN
+past i = min-eq_right (omega arith)
+
+pub row_at_known : (i : ℕ) → row_at (min i UNKNOWN) ≡ row_at i
+unfolding cell
+row_at_known zero = refl
+row_at_known (suc zero) = refl
+row_at_known (suc (suc zero)) = refl
+row_at_known (suc (suc (suc zero))) = refl
+row_at_known (suc (suc (suc (suc zero)))) = refl
+row_at_known (suc (suc (suc (suc (suc zero))))) = refl
+row_at_known (suc (suc (suc (suc (suc (suc i)))))) = rw (past i)
+
+pub is_numbered_known : (i : ℕ) → is_numbered (min i UNKNOWN) ≡ is_numbered i
+is_numbered_known zero = refl
+is_numbered_known (suc zero) = refl
+is_numbered_known (suc (suc zero)) = refl
+is_numbered_known (suc (suc (suc zero))) = refl
+is_numbered_known (suc (suc (suc (suc zero)))) = refl
+is_numbered_known (suc (suc (suc (suc (suc zero))))) = refl
+is_numbered_known (suc (suc (suc (suc (suc (suc i)))))) = rw (past i) (sym (le-ltb _ TDT (omega arith)))

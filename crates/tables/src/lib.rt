@@ -109,7 +109,7 @@ fn beside_ids(row: [usize; 11]) -> Row
 
 impl Table {
     // The table whose row stands at a place; none past the last.
-    fn at(place: usize) -> Option<Table>
+    pub fn at(place: usize) -> Option<Table>
         ensures { place_or_unknown result ≡ min place UNKNOWN }
     {
         match place {
