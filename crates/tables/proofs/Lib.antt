@@ -1,4 +1,5 @@
 -- Laws that several proofs cite, and what the promises come to.
-pub mod FirstOf
 pub mod RowLaws
+pub mod TableIds
 pub mod ToldTwice
+pub mod Unique

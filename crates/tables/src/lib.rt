@@ -28,6 +28,7 @@ pub struct Row {
 }
 
 // The table that has a table_id.
+#[tactic(auto, using(crate::proofs::TableIds::row_by_range_lem))]
 pub fn table_of(table_id: u8) -> Option<Table>
     ensures { place_or_unknown result ≡ row_of table_id }
 {
@@ -53,6 +54,7 @@ pub fn is_numbered(table: Option<Table>) -> bool
 }
 
 // The row of a table; one of zeros where there is none.
+#[tactic(auto, unfolding(crate::specs::Tables::cell))]
 pub fn row_at(table: Option<Table>) -> Row
     ensures { result ≡ row_at (place_or_unknown table) }
 {
@@ -89,6 +91,7 @@ impl Table {
 
     // Syntax bit; least and greatest section_length; bytes before the first loop or entry; an entry's fixed bytes, 0 for none; 1 for
     // a top loop; 1 for a CRC_32.
+    #[tactic(auto, unfolding(crate::specs::Tables::cell))]
     pub fn row(self) -> Row
         ensures { result ≡ row_at (place self) }
     {
