@@ -9,9 +9,8 @@ use lib.Seq.{length-take-le}
 use native.Mathlib.Numerals.{add-two}
 use Rattle.wire.specs.Parts.{Part}
 use Rattle.wire.proofs.PartLaws.{two_front, part-at, part_both}
-use Rattle.loops.specs.Descriptors.{Gives, descriptor, the_end, refusing, step_at, place_after, told_step, Steps, descriptor_of}
+use Rattle.loops.specs.Descriptors.{Gives, descriptor, the_end, refusing, step_at, place_after, told_step, Steps, descriptor_of, Step}
 use Rattle.loops.specs.Walking.{HandsOut, Walks, none, one, joined}
-use Rattle.loops.specs.declared.walk.Step.{Step}
 use Rattle.loops.proofs.Loops.{View, ending, cut, whole, view}
 
 two_taken : (x y n : ℕ) (l : List ℕ) → take (n + 2) (x ∷ y ∷ l) ≡ x ∷ y ∷ take n l

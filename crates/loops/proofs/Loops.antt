@@ -8,13 +8,14 @@ use lib.ListN.{length, get_or, take, drop, length-drop, drop_of_length-le}
 use lib.Seq.{drop-drop, drop-cons}
 use native.Mathlib.Decide.{dec_le}
 use lib.Dec.{leb, eqb}
-use Rattle.wire.specs.Trail.{on, Trail, ended, before, onward}
+use Rattle.wire.specs.Trail.{on, Trail, answer, ended, before, onward}
 use Rattle.wire.proofs.IfLaws.{if-case}
 use Rattle.wire.proofs.TrailLaws.{trail_by}
 use Rattle.wire.proofs.PartLaws.{two_front}
+use Rattle.std.specs.Prelude.{Some, Ok}
 use Rattle.verdict.specs.Verdict.{Said, accepted, refused}
-use Rattle.loops.specs.Descriptors.{Placed, placed, Rest, rest, first_of, descriptors, Gives, descriptor, the_end, refusing, step_at, told_step}
-use Rattle.loops.specs.declared.walk.Step.{Step}
+use Rattle.loops.specs.Descriptors.{Placed, placed, Rest, rest, first_of, descriptors, Gives, descriptor, the_end, refusing, step_at, told_step, Step}
+use Rattle.loops.specs.declared.walk.Body.{Body}
 
 -- what is left behind a descriptor is shorter
 falls_from : (p : ℕ) (l : List ℕ) (a : Placed) (t : Rest) → first_of p l ≡ on a t → length t.bytes < length l
@@ -118,9 +119,17 @@ by-step l a f = go (step_at l a) (view l a)
     go g (whole h) = two h
 
 -- the same, by the answer of the code's step
-module _ (l : List ℕ) (a : ℕ) (r v : Step) (e : told_step r ≡ step_at l a) (q : r ≡ v) where
-  pub by_told : a ≤ length l → descriptors a (drop a l) ≡ by_step l a (told_step v)
-  by_told h = by-step l a h ∙ ap (by_step l a) (sym e ∙ ap told_step q)
+pub by_told : (l : List ℕ) (a : ℕ) (v : Step) → told_step v ≡ step_at l a → a ≤ length l
+    → descriptors a (drop a l) ≡ by_step l a (told_step v)
+by_told l a v e h = by-step l a h ∙ ap (by_step l a) (sym e)
 
-  pub told_on : (t b n : ℕ) → told_step v ≡ descriptor t b n → (a < b + n) × (b + n ≤ length l) × (b ≡ a + 2)
-  told_on t b n f = step_on l a t b n (sym e ∙ ap told_step q ∙ f)
+pub body_on : (l : List ℕ) (a : ℕ) (d : Body) → told_step (Ok (Some d)) ≡ step_at l a
+    → (a < d.start + d.size) × (d.start + d.size ≤ length l) × (d.start ≡ a + 2)
+body_on l a d e = step_on l a d.tag d.start d.size (sym e)
+
+-- how it ends
+pub loop_ends : (l : List ℕ) (a : ℕ) → a ≤ length l → (descriptors a (drop a l)).ends ≡ (by_step l a (step_at l a)).ends
+loop_ends l a h = ap answer (by-step l a h)
+
+pub past_ends : (l : List ℕ) (a : ℕ) → length l ≤ a → (descriptors a (drop a l)).ends ≡ accepted
+past_ends l a h = ap answer (at-end l a h)

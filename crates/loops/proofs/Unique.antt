@@ -2,21 +2,20 @@
 use Prim.Native.Nat.{ℕ}
 use mathlib.Core.Path.{◌≡◌, refl, sym, ◌∙◌, ap, ap₂}
 use mathlib.Core.List.{List}
-use Rattle.loops.specs.Descriptors.{Gives, descriptor, the_end, refusing, told_step, Steps}
-use Rattle.loops.specs.declared.walk.Step.{Step}
-use Rattle.loops.specs.declared.walk.Step.TheVariants.{Descriptor, End, Cut}
+use Rattle.loops.specs.Descriptors.{Gives, descriptor, the_end, refusing, told_step, Steps, Step}
+use Rattle.std.specs.Prelude.{Some, None, Ok, Err}
 use Rattle.loops.specs.declared.walk.Stepped.{Stepped}
 
 step_of : Gives → Step
-step_of (descriptor t b n) = Descriptor t b n
-step_of the_end = End
-step_of (refusing k p) = Cut p
+step_of (descriptor t b n) = Ok (Some (record { tag = t; start = b; size = n }))
+step_of the_end = Ok None
+step_of (refusing k p) = Err (record { 0 = p })
 
 step_back : (s : Step) → step_of (told_step s) ≡ s
 unfolding step_of
-step_back (Descriptor t b n) = refl
-step_back End = refl
-step_back (Cut p) = refl
+step_back (Ok (Some d)) = refl
+step_back (Ok None) = refl
+step_back (Err cut) = refl
 
 pub told_step_once : (s t : Step) → told_step s ≡ told_step t → s ≡ t
 told_step_once s t e = sym (step_back s) ∙ ap step_of e ∙ step_back t

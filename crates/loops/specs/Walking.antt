@@ -4,8 +4,7 @@ use Rattle.std.specs.Prelude.{ℕ, zero, suc, ◌+◌, ◌≡◌, List, [], ◌�
 use Rattle.wire.specs.Parts.{Part}
 use Rattle.wire.specs.Trail.{Trail}
 use Rattle.verdict.specs.Verdict.{Said, accepted, refused}
-use Rattle.loops.specs.Descriptors.{Placed, Gives, descriptor, the_end, refusing, told_step, step_at, place_after, Steps, descriptor_of}
-use Rattle.loops.specs.declared.walk.Step.{Step}
+use Rattle.loops.specs.Descriptors.{Placed, Gives, descriptor, the_end, refusing, told_step, step_at, place_after, Steps, descriptor_of, Step}
 
 -- the place after n steps from a place
 unfoldable pub walked_to : List ℕ → ℕ → ℕ → ℕ

@@ -7,6 +7,7 @@ use crate::walk::step_at;
 use verdict::Verdict;
 
 // The loop's bytes from the place `at` on.
+#[tactic(auto, using(crate::proofs::Loops::body_on, crate::proofs::Loops::loop_ends, crate::proofs::Loops::past_ends,))]
 pub fn judge_descriptors(bytes: &[u8], at: usize) -> Verdict
     ensures { told result ≡ (descriptors at (drop at bytes.now)).ends }
 {

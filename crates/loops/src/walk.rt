@@ -29,6 +29,7 @@ impl From<Cut> for Refusal {
 pub type Step = Result<Option<Body>, Cut>;
 
 // What stands at the place `at` of a loop's bytes, which end where the loop ends.
+#[tactic(auto, using(crate::proofs::Loops::step_end, crate::proofs::Loops::step_cut, crate::proofs::Loops::step_whole,))]
 pub fn step_at(bytes: &[u8], at: usize) -> Step
     ensures { told_step result ≡ step_at bytes.now at }
 {
@@ -57,6 +58,7 @@ pub struct Stepped {
     pub at: usize,
 }
 
+#[tactic(auto, using(crate::proofs::Loops::body_on))]
 pub fn step_from(bytes: &[u8], at: usize) -> Stepped
     ensures { Steps bytes.now at result.step result.at }
 {

@@ -4,8 +4,7 @@ use mathlib.Core.Path.{◌≡◌, refl, sym, ◌∙◌}
 use mathlib.Core.List.{List, [], ◌∷◌}
 use native.Mathlib.Omega.{arith}
 use Rattle.tables.specs.Tables.{cell, holds, first, row_of}
-use Rattle.verdict.specs.Verdict.{Said, accepted, refused, told}
-use Rattle.verdict.specs.declared.Verdict.{Verdict}
+use Rattle.verdict.specs.Verdict.{Said, accepted, refused, told, Verdict}
 use Rattle.section.specs.Reading.{◌and_then◌, opening, wrong_syntax, length_outside, size_differs, crc_fails, above_last, header, plain, inside, read, judged}
 use Rattle.section.specs.Demands.{Claims, AcceptsExactlyIf, RefusesExactlyIf, RefusesEverything, SingleAnswer}
 use Rattle.section.proofs.Exactly.{verdict_true, accepted_exactly_if, refused_exactly_if}

@@ -1,6 +1,6 @@
 -- How the reading of entries goes, by what stands at their front.
 use Prim.Native.Nat.{ℕ, suc, ◌+◌, ◌-◌, ◌<◌, ◌≤◌}
-use mathlib.Core.Path.{◌≡◌, ap, ap₂, ◌∙◌, sym}
+use mathlib.Core.Path.{◌≡◌, refl, ap, ap₂, ◌∙◌, sym}
 use mathlib.Core.List.{List, [], ◌∷◌}
 use native.Mathlib.Omega.{arith}
 use borrow.Author.Tests.{lt-ltb, le-ltb}
@@ -9,11 +9,12 @@ use lib.Seq.{drop-drop}
 use mathlib.Core.Bool.{true, false}
 use lib.Dec.{ltb}
 use Rattle.wire.specs.Bytes.{len12_at}
-use Rattle.wire.specs.Trail.{Pace, on, Trail, ended, before, onward}
+use Rattle.wire.specs.Trail.{Pace, on, Trail, answer, ended, before, onward}
 use Rattle.wire.proofs.IfLaws.{if-case}
 use Rattle.wire.proofs.TrailLaws.{trail_by}
 use Rattle.wire.proofs.PartLaws.{part_of_front, len12_drop}
 use Rattle.verdict.specs.Verdict.{Said, accepted, refused, is_accepted}
+use Rattle.verdict.proofs.FirstFault.{first_fault, fault_first}
 use Rattle.loops.specs.Descriptors.{Placed, Rest, rest, descriptors}
 use Rattle.section.specs.Entries.{past, whole, first_of, entries}
 
@@ -101,3 +102,43 @@ module _ {l : List ℕ} {fixed p n : ℕ} (a : At l fixed p n) where
       pub at_on : is_accepted loop_at.ends ≡ true
           → entries fixed p (drop p l) ≡ before loop_at.items (entries fixed (p + fixed + n) (drop (p + fixed + n) l))
       at_on q = at_loop ∙ rw q
+
+-- and how they end
+module _ (l : List ℕ) (fixed p : ℕ) (two : 2 ≤ fixed) where
+  abbrev n : ℕ
+  n = len12_at l (p + (fixed - 2))
+
+  begins : p < length l → At l fixed p n
+  begins here = record { two = two; here = here; same = refl }
+
+  pub none_ends : length l ≤ p → (entries fixed p (drop p l)).ends ≡ accepted
+  none_ends h = ap answer (at-end l fixed p two h)
+
+  pub short_ends : p < length l → length l < p + fixed → (entries fixed p (drop p l)).ends ≡ refused 10 p
+  short_ends here h = ap answer (at_short (begins here) h)
+
+  pub past_ends : p < length l → p + fixed ≤ length l → length l < p + fixed + n
+      → (entries fixed p (drop p l)).ends ≡ refused 8 (p + (fixed - 2))
+  past_ends here head h = ap answer (at_past (begins here) head h)
+
+  pub entry_ends : p < length l → p + fixed + n ≤ length l
+      → (entries fixed p (drop p l)).ends
+      ≡ first_fault (descriptors (p + fixed) (drop (p + fixed) (take (p + fixed + n) l))).ends
+      (entries fixed (p + fixed + n) (drop (p + fixed + n) l)).ends
+  entry_ends here room = go (loop_at a head room).ends refl
+    where
+      a : At l fixed p n
+      a = begins here
+
+      head : p + fixed ≤ length l
+      head = omega arith
+
+      behind : Said
+      behind = (entries fixed (p + fixed + n) (drop (p + fixed + n) l)).ends
+
+      go : (v : Said) → (loop_at a head room).ends ≡ v → (entries fixed p (drop p l)).ends ≡ first_fault (loop_at a head room).ends behind
+      go accepted q = ap answer (at_on a head room (ap is_accepted q)) ∙ ap (λ v. first_fault v behind) (sym q)
+      go (refused k q) e =
+          ap answer (at_fault a head room (ap is_accepted e)) ∙ e ∙ ap (λ v. first_fault v behind) (sym e)
+
+pub ruleset entry_laws = (none_ends, short_ends, past_ends, entry_ends, fault_first)

@@ -2,7 +2,7 @@
 use Prim.Native.Nat.{ℕ, ◌+◌, ◌-◌, ◌<◌, ◌≤◌}
 use mathlib.Core.Path.{◌≡◌, refl, ap, ◌∙◌, sym}
 use mathlib.Core.List.{List, []}
-use mathlib.Core.Bool.{Bool, true, false}
+use mathlib.Core.Bool.{true, false}
 use native.Mathlib.Omega.{arith}
 use borrow.Author.Tests.{lt-ltb, le-ltb, ltb-false, le-leb, lt-leb, eq-eqb, ne_eqb}
 use lib.ListN.{length, get_or, take, drop, length-drop}
@@ -11,8 +11,10 @@ use lib.Dec.{ltb}
 use Rattle.wire.specs.Bytes.{len12_at}
 use Rattle.wire.specs.Trail.{Trail, ended, before, answer}
 use Rattle.wire.proofs.IfLaws.{if-case}
-use Rattle.wire.proofs.PartLaws.{part_of_front, len12_drop}
+use Rattle.std.proofs.lemmas.List.{drop-take}
+use Rattle.wire.proofs.PartLaws.{len12_drop}
 use Rattle.verdict.specs.Verdict.{Said, accepted, refused, is_accepted}
+use Rattle.verdict.proofs.FirstFault.{first_fault, nothing_behind, fault_first}
 use Rattle.loops.specs.Descriptors.{Placed, descriptors}
 use Rattle.section.specs.Entries.{entries}
 use Rattle.tables.specs.Tables.{row_of}
@@ -27,24 +29,13 @@ pub then-stop : (v : Said) (x : LoopsRead) → is_accepted v ≡ false → (v an
 unfolding ◌and_then◌
 then-stop v x q = rw q
 
--- the code's answer v, where it stands for what is read first and a test b says whether it is an acceptance
-module _ (v x : Said) (b : Bool) (y : LoopsRead) (same : v ≡ x) (test : b ≡ is_accepted v) where
-  pub stopped : b ≡ false → v ≡ (x and_then y).ends
-  stopped q = same ∙ sym (ap answer (then-stop x y (ap is_accepted (sym same) ∙ sym test ∙ q)))
-
-  pub held : b ≡ true → is_accepted x ≡ true
-  held q = ap is_accepted (sym same) ∙ sym test ∙ q
-
-  pub went_on : (w : Said) → b ≡ true → w ≡ y.ends → w ≡ (x and_then y).ends
-  went_on w q e = e ∙ sym (ap answer (then-on x y (held q)))
+pub then_ends : (v : Said) (x : LoopsRead) → (v and_then x).ends ≡ first_fault v x.ends
+then_ends accepted x = ap answer (then-on accepted x refl)
+then_ends (refused k p) x = ap answer (then-stop (refused k p) x refl)
 
 -- a loop with nothing behind it says what its descriptors say
 pub loop-alone : (d : Trail Placed Said) → (loop_then d (ended accepted)).ends ≡ d.ends
-loop-alone d = closed d.ends (before d.items (ended accepted)) refl
-  where
-    closed : (v : Said) (x : LoopsRead) → x.ends ≡ accepted → (v and_then x).ends ≡ v
-    closed accepted x e = ap answer (then-on accepted x refl) ∙ e
-    closed (refused k p) x e = ap answer (then-stop (refused k p) x refl)
+loop-alone d = then_ends d.ends (before d.items (ended accepted)) ∙ nothing_behind d.ends
 
 -- what is at the place p of l, where m is what is left there
 module _ (l : List ℕ) (p n : ℕ) (same : n ≡ len12_at l p) where
@@ -93,6 +84,8 @@ module _ (l : List ℕ) (p n : ℕ) (same : n ≡ len12_at l p) where
       (λ _ q. let z : ◌≡◌ {A = ℕ} 0 1 = cc in absurd (omega arith))
       (λ h q. omega (arith, ltb-false (length l - p) (2 + n + 2) h)))
 
+pub ruleset fills_laws = (fills_past, fills_short, fills_just)
+
 -- loops at a place
 module _ (l : List ℕ) (p : ℕ) where
   pub one_loop_lem : one_loop p (drop p l) ≡
@@ -105,17 +98,37 @@ module _ (l : List ℕ) (p : ℕ) where
   unfolding second_loop
   second_loop_lem fixed = ap (λ x. fills p (drop p l) and_then entries fixed (p + 2) x) (drop-drop 2 p l)
 
-  pub two_loops_lem : (fixed n : ℕ) → n ≡ len12_at l p → p + (2 + n) ≤ length l
+  pub two_loops_lem : (fixed n : ℕ) → n ≡ len12_at l p
       → two_loops fixed p (drop p l)
       ≡ (leaves_room p (drop p l) and_then
       loop_then (descriptors (p + 2) (drop (p + 2) (take (p + (2 + n)) l))) (second_loop fixed (p + (2 + n)) (drop (p + (2 + n)) l)))
   unfolding two_loops
-  two_loops_lem fixed n same fits =
+  two_loops_lem fixed n same =
       let e : len12_at (drop p l) 0 ≡ n = len12_drop l p 0 ∙ ap (len12_at l) (omega arith) ∙ sym same in
       let f : p + 2 + n ≡ p + (2 + n) = omega arith in
       let top : take n (drop 2 (drop p l)) ≡ drop (p + 2) (take (p + (2 + n)) l) =
-      ap (take n) (drop-drop 2 p l) ∙ sym (part_of_front l (p + 2) n (omega arith)) ∙ ap (λ k. drop (p + 2) (take k l)) f in
+      ap (take n) (drop-drop 2 p l) ∙ sym (drop-take (p + 2) n l) ∙ ap (λ k. drop (p + 2) (take k l)) f in
       rw (e, top, drop-drop (2 + n) p l)
+
+-- how they end
+module _ (l : List ℕ) (p : ℕ) where
+  pub one_loop_ends : (one_loop p (drop p l)).ends ≡ first_fault (fills p (drop p l)) (descriptors (p + 2) (drop (p + 2) l)).ends
+  one_loop_ends =
+      ap answer (one_loop_lem l p)
+      ∙ then_ends _ _
+      ∙ ap (first_fault (fills p (drop p l))) (loop-alone (descriptors (p + 2) (drop (p + 2) l)))
+
+  pub second_loop_ends : (fixed : ℕ)
+      → (second_loop fixed p (drop p l)).ends ≡ first_fault (fills p (drop p l)) (entries fixed (p + 2) (drop (p + 2) l)).ends
+  second_loop_ends fixed = ap answer (second_loop_lem l p fixed) ∙ then_ends _ _
+
+  pub two_loops_ends : (fixed : ℕ)
+      → (two_loops fixed p (drop p l)).ends
+      ≡ first_fault (leaves_room p (drop p l))
+      (first_fault (descriptors (p + 2) (drop (p + 2) (take (p + (2 + len12_at l p)) l))).ends
+      (second_loop fixed (p + (2 + len12_at l p)) (drop (p + (2 + len12_at l p)) l)).ends)
+  two_loops_ends fixed =
+      ap answer (two_loops_lem l p fixed _ refl) ∙ then_ends _ _ ∙ ap (first_fault (leaves_room p (drop p l))) (then_ends _ _)
 
 -- the shapes of tables
 module _ (fixed p : ℕ) (m : List ℕ) where
@@ -143,6 +156,8 @@ module _ (row : Row) (p : ℕ) (m : List ℕ) where
   pub inside_plain : (row.top ≡ 1 → ⊥) → inside row p m ≡ plain row.fixed p m
   unfolding inside
   inside_plain t = rw (ne_eqb row.top 1 t)
+
+pub ruleset inside_laws = (inside_topped, inside_plain, topped_one, topped_two, plain_none, plain_entries)
 
 -- the header's tests, one after the other
 module _ (row : Row) (s : List ℕ) where
@@ -200,14 +215,23 @@ module _ (s : List ℕ) where
   unfolding judged read
   judged_opening k p e = ap answer (then-stop (opening s) _ (ap is_accepted e)) ∙ e
 
-  -- behind the opening, with the row and the bytes before the CRC_32 as the code has them
-  pub judged_on : (row : Row) (b : List ℕ) → row ≡ row_for s → b ≡ body row s → opening s ≡ accepted
-      → judged s ≡ (header row s and_then inside row row.before (drop row.before b)).ends
+  pub judged_ends : judged s ≡ first_fault (opening s)
+      (first_fault (header (row_for s) s) (inside (row_for s) (row_for s).before (drop (row_for s).before (body (row_for s) s))).ends)
   unfolding judged read
-  judged_on row b r q o =
-      ap answer (then-on (opening s) _ (ap is_accepted o))
-      ∙ ap (λ (w : Row). (header w s and_then inside w w.before (drop w.before (body w s))).ends) (sym r)
-      ∙ ap (λ (x : List ℕ). (header row s and_then inside row row.before (drop row.before x)).ends) (sym q)
+  judged_ends = then_ends (opening s) _ ∙ ap (first_fault (opening s)) (then_ends (header (row_for s) s) _)
+
+  -- behind opening and header, with the row and the bytes before the CRC_32 as the code has them
+  pub judged_inside : (row : Row) (b : List ℕ) → row ≡ row_for s → b ≡ body row s → opening s ≡ accepted → header row s ≡ accepted
+      → judged s ≡ (inside row row.before (drop row.before b)).ends
+  judged_inside row b r q o h =
+      judged_ends
+      ∙ ap (λ v. first_fault v (first_fault (header (row_for s) s) (within (row_for s)))) o
+      ∙ ap (λ (w : Row). first_fault (header w s) (within w)) (sym r)
+      ∙ ap (λ v. first_fault v (within row)) h
+      ∙ ap (λ (x : List ℕ). (inside row row.before (drop row.before x)).ends) (sym q)
+    where
+      within : Row → Said
+      within w = (inside w w.before (drop w.before (body w s))).ends
 
   module _ (o : opening s ≡ accepted) where
     pub read_on : read s ≡ (header (row_for s) s and_then inside (row_for s) (row_for s).before
@@ -222,3 +246,5 @@ module _ (s : List ℕ) where
     pub read_through : header (row_for s) s ≡ accepted
         → read s ≡ inside (row_for s) (row_for s).before (drop (row_for s).before (body (row_for s) s))
     read_through e = read_on ∙ then-on (header (row_for s) s) _ (ap is_accepted e)
+
+pub ruleset judged_laws = (judged_ends, fault_first)

@@ -7,6 +7,7 @@ use loops::descriptors::judge_descriptors;
 use verdict::{Refusal, Verdict};
 
 // The entries' bytes from the place `at` on; an entry has `fixed` bytes before its loop.
+#[tactic(auto, using(crate::proofs::EntryLoops::entry_laws))]
 pub fn judge_entries(bytes: &[u8], fixed: usize, at: usize) -> Verdict
     requires { 2 ≤ fixed }
     ensures { told result ≡ (entries fixed at (drop at bytes.now)).ends }

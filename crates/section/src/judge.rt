@@ -12,6 +12,7 @@ use verdict::{Refusal, Verdict};
 
 // The section before its CRC_32, all of it where the table has none. In what follows this is `bytes`: places in it are
 // places in the section.
+#[tactic(auto, using(crate::proofs::Readings::body_crc, crate::proofs::Readings::body_all))]
 pub fn before_crc(row: Row, section: &[u8]) -> &[u8]
     ensures { result.now ≡ body row section.now }
 {
@@ -21,6 +22,7 @@ pub fn before_crc(row: Row, section: &[u8]) -> &[u8]
     &section[..wire::less(section.len(), 4)]
 }
 
+#[tactic(auto, using(crate::proofs::Readings::fills_laws))]
 fn judge_fills(bytes: &[u8], at: usize) -> Verdict
     ensures { told result ≡ fills at (drop at bytes.now) }
 {
@@ -35,6 +37,7 @@ fn judge_fills(bytes: &[u8], at: usize) -> Verdict
     Ok(())
 }
 
+#[tactic(auto, using(crate::proofs::Readings::room_past, crate::proofs::Readings::room_just))]
 fn judge_room(bytes: &[u8], at: usize) -> Verdict
     ensures { told result ≡ leaves_room at (drop at bytes.now) }
 {
@@ -44,6 +47,7 @@ fn judge_room(bytes: &[u8], at: usize) -> Verdict
     Ok(())
 }
 
+#[tactic(auto, using(crate::proofs::Readings::one_loop_ends, verdict::proofs::FirstFault::fault_first))]
 fn judge_one_loop(bytes: &[u8], at: usize) -> Verdict
     ensures { told result ≡ (one_loop at (drop at bytes.now)).ends }
 {
@@ -52,6 +56,7 @@ fn judge_one_loop(bytes: &[u8], at: usize) -> Verdict
 }
 
 // What stands behind the top loop, whose end is the place `at`.
+#[tactic(auto, using(crate::proofs::Readings::second_loop_ends, verdict::proofs::FirstFault::fault_first))]
 fn judge_second(bytes: &[u8], fixed: usize, at: usize) -> Verdict
     requires { 2 ≤ fixed }
     ensures { told result ≡ (second_loop fixed at (drop at bytes.now)).ends }
@@ -60,6 +65,7 @@ fn judge_second(bytes: &[u8], fixed: usize, at: usize) -> Verdict
     judge_entries(bytes, fixed, at + 2)
 }
 
+#[tactic(auto, using(crate::proofs::Readings::two_loops_ends, verdict::proofs::FirstFault::fault_first))]
 fn judge_two_loops(bytes: &[u8], fixed: usize, at: usize) -> Verdict
     requires { 2 ≤ fixed }
     ensures { told result ≡ (two_loops fixed at (drop at bytes.now)).ends }
@@ -70,30 +76,27 @@ fn judge_two_loops(bytes: &[u8], fixed: usize, at: usize) -> Verdict
     judge_second(bytes, fixed, end)
 }
 
+#[tactic(auto, using(crate::proofs::Readings::inside_laws))]
 fn judge_inside(row: Row, bytes: &[u8]) -> Verdict
     requires { FixedTwo row.fixed }
     ensures { told result ≡ (inside row row.before (drop row.before bytes.now)).ends }
 {
-    let at = row.before;
-    let fixed = row.fixed;
-    if row.top == 1 {
-        if fixed == 0 {
-            return judge_one_loop(bytes, at);
-        }
-        return judge_two_loops(bytes, fixed, at);
+    match (row.top, row.fixed) {
+        (1, 0) => judge_one_loop(bytes, row.before),
+        (1, fixed) => judge_two_loops(bytes, fixed, row.before),
+        (_, 0) => Ok(()),
+        (_, fixed) => judge_entries(bytes, fixed, row.before),
     }
-    if fixed == 0 {
-        return Ok(());
-    }
-    judge_entries(bytes, fixed, at)
 }
 
+#[tactic(auto, unfolding(crate::specs::Reading::wrong_syntax))]
 fn wrong_syntax(row: Row, section: &[u8]) -> bool
     ensures { result ≡ wrong_syntax row section.now }
 {
     wire::wide(wire::numbers::byte_at(section, 1)) / 128 != row.syntax
 }
 
+#[tactic(auto, unfolding(crate::specs::Reading::length_outside))]
 fn length_outside(row: Row, section: &[u8]) -> bool
     ensures { result ≡ length_outside row section.now }
 {
@@ -101,24 +104,28 @@ fn length_outside(row: Row, section: &[u8]) -> bool
     section_length < row.least || row.most < section_length
 }
 
+#[tactic(auto, unfolding(crate::specs::Reading::size_differs))]
 fn size_differs(section: &[u8]) -> bool
     ensures { result ≡ size_differs section.now }
 {
     section.len() != 3 + wire::length12_at(section, 1)
 }
 
+#[tactic(auto, unfolding(crate::specs::Reading::crc_fails))]
 fn crc_fails(row: Row, section: &[u8]) -> bool
     ensures { result ≡ crc_fails row section.now }
 {
     row.crc == 1 && crc::crc32(section) != 0
 }
 
+#[tactic(auto, unfolding(crate::specs::Reading::above_last))]
 fn above_last(row: Row, section: &[u8]) -> bool
     ensures { result ≡ above_last row section.now }
 {
     row.syntax == 1 && wire::numbers::byte_at(section, 7) < wire::numbers::byte_at(section, 6)
 }
 
+#[tactic(auto, unfolding(crate::specs::Reading::header))]
 fn judge_header(row: Row, section: &[u8]) -> Verdict
     ensures { told result ≡ header row section.now }
 {
@@ -141,6 +148,7 @@ fn judge_header(row: Row, section: &[u8]) -> Verdict
 }
 
 // The judge.
+#[tactic(auto, using(crate::proofs::Readings::judged_laws), unfolding(crate::specs::Reading::opening))]
 pub fn judge(section: &[u8]) -> Verdict
     ensures { told result ≡ judged section.now }
 {

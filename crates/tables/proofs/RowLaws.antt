@@ -12,9 +12,19 @@ use lib.Dec.{leb, eqb}
 use Rattle.std.specs.Prelude.{if◌then◌else◌, min}
 use Rattle.std.proofs.Math.Nat.{min-eq_right}
 use Rattle.wire.proofs.IfLaws.{true_not_false}
-use Rattle.tables.specs.Tables.{TDT, UNKNOWN, is_numbered, rows, cell, row_at, between, holds, first, row_of, InRow, FixedTwo}
+use Rattle.tables.specs.Tables.{TDT, UNKNOWN, place, is_numbered, rows, cell, row_at, between, holds, first, row_of, InRow, FixedTwo}
+use Rattle.tables.specs.declared.Table.{Table}
+use Rattle.tables.specs.declared.Table.TheVariants.{Nit, Sdt, Bat, Eit, Tdt, Tot}
 
--- ---- the four tables
+-- ---- the six tables, and the four
+
+pub place_known : (t : Table) → place t < UNKNOWN
+place_known Nit = omega arith
+place_known Sdt = omega arith
+place_known Bat = omega arith
+place_known Eit = omega arith
+place_known Tdt = omega arith
+place_known Tot = omega arith
 
 -- what `is_numbered` tells
 pub numbered_below : (row : ℕ) {b : Bool} → b ≡ is_numbered row → b ≡ true → row < TDT

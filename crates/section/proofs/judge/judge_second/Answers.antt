@@ -1,31 +1,9 @@
--- `section::judge::judge_second` meets its contract: where the loop fills its container, its entries decide.
-use Rattle.section.proofs.Readings.{stopped, held, went_on, fills_tells, second_loop_lem}
-use Rattle.wire.specs.Trail.{answer, ended}
-use Rattle.verdict.specs.Verdict.{accepted}
+-- `section::judge::judge_second` meets its contract: where the loop fills its container, its length is there.
+use mathlib.Core.Path.{refl, sym, ap}
 use native.Mathlib.Omega.{arith}
-use mathlib.Core.Path.{refl}
-use mathlib.Core.Path.{sym, ap, ◌∙◌}
+use Rattle.verdict.specs.Verdict.{is_accepted}
+use Rattle.section.proofs.Readings.{fills_tells}
 use Rattle.section.proofs.judge.judge_second.Goals as goal
 
 pub overflow_add-at : goal.overflow_add-at
-overflow_add-at c =
-    let args = c.args in
-    omega (
-      arith,
-      fills_tells args.bytes.now args.at _ refl
-          (held _ _ _ (ended accepted) c.judge_fills-whole.ensures c.is_accepted.ensures
-          c.if-is_accepted.true),
-    )
-
-pub returns-then-is_accepted : goal.returns-then-is_accepted
-returns-then-is_accepted c =
-    let is_accepted_lem = c.is_accepted in
-    let args = c.args in
-    went_on _ _ _ _ c.judge_fills-whole.ensures is_accepted_lem.ensures _ c.if-is_accepted.true c.judge_entries.ensures
-    ∙ sym (ap answer (second_loop_lem args.bytes.now args.at args.fixed))
-
-pub returns : goal.returns
-returns c =
-    let args = c.args in
-    stopped _ _ _ _ c.judge_fills-whole.ensures c.is_accepted.ensures c.if-is_accepted.false
-    ∙ sym (ap answer (second_loop_lem args.bytes.now args.at args.fixed))
+overflow_add-at c = omega (arith, fills_tells _ _ _ refl (ap is_accepted (sym c.in_ok-judge_fills.ensures)))
