@@ -19,6 +19,7 @@ pub fn past(at: usize, n: usize) -> usize
     at.saturating_add(n)
 }
 
+#[tactic(auto, unfolding(crate::specs::Room::put))]
 pub fn put_byte(room: &mut [u8], to: usize, b: u8)
     ensures { room.new ≡ put room.old to (b ∷ []) }
 {

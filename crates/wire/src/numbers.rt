@@ -54,6 +54,7 @@ pub fn number32_at(s: &[u8], i: usize) -> u32
 }
 
 // The bits from a high one down to a low one of the byte at place i, b7 being the highest. Above b7 there are none.
+#[tactic(auto, using(crate::proofs::SomeBits::some_bits), unfolding(crate::specs::Number::bits_at))]
 pub fn bits_at(s: &[u8], i: usize, high: u32, low: u32) -> u8
     ensures { result ≡ bits_at s.now i high low }
 {
