@@ -28,11 +28,9 @@ pub fn feed_bytes(r: u32, s: &[u8]) -> u32
     ensures { result ≡ feed_bytes s.now r }
 {
     let mut v = r;
-    let mut k = 0;
-    while k < s.len() {
-        let c = s[k] as u32 ^ (v >> 24);
+    for b in s {
+        let c = *b as u32 ^ (v >> 24);
         v = times_poly(c ^ (c >> 6)) ^ (v << 8);
-        k += 1;
     }
     v
 }

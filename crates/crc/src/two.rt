@@ -5,14 +5,7 @@ ghost use Rattle.moves.specs.Inner.Moves.{times64, times96, times128};
 ghost use Rattle.crc.specs.Inner.Windows.{feed_words};
 
 use crate::register::{quotient, times_poly};
-use crate::words::{first_two, long};
-
-// Two words.
-#[derive(Clone, Copy)]
-pub struct Pair {
-    pub a: u64,
-    pub b: u64,
-}
+use crate::words::{Pair, first_two, long};
 
 // The word a leaves: what it adds to the two words behind it, `over` to the first and `under` to the second, stands for it.
 pub fn leave(a: u64, b: u64, c: u64) -> Pair
@@ -73,15 +66,10 @@ pub fn crc_by_two(s: &[u8]) -> u32
     requires { 9 ≤ length s.now }
     ensures { result ≡ crc s.now }
 {
-    let v = first_two(s);
-    let mut a = v.a;
-    let mut b = v.b;
-    let mut at = v.at;
-    while 8 <= s.len() - at {
-        let p = leave(a, b, long(s, at));
-        a = p.a;
-        b = p.b;
+    let (mut v, mut at) = first_two(s);
+    while at < s.len() {
+        v = leave(v.a, v.b, long(s, at));
         at += 8;
     }
-    last_two(a, b)
+    last_two(v.a, v.b)
 }
