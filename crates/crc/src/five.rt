@@ -29,6 +29,7 @@ fn across(a: u64, b: u64, k: u64) -> u64
 }
 
 // The word m with what the words p, q, r and t, which stand five, four, three and two before it, add to it.
+#[tactic(auto, using(crate::proofs::Ahead::in_pairs))]
 fn added(m: u64, p: u64, q: u64, r: u64, t: u64) -> u64
     ensures { result ≡ added m p q r t }
 {

@@ -8,6 +8,7 @@ use crate::register::{quotient, times_poly};
 use crate::words::{Pair, first_two, long};
 
 // The word a leaves: what it adds to the two words behind it, `over` to the first and `under` to the second, stands for it.
+#[tactic(auto, using(crate::proofs::Leaving::leaving), unfolding(moves::specs::Inner::Moves::lefts, moves::specs::Inner::Moves::rights))]
 pub fn leave(a: u64, b: u64, c: u64) -> Pair
     ensures { feed_words (result.a ∷ result.b ∷ []) 0 ≡ feed_words (a ∷ b ∷ c ∷ []) 0 }
 {
@@ -24,6 +25,7 @@ pub fn leave(a: u64, b: u64, c: u64) -> Pair
 }
 
 // z times 0x490D678D, which is x ^ 64.
+#[tactic(auto, using(moves::proofs::Shared::times64_shared), unfolding(moves::specs::Inner::Moves::lefts))]
 fn times_64(z: u64) -> u64
     requires { z < 2 ^ 32 }
     ensures { result ≡ times64 z }
@@ -34,6 +36,7 @@ fn times_64(z: u64) -> u64
 }
 
 // z times 0xF200AA66, which is x ^ 96.
+#[tactic(auto, using(moves::proofs::Shared::times96_shared), unfolding(moves::specs::Inner::Moves::lefts))]
 fn times_96(z: u64) -> u64
     requires { z < 2 ^ 32 }
     ensures { result ≡ times96 z }
@@ -44,6 +47,7 @@ fn times_96(z: u64) -> u64
 }
 
 // z times 0xE8A45605, which is x ^ 128.
+#[tactic(auto, using(moves::proofs::Shared::times128_shared), unfolding(moves::specs::Inner::Moves::lefts))]
 fn times_128(z: u64) -> u64
     requires { z < 2 ^ 32 }
     ensures { result ≡ times128 z }
