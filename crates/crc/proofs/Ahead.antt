@@ -156,6 +156,11 @@ module _ {s : List ℕ} where
   ends v i k h = sym (ap (λ (l : List ℕ). feed_bytes l (feed_words v 0)) (drop_of_length-le s h)) ∙ k.rest
 
 module _ {s : List ℕ} (hs : Bytes s) where
+  -- a word comes behind two, and two others give what the three do
+  pub two_move : {a b c d m i : ℕ} → Ahead s (a ∷ b ∷ []) i → i < length s → m ≡ long_at s i
+      → feed_words (c ∷ d ∷ []) 0 ≡ feed_words (a ∷ b ∷ m ∷ []) 0 → Ahead s (c ∷ d ∷ []) (i + 8)
+  two_move {a} {b} {m = m} {i = i} k h em e = instead (comes hs (a ∷ b ∷ []) i (i + 8) m k refl (one_more k h) em) e
+
   -- three words more make a window of five
   pub three_come : (a b c d e i : ℕ) → Ahead s (a ∷ b ∷ []) i → i + 24 ≤ length s → c ≡ long_at s i
       → d ≡ long_at s (i + 8) → e ≡ long_at s (i + 16)

@@ -70,10 +70,9 @@ pub fn crc_by_two(s: &[u8]) -> u32
     requires { 9 ≤ length s.now }
     ensures { result ≡ crc s.now }
 {
-    let (mut v, mut at) = first_two(s);
-    while at < s.len() {
-        v = leave(v.a, v.b, long(s, at));
-        at += 8;
+    let (mut v, at) = first_two(s);
+    for i in (at..s.len()).step_by(8) {
+        v = leave(v.a, v.b, long(s, i));
     }
     last_two(v.a, v.b)
 }

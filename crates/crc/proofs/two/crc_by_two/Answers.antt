@@ -1,22 +1,21 @@
 -- A word comes behind the two, and the first of the three leaves; in the end none is left.
-use mathlib.Core.Path.{refl, ◌∙◌}
-use mathlib.Core.List.{[], ◌∷◌}
-use Prim.Native.Nat.{◌+◌}
-use Rattle.crc.proofs.Ahead.{instead, comes, one_more, ends}
+use mathlib.Core.Path.{◌∙◌}
+use native.Mathlib.Omega.{arith}
+use Rattle.crc.proofs.Ahead.{one_more, two_move, ends}
 use Rattle.crc.proofs.two.crc_by_two.Goals as goal
+use Rattle.crc.proofs.two.crc_by_two.Goals.{else-loop-i-test, then-loop-i-test+else-i-end-i-gt8}
 
 pub long-requires : goal.long-requires
-long-requires c = one_more c.loop-at.invariant c.loop-at-test.true
+long-requires c = one_more c.loop-i.invariant c.loop-i-test.true
 
-pub loop-at-preserved : goal.loop-at-preserved
-loop-at-preserved c =
-    let l = c.loop-at in
-    instead
-    (comes (λ j. (c.type_inv.s j).fits) (l.v.a ∷ l.v.b ∷ []) l.at (l.at + 8) c.long.result l.invariant refl
-    (one_more l.invariant c.loop-at-test.true) c.long.ensures)
-    c.leave-v.ensures
+pub loop-i-preserved : goal.loop-i-preserved
+loop-i-preserved c = two_move (λ j. (c.type_inv.s j).fits) c.loop-i.invariant c.loop-i-test.true c.long.ensures c.leave-v.ensures
 
 pub returns : goal.returns
 returns c =
-    let l = c.loop-at in
-    c.last_two.ensures ∙ ends (l.v.a ∷ l.v.b ∷ []) l.at l.invariant c.loop-at-test.false
+    let l = c.loop-i in
+    c.last_two.ensures
+    ∙ elim c.loop-i-test.branch [
+      | else-loop-i-test w ↦ rw w.v-is (ends _ l.i l.invariant w.loop-i-test.false)
+      | then-loop-i-test+else-i-end-i-gt8 w ↦ rw w.v-is (ends _ _ (two_move (λ j. (c.type_inv.s j).fits) l.invariant w.loop-i-test.true w.long.ensures w.leave-v.ensures) (omega arith))
+    ]
