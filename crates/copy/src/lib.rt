@@ -43,10 +43,8 @@ fn in_blocks<const N: usize>(src: &[u8], from: usize, n: usize, dst: &mut [u8], 
     requires { (from + n ≤ length src.now) × (at + n ≤ length dst.old) × (0 < N) × (N ≤ n) }
     ensures { dst.new ≡ paste dst.old at (drop from src.now) n }
 {
-    let mut i = 0;
-    while N < n - i {
+    for i in (0..n - N).step_by(N) {
         block::<N>(src, from + i, dst, at + i);
-        i += N;
     }
     block::<N>(src, from + (n - N), dst, at + (n - N));
 }
