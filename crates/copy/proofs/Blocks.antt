@@ -1,27 +1,31 @@
 -- A copy, block by block.
 use mathlib.Core.Path.{◌≡◌, sym, ap, ◌∙◌}
 use mathlib.Core.List.{List, ◌++◌, append_assoc}
-use mathlib.Core.Bool.{Bool, true, false}
-use Prim.Native.Nat.{ℕ, ◌+◌, ◌-◌, ◌≤◌}
+use Prim.Native.Nat.{ℕ, ◌+◌, ◌-◌, ◌≤◌, ◌<◌}
 use native.Mathlib.Nat.{add_assoc}
+use native.Mathlib.Numerals.{add-one}
 use native.Mathlib.Omega.{arith}
-use lib.ListN.{length, take, drop, replicate, length-drop}
-use lib.Seq.{paste, take-paste, drop-paste, take-take, take-add, take-append-add, drop-drop, length-take-le}
-use Rattle.copy.specs.Copy.{block}
+use borrow.Rule.Slice.PartMut.{put_mid}
+use lib.ListN.{length, take, drop, get_or, set, length-drop}
+use lib.Seq.{paste, paste-suc, get_or-drop, take-paste, drop-paste, take-take, take-add, take-append-add, drop-drop, length-take-le}
+use Rattle.std.proofs.lemmas.Slice.{put_mid-paste}
 
--- a block of n, read into b and written from there
-pub through : (src d b o : List ℕ) (from at n : ℕ) → from + n ≤ length src
-    → b ≡ paste (replicate n 0) 0 (drop from src) n → o ≡ paste d at (drop 0 b) n
-    → o ≡ paste d at (drop from src) n
-through src d b o from at n fits e f =
-    let s = drop from src in
-    let long : n ≤ length s = omega (arith, length-drop from src) in
-    let z : 0 + n ≡ n = omega arith in
-    f
-    ∙ ap (λ (l : List ℕ). paste d at (drop 0 l) n) e
-    ∙ ap (λ (l : List ℕ). take at d ++ l ++ drop (at + n) d)
-    (ap (λ (k : ℕ). take k (paste (replicate n 0) 0 s n)) (sym z)
-    ∙ take-paste (replicate n 0) 0 s n (omega arith) long)
+-- one byte more
+pub one_more : (d dst src : List ℕ) (from at i : ℕ) → dst ≡ paste d at (drop from src) i → at + i < length d
+    → from + i < length src
+    → set dst (at + i) (get_or src (from + i) 0) ≡ paste d at (drop from src) (i + 1)
+one_more d dst src from at i e hd hs =
+    ap (λ (l : List ℕ). set l (at + i) (get_or src (from + i) 0)) e
+    ∙ ap (λ (v : ℕ). set (paste d at (drop from src) i) (at + i) v) (sym (get_or-drop from src i 0))
+    ∙ paste-suc d at (drop from src) i 0 hd (omega (arith, length-drop from src))
+    ∙ ap (paste d at (drop from src)) (sym (add-one i))
+
+-- what stands in a part of d after a copy into it
+pub placed : (d s bytes : List ℕ) (at k n m : ℕ) → bytes ≡ take m s → k ≡ n → m ≡ n → n ≤ length s
+    → put_mid at k d bytes ≡ paste d at s n
+placed d s bytes at k n m e p q long =
+    put_mid-paste at k d bytes (take n s) n (e ∙ ap (λ (i : ℕ). take i s) q) (sym p) (sym (length-take-le n s long))
+    ∙ ap (λ (l : List ℕ). take at d ++ l ++ drop (at + n) d) (take-take n n s (omega arith))
 
 -- of a copy of i bytes, what stands before its byte j
 pub front : (d s : List ℕ) (at i j : ℕ) → at ≤ length d → i ≤ length s → j ≤ i
@@ -55,15 +59,12 @@ over d s at i j k hd hs low high =
     ∙ ap (λ (m : ℕ). take at d ++ take (j + k) s ++ drop m (paste d at s i)) (add_assoc at j k)
     ∙ ap (λ (l : List ℕ). take at d ++ take (j + k) s ++ l) (behind d s at i (j + k) hd hs high)
 
--- the same, with what is copied as a part of its list
-pub more : (d dst src : List ℕ) (from at i j k : ℕ) → at ≤ length d → i ≤ length (drop from src) → j ≤ i → i ≤ j + k
-    → dst ≡ paste d at (drop from src) i
-    → paste dst (at + j) (drop (from + j) src) k ≡ paste d at (drop from src) (j + k)
-more d dst src from at i j k hd hs low high e =
+-- and with a block behind those that are copied, or over their end, there are m
+pub block_more : (d dst src : List ℕ) (from at i j k m : ℕ) → dst ≡ paste d at (drop from src) i → at ≤ length d
+    → from + i ≤ length src → j ≤ i → i ≤ j + k → m ≡ j + k
+    → paste dst (at + j) (drop (from + j) src) k ≡ paste d at (drop from src) m
+block_more d dst src from at i j k m e hd hs low high p =
     ap (λ (l : List ℕ). paste l (at + j) (drop (from + j) src) k) e
     ∙ ap (λ (l : List ℕ). paste (paste d at (drop from src) i) (at + j) l k) (sym (drop-drop j from src))
-    ∙ over d (drop from src) at i j k hd hs low high
-
-pub block_large : (long : Bool) → 8 ≤ block long
-block_large true = omega arith
-block_large false = omega arith
+    ∙ over d (drop from src) at i j k hd (omega (arith, length-drop from src)) low high
+    ∙ ap (paste d at (drop from src)) (sym p)

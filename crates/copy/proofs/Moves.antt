@@ -1,12 +1,13 @@
 -- Bytes moved within one list, block by block: down from the first block on, up from the last.
-use mathlib.Core.Path.{◌≡◌, sym, ap, ◌∙◌}
+use mathlib.Core.Path.{◌≡◌, refl, sym, ap, ◌∙◌}
 use mathlib.Core.List.{List, ◌++◌, append_assoc, append-nil}
 use Prim.Native.Nat.{ℕ, ◌+◌, ◌-◌, ◌≤◌}
 use native.Mathlib.Nat.{add_assoc}
 use native.Mathlib.Omega.{arith}
+use borrow.Rule.Slice.PartMut.{put_mid}
 use lib.ListN.{length, take, drop, replicate, length-drop, take-append-drop}
-use lib.Seq.{paste, paste-zero, take-paste, take-take, take-add, drop-drop, drop_at, drop-append-add, drop-append-le, length-take-le}
-use Rattle.copy.proofs.Blocks.{front, behind, more}
+use lib.Seq.{paste, take-paste, take-take, take-add, drop-drop, drop_at, drop-append-add, drop-append-le, length-take-le}
+use Rattle.copy.proofs.Blocks.{front, behind, placed, block_more}
 
 -- ---- through a room of their own: n bytes, read to its start and written from there
 
@@ -42,20 +43,16 @@ module _ (o : List ℕ) (from to : ℕ) (low : to ≤ from) where
   pub down_on : (room : List ℕ) (i : ℕ) → from + i + 32 ≤ length o → room ≡ paste o to (drop from o) i
       → paste room (to + i) (drop (from + i) room) 32 ≡ paste o to (drop from o) (i + 32)
   down_on room i fits is =
-      let long : i ≤ length (drop from o) = omega (arith, length-drop from o) in
       ap (λ (l : List ℕ). paste room (to + i) l 32) (ap (drop (from + i)) is ∙ still_behind i (omega arith))
-      ∙ more o room o from to i i 32 (omega arith) long (omega arith) (omega arith) is
+      ∙ block_more o room o from to i i 32 (i + 32) is (omega arith) (omega arith) (omega arith) (omega arith) refl
 
   -- and the last one, which was read before any was written
-  pub down_ends : (room last : List ℕ) (i n : ℕ) → 32 ≤ n → from + n ≤ length o → i ≤ n → n - i ≤ 32
-      → room ≡ paste o to (drop from o) i → last ≡ paste (replicate 32 0) 0 (drop (from + (n - 32)) o) 32
-      → paste room (to + (n - 32)) (drop 0 last) 32 ≡ paste o to (drop from o) n
-  down_ends room last i n large fits le near is e =
-      let long : i ≤ length (drop from o) = omega (arith, length-drop from o) in
-      let whole : n - 32 + 32 ≡ n = omega arith in
-      through_held o room last (from + (n - 32)) (to + (n - 32)) 32 32 (omega arith) e
-      ∙ more o room o from to i (n - 32) 32 (omega arith) long (omega arith) (omega arith) is
-      ∙ ap (paste o to (drop from o)) whole
+  pub down_ends : (room last : List ℕ) (i n k m : ℕ) → 32 ≤ n → from + n ≤ length o → i ≤ n → n - i ≤ 32
+      → room ≡ paste o to (drop from o) i → last ≡ take m (drop (from + (n - 32)) o) → k ≡ 32 → m ≡ 32
+      → put_mid (to + (n - 32)) k room last ≡ paste o to (drop from o) n
+  down_ends room last i n k m large fits le near is e p q =
+      placed room (drop (from + (n - 32)) o) last (to + (n - 32)) k 32 m e p q (omega (arith, length-drop (from + (n - 32)) o))
+      ∙ block_more o room o from to i (n - 32) 32 n is (omega arith) (omega arith) (omega arith) (omega arith) (omega arith)
 
 -- ---- up
 
@@ -124,12 +121,6 @@ alike x y m a k e hx hy le = sym (part x a k hx) ∙ ap (drop a) both ∙ part y
     both : take (a + k) x ≡ take (a + k) y
     both = sym (take-take (a + k) m x le) ∙ ap (take (a + k)) e ∙ take-take (a + k) m y le
 
--- those from n on are none
-pub none_moved : (o : List ℕ) (from to n : ℕ) → o ≡ paste o (to + n) (drop (from + n) o) (n - n)
-none_moved o from to n =
-    let z : 0 ≡ n - n = omega arith in
-    paste-zero o (to + n) (drop (from + n) o) ∙ ap (paste o (to + n) (drop (from + n) o)) z
-
 module _ (o : List ℕ) (from to n : ℕ) (high : from ≤ to) (fits : to + n ≤ length o) where
   -- those from i on are moved, and a block from j on that ends in them or at them
   up_more : (room : List ℕ) (i j : ℕ) → j ≤ i → i ≤ j + 32 → j + 32 ≤ n → i ≤ n
@@ -164,17 +155,16 @@ module _ (o : List ℕ) (from to n : ℕ) (high : from ≤ to) (fits : to + n �
       ∙ up_more room i j (omega arith) (omega arith) (omega arith) le is
 
   -- and the first one, which was read before any was written
-  pub up_ends : (room first : List ℕ) (i : ℕ) → 32 ≤ n → i ≤ 32 → room ≡ paste o (to + i) (drop (from + i) o) (n - i)
-      → first ≡ paste (replicate 32 0) 0 (drop from o) 32
-      → paste room to (drop 0 first) 32 ≡ paste o to (drop from o) n
-  up_ends room first i large near is e =
+  pub up_ends : (room first : List ℕ) (i k m : ℕ) → 32 ≤ n → i ≤ 32 → room ≡ paste o (to + i) (drop (from + i) o) (n - i)
+      → first ≡ take m (drop from o) → k ≡ 32 → m ≡ 32 → put_mid to k room first ≡ paste o to (drop from o) n
+  up_ends room first i k m large near is e p q =
       let z : to + 0 ≡ to = omega arith in
       let w : from + 0 ≡ from = omega arith in
       let all : n - 0 ≡ n = omega arith in
-      through_held o room first from to 32 32 (omega arith) e
-      ∙ ap (λ (k : ℕ). paste room k (drop from o) 32) (sym z)
-      ∙ ap (λ (k : ℕ). paste room (to + 0) (drop k o) 32) (sym w)
+      placed room (drop from o) first to k 32 m e p q (omega (arith, length-drop from o))
+      ∙ ap (λ (j : ℕ). paste room j (drop from o) 32) (sym z)
+      ∙ ap (λ (j : ℕ). paste room (to + 0) (drop j o) 32) (sym w)
       ∙ up_more room i 0 (omega arith) (omega arith) (omega arith) (omega arith) is
-      ∙ ap (λ (k : ℕ). paste o k (drop (from + 0) o) (n - 0)) z
-      ∙ ap (λ (k : ℕ). paste o to (drop k o) (n - 0)) w
+      ∙ ap (λ (j : ℕ). paste o j (drop (from + 0) o) (n - 0)) z
+      ∙ ap (λ (j : ℕ). paste o to (drop j o) (n - 0)) w
       ∙ ap (paste o to (drop from o)) all

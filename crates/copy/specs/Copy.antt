@@ -2,10 +2,6 @@
 use Rattle.std.specs.Prelude.{ℕ, ◌+◌, List, Bool, false, length, drop, leb, if◌then◌else◌}
 use Rattle.std.proofs.Math.Seq.{paste}
 
--- the bytes that are moved at once
-abbrev pub block : Bool → ℕ
-block long = if long then 32 else 8
-
 -- n elements of s from one place on can go to another place of d: s has them, and d has room for them
 unfoldable pub copies : List ℕ → ℕ → ℕ → List ℕ → ℕ → Bool
 copies s from n d at = if leb (from + n) (length s) then leb (at + n) (length d) else false

@@ -5,7 +5,8 @@ ghost use Rattle.std.proofs.Math.Seq.{paste};
 
 use crate::singly;
 
-// At most 32 bytes, and a block of 32. They are all read before any of them is written.
+// At most 32 bytes. They are all read before any of them is written.
+#[tactic(auto, using(crate::proofs::Moves::through_held))]
 pub fn few(room: &mut [u8], from: usize, n: usize, to: usize)
     requires { (n ≤ 32) × (from + n ≤ length room.old) × (to + n ≤ length room.old) }
     ensures { room.new ≡ paste room.old to (drop from room.old) n }
@@ -15,42 +16,35 @@ pub fn few(room: &mut [u8], from: usize, n: usize, to: usize)
     singly(&bytes, 0, n, room, to);
 }
 
-fn block(room: &mut [u8], from: usize, to: usize)
-    requires { (from + 32 ≤ length room.old) × (to + 32 ≤ length room.old) }
-    ensures { room.new ≡ paste room.old to (drop from room.old) 32 }
-{
-    let mut bytes = [0u8; 32];
-    singly(room, from, 32, &mut bytes, 0);
-    singly(&bytes, 0, 32, room, to);
-}
-
 // Down, the first block first. The last one ends where the bytes end and may begin in the block before it, so that it is
 // read before any is written.
+#[tactic(auto, using(crate::proofs::Moves::down_on, crate::proofs::Moves::down_ends))]
 pub fn down(room: &mut [u8], from: usize, n: usize, to: usize)
     requires { (32 ≤ n) × (to ≤ from) × (from + n ≤ length room.old) }
     ensures { room.new ≡ paste room.old to (drop from room.old) n }
 {
     let mut last = [0u8; 32];
-    singly(room, from + (n - 32), 32, &mut last, 0);
+    last.copy_from_slice(&room[from + (n - 32)..from + n]);
     let mut i = 0;
     while 32 < n - i {
-        block(room, from + i, to + i);
+        few(room, from + i, 32, to + i);
         i += 32;
     }
-    singly(&last, 0, 32, room, to + (n - 32));
+    room[to + (n - 32)..to + n].copy_from_slice(&last);
 }
 
 // Up, the last block first, and so the first one is read before any is written.
+#[tactic(auto, using(crate::proofs::Moves::up_on))]
 pub fn up(room: &mut [u8], from: usize, n: usize, to: usize)
     requires { (32 ≤ n) × (from ≤ to) × (to + n ≤ length room.old) }
     ensures { room.new ≡ paste room.old to (drop from room.old) n }
 {
     let mut first = [0u8; 32];
-    singly(room, from, 32, &mut first, 0);
+    first.copy_from_slice(&room[from..from + 32]);
     let mut i = n;
     while 32 < i {
         i -= 32;
-        block(room, from + i, to + i);
+        few(room, from + i, 32, to + i);
     }
-    singly(&first, 0, 32, room, to);
+    room[to..to + 32].copy_from_slice(&first);
 }

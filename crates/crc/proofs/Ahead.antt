@@ -1,7 +1,7 @@
 -- Words that are still to go in, with the bytes behind them: a word comes from the bytes, a word leaves, and in the end no byte is left.
 use mathlib.Core.Path.{◌≡◌, refl, sym, ap, ap₂, ◌∙◌}
 use mathlib.Core.List.{List, [], ◌∷◌, ◌++◌}
-use Prim.Native.Nat.{ℕ, ◌+◌, ◌-◌, ◌*◌, ◌/◌, ◌%◌, ◌^◌, ◌<◌, ◌≤◌}
+use Prim.Native.Nat.{ℕ, ◌+◌, ◌*◌, ◌/◌, ◌%◌, ◌^◌, ◌<◌, ◌≤◌}
 use native.Mathlib.Omega.{arith}
 use lib.Bits.{xor_comm, xor_lt, xor_zero_r}
 use lib.ListN.{length, drop, drop_of_length-le}
@@ -127,10 +127,6 @@ module _ (a b c₀ d₀ e₀ m n o p q : ℕ) where
       ∙ ap (feed_words (o ∷ p ∷ q ∷ [])) (leaves_five b c (d₀ ⊕ third a) (e₀ ⊕ fourth a) (m ⊕ fifth a) n hb)
       ∙ ap (feed_words (n ∷ o ∷ p ∷ q ∷ [])) (leaves_five a b c₀ d₀ e₀ m ha)
 
--- where n bytes are left from i on, they end within
-pub ends_within : {l i n : ℕ} → i ≤ l → n ≤ l - i → i + n ≤ l
-ends_within h g = omega arith
-
 module _ {s : List ℕ} where
   -- other words that give the same
   pub instead : {v w : List ℕ} {i : ℕ} → Ahead s v i → feed_words w 0 ≡ feed_words v 0 → Ahead s w i
@@ -150,14 +146,21 @@ module _ {s : List ℕ} where
             ∙ k.rest;
       }
 
-  -- no whole word is left, and so no byte
-  pub ends : (v : List ℕ) (i : ℕ) → Ahead s v i → length s - i < 8 → feed_words v 0 ≡ crc s
+  -- where a byte is left, a word is
+  pub one_more : {v : List ℕ} {i : ℕ} → Ahead s v i → i < length s → i + 8 ≤ length s
+  one_more k h = omega (arith, k.whole)
+
+  -- no byte is left
+  pub ends : (v : List ℕ) (i : ℕ) → Ahead s v i → length s ≤ i → feed_words v 0 ≡ crc s
   unfolding feed_bytes
-  ends v i k h =
-      let all : length s ≤ i = omega (arith, k.whole, k.within) in
-      sym (ap (λ (l : List ℕ). feed_bytes l (feed_words v 0)) (drop_of_length-le s all)) ∙ k.rest
+  ends v i k h = sym (ap (λ (l : List ℕ). feed_bytes l (feed_words v 0)) (drop_of_length-le s h)) ∙ k.rest
 
 module _ {s : List ℕ} (hs : Bytes s) where
+  -- a word comes behind two, and two others give what the three do
+  pub two_move : {a b c d m i : ℕ} → Ahead s (a ∷ b ∷ []) i → i < length s → m ≡ long_at s i
+      → feed_words (c ∷ d ∷ []) 0 ≡ feed_words (a ∷ b ∷ m ∷ []) 0 → Ahead s (c ∷ d ∷ []) (i + 8)
+  two_move {a} {b} {m = m} {i = i} k h em e = instead (comes hs (a ∷ b ∷ []) i (i + 8) m k refl (one_more k h) em) e
+
   -- three words more make a window of five
   pub three_come : (a b c d e i : ℕ) → Ahead s (a ∷ b ∷ []) i → i + 24 ≤ length s → c ≡ long_at s i
       → d ≡ long_at s (i + 8) → e ≡ long_at s (i + 16)

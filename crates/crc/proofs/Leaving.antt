@@ -8,6 +8,7 @@ use native.Mathlib.Omega.{arith}
 use lib.Dec.{lit<}
 use lib.Pow.{pow_pos, shr_le}
 use lib.Bits.{xor_block, xor_lt, xor_zero_r}
+use Rattle.moves.proofs.Shared.{over_shared, under_shared}
 use Rattle.crc.specs.Crc.{feed, feed_bits}
 use Rattle.moves.specs.Inner.Moves.{over, under, second, third, fourth, fifth}
 use Rattle.crc.specs.Inner.Windows.{feed_words}
@@ -124,3 +125,6 @@ pub leaves_five : (a b c d e m : ℕ) → a < 2 ^ 64
 leaves_five a b c d e m h =
     ap (λ (x : ℕ). feed_words (x ∷ (c ⊕ second a) ∷ (d ⊕ third a) ∷ (e ⊕ fourth a) ∷ (m ⊕ fifth a) ∷ []) 0) (sym (xor_zero_r b))
     ∙ leaves (b ∷ c ∷ d ∷ e ∷ m ∷ []) (0 ∷ second a ∷ third a ∷ fourth a ∷ fifth a ∷ []) a refl (stands_five a h)
+
+-- those of the window of two, and how the code shares moves
+pub ruleset leaving = (leaves_two, over_shared, under_shared)

@@ -29,6 +29,7 @@ fn across(a: u64, b: u64, k: u64) -> u64
 }
 
 // The word m with what the words p, q, r and t, which stand five, four, three and two before it, add to it.
+#[tactic(auto, using(crate::proofs::Ahead::in_pairs))]
 fn added(m: u64, p: u64, q: u64, r: u64, t: u64) -> u64
     ensures { result ≡ added m p q r t }
 {
@@ -40,8 +41,7 @@ fn first_five(s: &[u8]) -> Five
     requires { 33 ≤ length s.now }
     ensures { Window s.now result.a result.b result.c result.d result.e result.at }
 {
-    let v = first_two(s);
-    let at = v.at;
+    let (v, at) = first_two(s);
     Five {
         a: v.a,
         b: v.b,
@@ -57,15 +57,13 @@ fn step(s: &[u8], v: Five) -> Five
     requires { Window s.now v.a v.b v.c v.d v.e v.at × (v.at + 8 ≤ length s.now) }
     ensures { Window s.now result.a result.b result.c result.d result.e result.at × (result.at ≡ v.at + 8) }
 {
-    let a = v.a;
-    let at = v.at;
     Five {
         a: v.b,
-        b: added(v.c, 0, 0, 0, a),
-        c: added(v.d, 0, 0, a, 0),
-        d: added(v.e, 0, a, 0, 0),
-        e: added(long(s, at), a, 0, 0, 0),
-        at: at + 8,
+        b: added(v.c, 0, 0, 0, v.a),
+        c: added(v.d, 0, 0, v.a, 0),
+        d: added(v.e, 0, v.a, 0, 0),
+        e: added(long(s, v.at), v.a, 0, 0, 0),
+        at: v.at + 8,
     }
 }
 
@@ -88,15 +86,13 @@ fn five_at(s: &[u8], i: usize) -> Five
 fn fronts(v: Five) -> Five
     ensures { Fronts v.a v.b v.c v.d v.e result.a result.b result.c result.d result.e }
 {
-    let a = v.a;
-    let b = v.b;
-    let c = added(v.c, 0, 0, 0, a);
+    let c = added(v.c, 0, 0, 0, v.a);
     Five {
-        a: a,
-        b: b,
-        c: c,
-        d: added(v.d, 0, 0, a, b),
-        e: added(v.e, 0, a, b, c),
+        a: v.a,
+        b: v.b,
+        c,
+        d: added(v.d, 0, 0, v.a, v.b),
+        e: added(v.e, 0, v.a, v.b, c),
         at: v.at,
     }
 }
@@ -124,10 +120,10 @@ fn to_end(s: &[u8], v: Five) -> Five
     ensures { feed_words (result.a ∷ result.b ∷ result.c ∷ result.d ∷ result.e ∷ []) 0 ≡ crc s.now }
 {
     let mut w = v;
-    while 40 <= s.len() - w.at {
+    while w.at + 40 <= s.len() {
         w = turn(s, w);
     }
-    while 8 <= s.len() - w.at {
+    while w.at < s.len() {
         w = step(s, w);
     }
     w

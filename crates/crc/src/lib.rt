@@ -58,6 +58,7 @@ mod two;
 mod words;
 
 // "CRC_32: polynomial 0x04C11DB7, register preset to ones, high bit first": the register after all bytes of s.
+#[tactic(auto, unfolding(crate::specs::Crc::crc))]
 pub fn crc32(s: &[u8]) -> u32
     ensures { result ≡ crc s.now }
 {

@@ -5,6 +5,7 @@ ghost use Rattle.moves.specs.Inner.Moves.{times_poly, quotient_of};
 
 // The low half of q times P. The exponents of P, x ^ 32 left out, are 0, 4, 6, 10 moved up by 0, 1 and 2; 22 and 26;
 // 16; and 23.
+#[tactic(auto, using(moves::proofs::Shared::times_shared), unfolding(moves::specs::Inner::Moves::lefts))]
 pub fn times_poly(q: u32) -> u32
     ensures { result ≡ times_poly q }
 {
@@ -14,6 +15,7 @@ pub fn times_poly(q: u32) -> u32
 }
 
 // How often P goes into z times x ^ 32.
+#[tactic(auto, using(moves::proofs::Shared::quotient_shared), unfolding(moves::specs::Inner::Moves::rights))]
 pub fn quotient(z: u32) -> u32
     ensures { result ≡ quotient_of z }
 {
@@ -28,11 +30,9 @@ pub fn feed_bytes(r: u32, s: &[u8]) -> u32
     ensures { result ≡ feed_bytes s.now r }
 {
     let mut v = r;
-    let mut k = 0;
-    while k < s.len() {
-        let c = s[k] as u32 ^ (v >> 24);
+    for b in s {
+        let c = *b as u32 ^ (v >> 24);
         v = times_poly(c ^ (c >> 6)) ^ (v << 8);
-        k += 1;
     }
     v
 }

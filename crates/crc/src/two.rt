@@ -5,16 +5,10 @@ ghost use Rattle.moves.specs.Inner.Moves.{times64, times96, times128};
 ghost use Rattle.crc.specs.Inner.Windows.{feed_words};
 
 use crate::register::{quotient, times_poly};
-use crate::words::{first_two, long};
-
-// Two words.
-#[derive(Clone, Copy)]
-pub struct Pair {
-    pub a: u64,
-    pub b: u64,
-}
+use crate::words::{Pair, first_two, long};
 
 // The word a leaves: what it adds to the two words behind it, `over` to the first and `under` to the second, stands for it.
+#[tactic(auto, using(crate::proofs::Leaving::leaving), unfolding(moves::specs::Inner::Moves::lefts, moves::specs::Inner::Moves::rights))]
 pub fn leave(a: u64, b: u64, c: u64) -> Pair
     ensures { feed_words (result.a ∷ result.b ∷ []) 0 ≡ feed_words (a ∷ b ∷ c ∷ []) 0 }
 {
@@ -31,6 +25,7 @@ pub fn leave(a: u64, b: u64, c: u64) -> Pair
 }
 
 // z times 0x490D678D, which is x ^ 64.
+#[tactic(auto, using(moves::proofs::Shared::times64_shared), unfolding(moves::specs::Inner::Moves::lefts))]
 fn times_64(z: u64) -> u64
     requires { z < 2 ^ 32 }
     ensures { result ≡ times64 z }
@@ -41,6 +36,7 @@ fn times_64(z: u64) -> u64
 }
 
 // z times 0xF200AA66, which is x ^ 96.
+#[tactic(auto, using(moves::proofs::Shared::times96_shared), unfolding(moves::specs::Inner::Moves::lefts))]
 fn times_96(z: u64) -> u64
     requires { z < 2 ^ 32 }
     ensures { result ≡ times96 z }
@@ -51,6 +47,7 @@ fn times_96(z: u64) -> u64
 }
 
 // z times 0xE8A45605, which is x ^ 128.
+#[tactic(auto, using(moves::proofs::Shared::times128_shared), unfolding(moves::specs::Inner::Moves::lefts))]
 fn times_128(z: u64) -> u64
     requires { z < 2 ^ 32 }
     ensures { result ≡ times128 z }
@@ -73,15 +70,9 @@ pub fn crc_by_two(s: &[u8]) -> u32
     requires { 9 ≤ length s.now }
     ensures { result ≡ crc s.now }
 {
-    let v = first_two(s);
-    let mut a = v.a;
-    let mut b = v.b;
-    let mut at = v.at;
-    while 8 <= s.len() - at {
-        let p = leave(a, b, long(s, at));
-        a = p.a;
-        b = p.b;
-        at += 8;
+    let (mut v, at) = first_two(s);
+    for i in (at..s.len()).step_by(8) {
+        v = leave(v.a, v.b, long(s, i));
     }
-    last_two(a, b)
+    last_two(v.a, v.b)
 }

@@ -11,16 +11,15 @@ pub struct Place {
     pub to: usize,
 }
 
-// Saturating addition: the place n bytes on, or the greatest number where there is no such place.
+// The place n bytes on, or the greatest number where there is no such place.
+#[tactic(auto, unfolding(crate::specs::Room::sum))]
 pub fn past(at: usize, n: usize) -> usize
     ensures { result ≡ sum at n }
 {
-    if 0xFFFF_FFFF_FFFF_FFFF - n < at {
-        return 0xFFFF_FFFF_FFFF_FFFF;
-    }
-    at + n
+    at.saturating_add(n)
 }
 
+#[tactic(auto, unfolding(crate::specs::Room::put))]
 pub fn put_byte(room: &mut [u8], to: usize, b: u8)
     ensures { room.new ≡ put room.old to (b ∷ []) }
 {

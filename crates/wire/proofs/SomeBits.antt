@@ -27,3 +27,5 @@ module _ (x : ℕ) (byte : x < 2 ^ 8) (h l : ℕ) where
   none_between g =
       let e : h + 1 - l ≡ 0 = omega arith in
       ap (λ (w : ℕ). x / 2 ^ l % 2 ^ w) e ∙ mod-one (x / 2 ^ l)
+
+pub ruleset some_bits = (power, bits_le, none_above, up_to_the_top, none_between)

@@ -33,9 +33,9 @@ pub fn length12_at(s: &[u8], i: usize) -> usize
     }
 }
 
-// Saturating subtraction: the difference, or 0 where there is less than is to be taken away.
+// The difference, or 0 where there is less than is to be taken away.
 pub fn less(from: usize, taken: usize) -> usize
     ensures { result ≡ from - taken }
 {
-    if taken <= from { from - taken } else { 0 }
+    from.saturating_sub(taken)
 }

@@ -29,6 +29,7 @@ fn number32(a: u8, b: u8, c: u8, d: u8) -> u32
     number24(a, b, c) * 256 + d as u32
 }
 
+#[tactic(auto, using(crate::proofs::NumberLaws::read_after))]
 pub fn number16_at(s: &[u8], i: usize) -> u16
     ensures { result ≡ number_at 2 s.now i }
 {
@@ -36,6 +37,7 @@ pub fn number16_at(s: &[u8], i: usize) -> u16
     number16(byte_at(f, 0), byte_at(f, 1))
 }
 
+#[tactic(auto, using(crate::proofs::NumberLaws::read_after))]
 pub fn number24_at(s: &[u8], i: usize) -> u32
     ensures { result ≡ number_at 3 s.now i }
 {
@@ -43,6 +45,7 @@ pub fn number24_at(s: &[u8], i: usize) -> u32
     number24(byte_at(f, 0), byte_at(f, 1), byte_at(f, 2))
 }
 
+#[tactic(auto, using(crate::proofs::NumberLaws::read_after))]
 pub fn number32_at(s: &[u8], i: usize) -> u32
     ensures { result ≡ number_at 4 s.now i }
 {
@@ -51,6 +54,7 @@ pub fn number32_at(s: &[u8], i: usize) -> u32
 }
 
 // The bits from a high one down to a low one of the byte at place i, b7 being the highest. Above b7 there are none.
+#[tactic(auto, using(crate::proofs::SomeBits::some_bits), unfolding(crate::specs::Number::bits_at))]
 pub fn bits_at(s: &[u8], i: usize, high: u32, low: u32) -> u8
     ensures { result ≡ bits_at s.now i high low }
 {

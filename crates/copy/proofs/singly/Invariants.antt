@@ -1,12 +1,8 @@
--- `copy::singly` meets its contract.
+-- The invariant: the first i bytes are copied.
 use mathlib.Core.Path.{◌≡◌}
-use Prim.Native.Nat.{◌-◌, ◌≤◌}
-use lib.ListN.{length, drop}
+use lib.ListN.{drop}
 use lib.Seq.{paste}
 use Rattle.copy.proofs.singly.Given as goal
 
 abbrev pub invariant-loop-i : goal.invariant-loop-i
-invariant-loop-i l = (l.i ≤ l.n) × (l.dst ≡ paste l.initial.dst l.at (drop l.from l.src) l.i) × (length l.dst ≡ length l.initial.dst)
-
-abbrev pub decreases-loop-i : goal.decreases-loop-i
-decreases-loop-i l = l.n - l.i
+invariant-loop-i l = l.dst ≡ paste l.initial.dst l.at (drop l.from l.src) l.i

@@ -1,12 +1,8 @@
--- The invariant: what is left from k on, into the register as it is, gives what all bytes give.
+-- The invariant: what is left, into the register as it is, gives what all bytes give.
 use mathlib.Core.Path.{◌≡◌}
-use Prim.Native.Nat.{◌≤◌, ◌<◌, ◌-◌, ◌^◌}
-use lib.ListN.{length, drop}
+use lib.ListN.{drop}
 use Rattle.crc.specs.Crc.{feed_bytes}
 use Rattle.crc.proofs.register.feed_bytes.Given as goal
 
-abbrev pub invariant-loop-k : goal.invariant-loop-k
-invariant-loop-k l = (l.k ≤ length l.s) × (l.v < 2 ^ 32) × (feed_bytes (drop l.k l.s) l.v ≡ feed_bytes l.s l.r)
-
-abbrev pub decreases-loop-k : goal.decreases-loop-k
-decreases-loop-k l = length l.s - l.k
+abbrev pub invariant-loop-b : goal.invariant-loop-b
+invariant-loop-b l = feed_bytes (drop l.b-index l.s) l.v ≡ feed_bytes l.s l.r

@@ -6,30 +6,13 @@ use Rattle.crc.proofs.Ending.{last_two}
 use Rattle.crc.proofs.two.last_two.Goals as goal
 
 pub overflow_cast-l : goal.overflow_cast-l
-overflow_cast-l c =
-    let t64 = c.times_64 in
-    let t96 = c.times_96 in
-    let t128 = c.times_128 in
-    record {
-      fits = shr_lt 32 32
-          (xor_lt 64 _ _ (xor_lt 64 _ _ (xor_lt 64 _ _ t128.type_inv t96.type_inv) t64.type_inv)
-          (mod-lt _ (pow_pos 64)));
-    }
-
-pub quotient-requires : goal.quotient-requires
-quotient-requires c = tt
-
-pub times_poly-requires : goal.times_poly-requires
-times_poly-requires c = tt
+overflow_cast-l c = record {
+  fits = shr_lt 32 32
+      (xor_lt 64 _ _ (xor_lt 64 _ _ (xor_lt 64 _ _ c.times_128.type_inv c.times_96.type_inv) c.times_64.type_inv)
+      (mod-lt _ (pow_pos 64)));
+}
 
 pub returns : goal.returns
 returns c =
-    let times-128 = c.times_128 in
-    rw (
-      c.times_poly.ensures,
-      c.quotient.ensures,
-      c.times_64.ensures,
-      c.times_96.ensures,
-      times-128.ensures,
-    )
+    rw (c.times_poly.ensures, c.quotient.ensures, c.times_64.ensures, c.times_96.ensures, c.times_128.ensures)
     (last_two c.args.d c.args.e c.ranges.d.fits c.ranges.e.fits)

@@ -7,10 +7,8 @@ use Rattle.crc.proofs.words.first_two.Goals as goal
 
 pub returns : goal.returns
 returns c =
-    let known = c.shared_slice_known-1 in
     let s = c.args.s.now in (
-      begins s (λ j. (known.given j).fits) ((length s - 1) % 8) (omega arith) c.long.result c.long-2.result
-          c.long.ensures c.long-2.ensures
-          (omega arith) (omega arith),
+      begins s (λ j. (c.type_inv.s j).fits) ((length s - 1) % 8) (omega arith) c.long.result c.long-2.result
+          c.long.ensures c.long-2.ensures (omega arith) (omega arith),
       omega arith,
     )

@@ -1,8 +1,0 @@
-use Rattle.copy.proofs.Blocks.{through}
-use Rattle.copy.proofs.eight.Goals as goal
-
-pub returns : goal.returns
-returns c =
-    let a = c.args in
-    through a.src.now a.dst.now _ _ a.from a.at 8 c.requires.0 c.singly.ensures
-    c.singly-2.ensures
