@@ -6,8 +6,7 @@ use Rattle.forms.specs.Fields.{Field, kept, reserved}
 use Rattle.clock.specs.Fault.{Answered}
 use Rattle.clock.specs.Reported.{Checked, offset_fields, time_fields}
 use Rattle.clock.specs.Offset.{signed, offset_at, offset_shown}
-use Rattle.clock.specs.Time.{time_at, Defined, time_shown}
-use Rattle.clock.specs.declared.time.Moment.{Moment}
+use Rattle.clock.specs.Time.{Moment, time_at, Defined, time_shown}
 use Rattle.layout.specs.Items.{item, count}
 use Rattle.layout.specs.Widths.{size, place, bits_of, number_of, bit}
 use Rattle.lists.specs.declared.local_time_offset.Item.{Item}

@@ -80,7 +80,7 @@ pub fn count(s: &[u8]) -> Result<usize, Refusal>
 }
 
 // The item of an index counted from 0.
-#[tactic(auto, unfolding(crate::specs::LocalTimeOffset::localTimeOffset))]
+#[tactic(auto, unfolding(crate::specs::LocalTimeOffset::localTimeOffset, layout::specs::Items::item))]
 pub fn read(s: &[u8], index: usize) -> Result<Item, Refusal>
     ensures { told result ≡ localTimeOffset s.now index }
 {
