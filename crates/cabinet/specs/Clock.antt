@@ -1,10 +1,9 @@
 -- What the readings of times, durations, offsets and dates say in numbers: 0 and the value, or the refusal and zeros.
-use Rattle.std.specs.Prelude.{ℤ, pos}
+use Rattle.std.specs.Prelude.{ℤ, pos, None, Some}
 use Rattle.wire.specs.Reading.{value, refused}
 use Rattle.clock.specs.Fault.{Answered}
 use Rattle.clock.specs.declared.Hms.{Hms}
-use Rattle.clock.specs.declared.time.Moment as clock
-use Rattle.clock.specs.declared.time.Moment.TheVariants.{Undefined, At}
+use Rattle.clock.specs.Time as clock
 use Rattle.calendar.specs.declared.Date as calendar
 use Rattle.cabinet.specs.declared.times.Moment.{Moment}
 use Rattle.cabinet.specs.declared.times.TimeAnswer.{TimeAnswer}
@@ -16,8 +15,8 @@ use Rattle.cabinet.specs.declared.times.DateAnswer.{DateAnswer}
 
 -- a time's fields; "Forty ones mean "undefined"": 1 in that field, and zeros
 abbrev pub moment_says : clock.Moment → Moment
-moment_says Undefined = record { mjd = 0; hour = 0; minute = 0; second = 0; undefined = 1 }
-moment_says (At t) = record {
+moment_says None = record { mjd = 0; hour = 0; minute = 0; second = 0; undefined = 1 }
+moment_says (Some t) = record {
   mjd = t.mjd;
   hour = t.clock.hour;
   minute = t.clock.minute;

@@ -3,36 +3,36 @@ ghost use Rattle.std.specs.Prelude.{◌≡◌, ◌*◌};
 ghost use Rattle.delivery.specs.Satellite.{satellite};
 ghost use Rattle.delivery.specs.Cable.{cable};
 ghost use Rattle.delivery.specs.Terrestrial.{terrestrial};
-ghost use Rattle.cabinet.specs.Delivery.{system_bit, rollOff, satellite_says, no_satellite, satellite_answer};
-ghost use Rattle.cabinet.specs.Delivery.{cable_says, no_cable, cable_answer};
-ghost use Rattle.cabinet.specs.Delivery.{terrestrial_says, no_terrestrial, terrestrial_answer};
+ghost use Rattle.cabinet.specs.Delivery.{system_bit, rollOff, satellite_says, satellite_answer};
+ghost use Rattle.cabinet.specs.Delivery.{cable_says, cable_answer};
+ghost use Rattle.cabinet.specs.Delivery.{terrestrial_says, terrestrial_answer};
 
 use crate::numbers::{of_flag, of_refusal, why_of};
 use delivery::{cable, satellite, terrestrial};
 
 // Steps of 10 kHz.
 #[repr(C)]
-#[derive(Clone, Copy)]
+#[derive(Clone, Copy, Default)]
 pub struct SatelliteFrequency {
     pub steps: u32,
 }
 
 // Steps of 100 Hz.
 #[repr(C)]
-#[derive(Clone, Copy)]
+#[derive(Clone, Copy, Default)]
 pub struct CableFrequency {
     pub steps: u32,
 }
 
 // Steps of 10 Hz.
 #[repr(C)]
-#[derive(Clone, Copy)]
+#[derive(Clone, Copy, Default)]
 pub struct TerrestrialFrequency {
     pub steps: u32,
 }
 
 #[repr(C)]
-#[derive(Clone, Copy)]
+#[derive(Clone, Copy, Default)]
 pub struct Satellite {
     pub frequency: SatelliteFrequency,
     // In tenths of a degree.
@@ -51,7 +51,7 @@ pub struct Satellite {
 }
 
 #[repr(C)]
-#[derive(Clone, Copy)]
+#[derive(Clone, Copy, Default)]
 pub struct SatelliteAnswer {
     pub number: u32,
     pub place: usize,
@@ -60,7 +60,7 @@ pub struct SatelliteAnswer {
 }
 
 #[repr(C)]
-#[derive(Clone, Copy)]
+#[derive(Clone, Copy, Default)]
 pub struct Cable {
     pub frequency: CableFrequency,
     // In steps of 100 symbols a second.
@@ -71,7 +71,7 @@ pub struct Cable {
 }
 
 #[repr(C)]
-#[derive(Clone, Copy)]
+#[derive(Clone, Copy, Default)]
 pub struct CableAnswer {
     pub number: u32,
     pub place: usize,
@@ -80,7 +80,7 @@ pub struct CableAnswer {
 }
 
 #[repr(C)]
-#[derive(Clone, Copy)]
+#[derive(Clone, Copy, Default)]
 pub struct Terrestrial {
     pub centre_frequency: TerrestrialFrequency,
     pub bandwidth: u8,
@@ -97,7 +97,7 @@ pub struct Terrestrial {
 }
 
 #[repr(C)]
-#[derive(Clone, Copy)]
+#[derive(Clone, Copy, Default)]
 pub struct TerrestrialAnswer {
     pub number: u32,
     pub terrestrial: Terrestrial,
@@ -145,10 +145,11 @@ fn roll_off(system: satellite::System) -> u8
 fn satellite_of(read: satellite::Satellite) -> Satellite
     ensures { result ≡ satellite_says read }
 {
-    let frequency = read.frequency;
     let system = read.modulation_system;
     Satellite {
-        frequency: SatelliteFrequency { steps: frequency.0 },
+        frequency: SatelliteFrequency {
+            steps: read.frequency.0,
+        },
         orbital_position: read.orbital_position,
         symbol_rate: read.symbol_rate,
         west_east_flag: of_flag(read.west_east_flag),
@@ -160,40 +161,23 @@ fn satellite_of(read: satellite::Satellite) -> Satellite
     }
 }
 
-fn no_satellite() -> Satellite
-    ensures { result ≡ no_satellite }
-{
-    Satellite {
-        frequency: SatelliteFrequency { steps: 0 },
-        orbital_position: 0,
-        symbol_rate: 0,
-        west_east_flag: 0,
-        polarization: 0,
-        modulation_system: 0,
-        roll_off: 0,
-        modulation_type: 0,
-        fec_inner: 0,
-    }
-}
-
 #[unsafe(no_mangle)]
 pub extern "C" fn lohitunga_read_satellite(descriptor: &[u8]) -> SatelliteAnswer
     ensures { result ≡ satellite_answer (satellite descriptor.now) }
 {
+    let none = SatelliteAnswer::default();
     match satellite::read(descriptor) {
-        satellite::Answer::Is(read) => SatelliteAnswer {
-            number: 0,
-            place: 0,
-            digit: 0,
+        Ok(read) => SatelliteAnswer {
             satellite: satellite_of(read),
+            ..none
         },
-        satellite::Answer::Refused(refusal) => {
+        Err(refusal) => {
             let why = why_of(refusal);
             SatelliteAnswer {
                 number: why.number,
                 place: why.place,
                 digit: why.digit,
-                satellite: no_satellite(),
+                ..none
             }
         }
     }
@@ -202,9 +186,10 @@ pub extern "C" fn lohitunga_read_satellite(descriptor: &[u8]) -> SatelliteAnswer
 fn cable_of(read: cable::Cable) -> Cable
     ensures { result ≡ cable_says read }
 {
-    let frequency = read.frequency;
     Cable {
-        frequency: CableFrequency { steps: frequency.0 },
+        frequency: CableFrequency {
+            steps: read.frequency.0,
+        },
         symbol_rate: read.symbol_rate,
         fec_outer: read.fec_outer,
         modulation: read.modulation,
@@ -212,36 +197,23 @@ fn cable_of(read: cable::Cable) -> Cable
     }
 }
 
-fn no_cable() -> Cable
-    ensures { result ≡ no_cable }
-{
-    Cable {
-        frequency: CableFrequency { steps: 0 },
-        symbol_rate: 0,
-        fec_outer: 0,
-        modulation: 0,
-        fec_inner: 0,
-    }
-}
-
 #[unsafe(no_mangle)]
 pub extern "C" fn lohitunga_read_cable(descriptor: &[u8]) -> CableAnswer
     ensures { result ≡ cable_answer (cable descriptor.now) }
 {
+    let none = CableAnswer::default();
     match cable::read(descriptor) {
-        cable::Answer::Is(read) => CableAnswer {
-            number: 0,
-            place: 0,
-            digit: 0,
+        Ok(read) => CableAnswer {
             cable: cable_of(read),
+            ..none
         },
-        cable::Answer::Refused(refusal) => {
+        Err(refusal) => {
             let why = why_of(refusal);
             CableAnswer {
                 number: why.number,
                 place: why.place,
                 digit: why.digit,
-                cable: no_cable(),
+                ..none
             }
         }
     }
@@ -250,9 +222,10 @@ pub extern "C" fn lohitunga_read_cable(descriptor: &[u8]) -> CableAnswer
 fn terrestrial_of(read: terrestrial::Terrestrial) -> Terrestrial
     ensures { result ≡ terrestrial_says read }
 {
-    let frequency = read.centre_frequency;
     Terrestrial {
-        centre_frequency: TerrestrialFrequency { steps: frequency.0 },
+        centre_frequency: TerrestrialFrequency {
+            steps: read.centre_frequency.0,
+        },
         bandwidth: read.bandwidth,
         priority: of_flag(read.priority),
         time_slicing_indicator: of_flag(read.time_slicing_indicator),
@@ -267,37 +240,19 @@ fn terrestrial_of(read: terrestrial::Terrestrial) -> Terrestrial
     }
 }
 
-fn no_terrestrial() -> Terrestrial
-    ensures { result ≡ no_terrestrial }
-{
-    Terrestrial {
-        centre_frequency: TerrestrialFrequency { steps: 0 },
-        bandwidth: 0,
-        priority: 0,
-        time_slicing_indicator: 0,
-        mpe_fec_indicator: 0,
-        constellation: 0,
-        hierarchy_information: 0,
-        code_rate_hp_stream: 0,
-        code_rate_lp_stream: 0,
-        guard_interval: 0,
-        transmission_mode: 0,
-        other_frequency_flag: 0,
-    }
-}
-
 #[unsafe(no_mangle)]
 pub extern "C" fn lohitunga_read_terrestrial(descriptor: &[u8]) -> TerrestrialAnswer
     ensures { result ≡ terrestrial_answer (terrestrial descriptor.now) }
 {
+    let none = TerrestrialAnswer::default();
     match terrestrial::read(descriptor) {
-        terrestrial::Answer::Is(read) => TerrestrialAnswer {
-            number: 0,
+        Ok(read) => TerrestrialAnswer {
             terrestrial: terrestrial_of(read),
+            ..none
         },
-        terrestrial::Answer::Refused(why) => TerrestrialAnswer {
-            number: of_refusal(why),
-            terrestrial: no_terrestrial(),
+        Err(refusal) => TerrestrialAnswer {
+            number: of_refusal(refusal),
+            ..none
         },
     }
 }

@@ -1,44 +1,44 @@
 // The descriptors that are lists: how many items, and each by its index.
 ghost use Rattle.std.specs.Prelude.{◌≡◌};
-ghost use Rattle.layout.specs.Items.{told_count};
+ghost use Rattle.layout.specs.Refusal.{told};
 ghost use Rattle.lists.specs.ServiceList.{service_list, service_count};
 ghost use Rattle.lists.specs.Content.{content, content_count};
 ghost use Rattle.lists.specs.ParentalRating.{parental_rating, rating_count};
 ghost use Rattle.lists.specs.LocalTimeOffset.{localTimeOffset, offset_count};
-ghost use Rattle.cabinet.specs.Lists.{count_answer, service_list_says, no_service_list, service_list_answer};
-ghost use Rattle.cabinet.specs.Lists.{content_says, no_content, content_answer};
-ghost use Rattle.cabinet.specs.Lists.{parental_rating_says, no_parental_rating, parental_rating_answer};
-ghost use Rattle.cabinet.specs.Lists.{local_time_offset_says, no_local_time_offset, local_time_offset_answer};
+ghost use Rattle.cabinet.specs.Lists.{count_answer, service_list_says, service_list_answer};
+ghost use Rattle.cabinet.specs.Lists.{content_says, content_answer};
+ghost use Rattle.cabinet.specs.Lists.{parental_rating_says, parental_rating_answer};
+ghost use Rattle.cabinet.specs.Lists.{local_time_offset_says, local_time_offset_answer};
 
-use crate::moments::{moment_of, no_moment};
+use crate::moments::moment_of;
 use crate::numbers::{of_refusal, why_of};
 use crate::times::Moment;
-use layout::items::Count;
+use layout::Refusal;
 use lists::{content, local_time_offset, parental_rating, service_list};
 
 #[repr(C)]
-#[derive(Clone, Copy)]
+#[derive(Clone, Copy, Default)]
 pub struct CountAnswer {
     pub number: u32,
     pub count: usize,
 }
 
 #[repr(C)]
-#[derive(Clone, Copy)]
+#[derive(Clone, Copy, Default)]
 pub struct ServiceListItem {
     pub service_id: u16,
     pub service_type: u8,
 }
 
 #[repr(C)]
-#[derive(Clone, Copy)]
+#[derive(Clone, Copy, Default)]
 pub struct ServiceListAnswer {
     pub number: u32,
     pub item: ServiceListItem,
 }
 
 #[repr(C)]
-#[derive(Clone, Copy)]
+#[derive(Clone, Copy, Default)]
 pub struct ContentItem {
     pub content_nibble_level_1: u8,
     pub content_nibble_level_2: u8,
@@ -46,14 +46,14 @@ pub struct ContentItem {
 }
 
 #[repr(C)]
-#[derive(Clone, Copy)]
+#[derive(Clone, Copy, Default)]
 pub struct ContentAnswer {
     pub number: u32,
     pub item: ContentItem,
 }
 
 #[repr(C)]
-#[derive(Clone, Copy)]
+#[derive(Clone, Copy, Default)]
 pub struct ParentalRatingItem {
     // Three characters, the first the highest byte.
     pub country_code: u32,
@@ -61,14 +61,14 @@ pub struct ParentalRatingItem {
 }
 
 #[repr(C)]
-#[derive(Clone, Copy)]
+#[derive(Clone, Copy, Default)]
 pub struct ParentalRatingAnswer {
     pub number: u32,
     pub item: ParentalRatingItem,
 }
 
 #[repr(C)]
-#[derive(Clone, Copy)]
+#[derive(Clone, Copy, Default)]
 pub struct LocalTimeOffsetItem {
     // Three characters, the first the highest byte.
     pub country_code: u32,
@@ -81,7 +81,7 @@ pub struct LocalTimeOffsetItem {
 }
 
 #[repr(C)]
-#[derive(Clone, Copy)]
+#[derive(Clone, Copy, Default)]
 pub struct LocalTimeOffsetAnswer {
     pub number: u32,
     pub place: usize,
@@ -89,14 +89,15 @@ pub struct LocalTimeOffsetAnswer {
     pub item: LocalTimeOffsetItem,
 }
 
-fn count_of(count: Count) -> CountAnswer
-    ensures { result ≡ count_answer (told_count count) }
+fn count_of(count: Result<usize, Refusal>) -> CountAnswer
+    ensures { result ≡ count_answer (told count) }
 {
+    let none = CountAnswer::default();
     match count {
-        Count::Items(count) => CountAnswer { number: 0, count },
-        Count::Refused(why) => CountAnswer {
+        Ok(count) => CountAnswer { count, ..none },
+        Err(why) => CountAnswer {
             number: of_refusal(why),
-            count: 0,
+            ..none
         },
     }
 }
@@ -117,27 +118,19 @@ fn service_list_of(item: service_list::Item) -> ServiceListItem
     }
 }
 
-fn no_service_list() -> ServiceListItem
-    ensures { result ≡ no_service_list }
-{
-    ServiceListItem {
-        service_id: 0,
-        service_type: 0,
-    }
-}
-
 #[unsafe(no_mangle)]
 pub extern "C" fn lohitunga_read_service_list(descriptor: &[u8], index: usize) -> ServiceListAnswer
     ensures { result ≡ service_list_answer (service_list descriptor.now index) }
 {
+    let none = ServiceListAnswer::default();
     match service_list::read(descriptor, index) {
-        service_list::Answer::Is(item) => ServiceListAnswer {
-            number: 0,
+        Ok(item) => ServiceListAnswer {
             item: service_list_of(item),
+            ..none
         },
-        service_list::Answer::Refused(why) => ServiceListAnswer {
+        Err(why) => ServiceListAnswer {
             number: of_refusal(why),
-            item: no_service_list(),
+            ..none
         },
     }
 }
@@ -159,28 +152,19 @@ fn content_of(item: content::Item) -> ContentItem
     }
 }
 
-fn no_content() -> ContentItem
-    ensures { result ≡ no_content }
-{
-    ContentItem {
-        content_nibble_level_1: 0,
-        content_nibble_level_2: 0,
-        user_byte: 0,
-    }
-}
-
 #[unsafe(no_mangle)]
 pub extern "C" fn lohitunga_read_content(descriptor: &[u8], index: usize) -> ContentAnswer
     ensures { result ≡ content_answer (content descriptor.now index) }
 {
+    let none = ContentAnswer::default();
     match content::read(descriptor, index) {
-        content::Answer::Is(item) => ContentAnswer {
-            number: 0,
+        Ok(item) => ContentAnswer {
             item: content_of(item),
+            ..none
         },
-        content::Answer::Refused(why) => ContentAnswer {
+        Err(why) => ContentAnswer {
             number: of_refusal(why),
-            item: no_content(),
+            ..none
         },
     }
 }
@@ -201,15 +185,6 @@ fn parental_rating_of(item: parental_rating::Item) -> ParentalRatingItem
     }
 }
 
-fn no_parental_rating() -> ParentalRatingItem
-    ensures { result ≡ no_parental_rating }
-{
-    ParentalRatingItem {
-        country_code: 0,
-        rating: 0,
-    }
-}
-
 #[unsafe(no_mangle)]
 pub extern "C" fn lohitunga_read_parental_rating(
     descriptor: &[u8],
@@ -217,14 +192,15 @@ pub extern "C" fn lohitunga_read_parental_rating(
 ) -> ParentalRatingAnswer
     ensures { result ≡ parental_rating_answer (parental_rating descriptor.now index) }
 {
+    let none = ParentalRatingAnswer::default();
     match parental_rating::read(descriptor, index) {
-        parental_rating::Answer::Is(item) => ParentalRatingAnswer {
-            number: 0,
+        Ok(item) => ParentalRatingAnswer {
             item: parental_rating_of(item),
+            ..none
         },
-        parental_rating::Answer::Refused(why) => ParentalRatingAnswer {
+        Err(why) => ParentalRatingAnswer {
             number: of_refusal(why),
-            item: no_parental_rating(),
+            ..none
         },
     }
 }
@@ -239,25 +215,12 @@ pub extern "C" fn lohitunga_local_time_offset_count(descriptor: &[u8]) -> CountA
 fn local_time_offset_of(item: local_time_offset::Item) -> LocalTimeOffsetItem
     ensures { result ≡ local_time_offset_says item }
 {
-    let change = item.time_of_change;
     LocalTimeOffsetItem {
         country_code: item.country_code,
         country_region_id: item.country_region_id,
         local_time_offset: item.local_time_offset,
-        time_of_change: moment_of(change),
+        time_of_change: moment_of(item.time_of_change),
         next_time_offset: item.next_time_offset,
-    }
-}
-
-fn no_local_time_offset() -> LocalTimeOffsetItem
-    ensures { result ≡ no_local_time_offset }
-{
-    LocalTimeOffsetItem {
-        country_code: 0,
-        country_region_id: 0,
-        local_time_offset: 0,
-        time_of_change: no_moment(),
-        next_time_offset: 0,
     }
 }
 
@@ -268,20 +231,19 @@ pub extern "C" fn lohitunga_read_local_time_offset(
 ) -> LocalTimeOffsetAnswer
     ensures { result ≡ local_time_offset_answer (localTimeOffset descriptor.now index) }
 {
+    let none = LocalTimeOffsetAnswer::default();
     match local_time_offset::read(descriptor, index) {
-        local_time_offset::Answer::Is(item) => LocalTimeOffsetAnswer {
-            number: 0,
-            place: 0,
-            digit: 0,
+        Ok(item) => LocalTimeOffsetAnswer {
             item: local_time_offset_of(item),
+            ..none
         },
-        local_time_offset::Answer::Refused(refusal) => {
+        Err(refusal) => {
             let why = why_of(refusal);
             LocalTimeOffsetAnswer {
                 number: why.number,
                 place: why.place,
                 digit: why.digit,
-                item: no_local_time_offset(),
+                ..none
             }
         }
     }

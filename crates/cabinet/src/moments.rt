@@ -1,72 +1,53 @@
 // Times and durations as answers, and inside them.
 ghost use Rattle.std.specs.Prelude.{◌≡◌};
-ghost use Rattle.clock.specs.Time.{told as toldTime};
-ghost use Rattle.clock.specs.Duration.{told as toldDuration};
-ghost use Rattle.cabinet.specs.Clock.{moment_says, no_moment, time_answer, duration_says, no_duration, duration_answer};
+ghost use Rattle.clock.specs.Fault.{told};
+ghost use Rattle.cabinet.specs.Clock.{moment_says, time_answer, duration_says, duration_answer};
 
 use crate::numbers::of_fault;
 use crate::times::{Duration, DurationAnswer, Moment, TimeAnswer};
-use clock::{duration, time};
+use clock::time::{self, Time};
+use clock::{Fault, Hms};
 
 pub fn moment_of(moment: time::Moment) -> Moment
     ensures { result ≡ moment_says moment }
 {
     match moment {
-        time::Moment::Undefined => Moment {
-            mjd: 0,
-            hour: 0,
-            minute: 0,
-            second: 0,
+        None => Moment {
             undefined: 1,
+            ..Moment::default()
         },
-        time::Moment::At(t) => {
-            let clock = t.clock;
-            Moment {
-                mjd: t.mjd,
-                hour: clock.hour,
-                minute: clock.minute,
-                second: clock.second,
-                undefined: 0,
-            }
-        }
+        Some(Time { mjd, clock }) => Moment {
+            mjd,
+            hour: clock.hour,
+            minute: clock.minute,
+            second: clock.second,
+            undefined: 0,
+        },
     }
 }
 
-pub fn no_moment() -> Moment
-    ensures { result ≡ no_moment }
+pub fn time_answer(answer: Result<time::Moment, Fault>) -> TimeAnswer
+    ensures { result ≡ time_answer (told answer) }
 {
-    Moment {
-        mjd: 0,
-        hour: 0,
-        minute: 0,
-        second: 0,
-        undefined: 0,
-    }
-}
-
-pub fn time_answer(answer: time::Answer) -> TimeAnswer
-    ensures { result ≡ time_answer (toldTime answer) }
-{
+    let none = TimeAnswer::default();
     match answer {
-        time::Answer::Is(moment) => TimeAnswer {
-            number: 0,
-            place: 0,
-            digit: 0,
+        Ok(moment) => TimeAnswer {
             time: moment_of(moment),
+            ..none
         },
-        time::Answer::Refused(fault) => {
+        Err(fault) => {
             let why = of_fault(fault);
             TimeAnswer {
                 number: why.number,
                 place: why.place,
                 digit: why.digit,
-                time: no_moment(),
+                ..none
             }
         }
     }
 }
 
-fn duration_of(t: clock::Hms) -> Duration
+fn duration_of(t: Hms) -> Duration
     ensures { result ≡ duration_says t }
 {
     Duration {
@@ -76,33 +57,22 @@ fn duration_of(t: clock::Hms) -> Duration
     }
 }
 
-fn no_duration() -> Duration
-    ensures { result ≡ no_duration }
+pub fn duration_answer(answer: Result<Hms, Fault>) -> DurationAnswer
+    ensures { result ≡ duration_answer (told answer) }
 {
-    Duration {
-        hour: 0,
-        minute: 0,
-        second: 0,
-    }
-}
-
-pub fn duration_answer(answer: duration::Answer) -> DurationAnswer
-    ensures { result ≡ duration_answer (toldDuration answer) }
-{
+    let none = DurationAnswer::default();
     match answer {
-        duration::Answer::Is(t) => DurationAnswer {
-            number: 0,
-            place: 0,
-            digit: 0,
+        Ok(t) => DurationAnswer {
             duration: duration_of(t),
+            ..none
         },
-        duration::Answer::Refused(fault) => {
+        Err(fault) => {
             let why = of_fault(fault);
             DurationAnswer {
                 number: why.number,
                 place: why.place,
                 digit: why.digit,
-                duration: no_duration(),
+                ..none
             }
         }
     }

@@ -1,33 +1,34 @@
 // The descriptors that hold texts.
 ghost use Rattle.std.specs.Prelude.{◌≡◌};
-ghost use Rattle.texts.specs.Whole.{told};
+ghost use Rattle.layout.specs.Refusal.{told};
 ghost use Rattle.texts.specs.NetworkName.{network_name};
 ghost use Rattle.texts.specs.Stuffing.{stuffing};
 ghost use Rattle.texts.specs.Service.{service};
 ghost use Rattle.texts.specs.ShortEvent.{short_event};
-ghost use Rattle.cabinet.specs.Texts.{part_says, no_part, text_answer, service_says, no_service, service_answer};
-ghost use Rattle.cabinet.specs.Texts.{short_event_says, no_short_event, short_event_answer};
+ghost use Rattle.cabinet.specs.Texts.{part_says, text_answer, service_says, service_answer};
+ghost use Rattle.cabinet.specs.Texts.{short_event_says, short_event_answer};
 
 use crate::numbers::of_refusal;
+use layout::Refusal;
 use texts::{network_name, service, short_event, stuffing};
 
 // A part of the descriptor's bytes, its start counted from the tag as 0.
 #[repr(C)]
-#[derive(Clone, Copy)]
+#[derive(Clone, Copy, Default)]
 pub struct Part {
     pub start: usize,
     pub size: usize,
 }
 
 #[repr(C)]
-#[derive(Clone, Copy)]
+#[derive(Clone, Copy, Default)]
 pub struct TextAnswer {
     pub number: u32,
     pub text: Part,
 }
 
 #[repr(C)]
-#[derive(Clone, Copy)]
+#[derive(Clone, Copy, Default)]
 pub struct Service {
     pub service_type: u8,
     pub service_provider_name: Part,
@@ -35,14 +36,14 @@ pub struct Service {
 }
 
 #[repr(C)]
-#[derive(Clone, Copy)]
+#[derive(Clone, Copy, Default)]
 pub struct ServiceAnswer {
     pub number: u32,
     pub service: Service,
 }
 
 #[repr(C)]
-#[derive(Clone, Copy)]
+#[derive(Clone, Copy, Default)]
 pub struct ShortEvent {
     // Three characters, the first the highest byte.
     pub language_code: u32,
@@ -51,7 +52,7 @@ pub struct ShortEvent {
 }
 
 #[repr(C)]
-#[derive(Clone, Copy)]
+#[derive(Clone, Copy, Default)]
 pub struct ShortEventAnswer {
     pub number: u32,
     pub short_event: ShortEvent,
@@ -66,24 +67,19 @@ fn part_of(part: layout::Part) -> Part
     }
 }
 
-fn no_part() -> Part
-    ensures { result ≡ no_part }
-{
-    Part { start: 0, size: 0 }
-}
-
 // A body that is one part.
-fn text_of(answer: network_name::Answer) -> TextAnswer
+fn text_of(answer: Result<layout::Part, Refusal>) -> TextAnswer
     ensures { result ≡ text_answer (told answer) }
 {
+    let none = TextAnswer::default();
     match answer {
-        network_name::Answer::Is(bytes) => TextAnswer {
-            number: 0,
-            text: part_of(bytes),
+        Ok(read) => TextAnswer {
+            text: part_of(read),
+            ..none
         },
-        network_name::Answer::Refused(why) => TextAnswer {
+        Err(why) => TextAnswer {
             number: of_refusal(why),
-            text: no_part(),
+            ..none
         },
     }
 }
@@ -105,22 +101,10 @@ pub extern "C" fn lohitunga_read_stuffing(descriptor: &[u8]) -> TextAnswer
 fn service_of(read: service::Service) -> Service
     ensures { result ≡ service_says read }
 {
-    let provider = read.service_provider_name;
-    let name = read.service_name;
     Service {
         service_type: read.service_type,
-        service_provider_name: part_of(provider),
-        service_name: part_of(name),
-    }
-}
-
-fn no_service() -> Service
-    ensures { result ≡ no_service }
-{
-    Service {
-        service_type: 0,
-        service_provider_name: no_part(),
-        service_name: no_part(),
+        service_provider_name: part_of(read.service_provider_name),
+        service_name: part_of(read.service_name),
     }
 }
 
@@ -128,14 +112,15 @@ fn no_service() -> Service
 pub extern "C" fn lohitunga_read_service(descriptor: &[u8]) -> ServiceAnswer
     ensures { result ≡ service_answer (service descriptor.now) }
 {
+    let none = ServiceAnswer::default();
     match service::read(descriptor) {
-        service::Answer::Is(read) => ServiceAnswer {
-            number: 0,
+        Ok(read) => ServiceAnswer {
             service: service_of(read),
+            ..none
         },
-        service::Answer::Refused(why) => ServiceAnswer {
+        Err(why) => ServiceAnswer {
             number: of_refusal(why),
-            service: no_service(),
+            ..none
         },
     }
 }
@@ -143,22 +128,10 @@ pub extern "C" fn lohitunga_read_service(descriptor: &[u8]) -> ServiceAnswer
 fn short_event_of(read: short_event::ShortEvent) -> ShortEvent
     ensures { result ≡ short_event_says read }
 {
-    let name = read.event_name;
-    let text = read.text;
     ShortEvent {
         language_code: read.language_code,
-        event_name: part_of(name),
-        text: part_of(text),
-    }
-}
-
-fn no_short_event() -> ShortEvent
-    ensures { result ≡ no_short_event }
-{
-    ShortEvent {
-        language_code: 0,
-        event_name: no_part(),
-        text: no_part(),
+        event_name: part_of(read.event_name),
+        text: part_of(read.text),
     }
 }
 
@@ -166,14 +139,15 @@ fn no_short_event() -> ShortEvent
 pub extern "C" fn lohitunga_read_short_event(descriptor: &[u8]) -> ShortEventAnswer
     ensures { result ≡ short_event_answer (short_event descriptor.now) }
 {
+    let none = ShortEventAnswer::default();
     match short_event::read(descriptor) {
-        short_event::Answer::Is(read) => ShortEventAnswer {
-            number: 0,
+        Ok(read) => ShortEventAnswer {
             short_event: short_event_of(read),
+            ..none
         },
-        short_event::Answer::Refused(why) => ShortEventAnswer {
+        Err(why) => ShortEventAnswer {
             number: of_refusal(why),
-            short_event: no_short_event(),
+            ..none
         },
     }
 }

@@ -5,7 +5,7 @@ ghost use Rattle.clock.specs.Duration.{duration_of};
 ghost use Rattle.clock.specs.Offset.{offset_of};
 ghost use Rattle.calendar.specs.Calendar.{date_of};
 ghost use Rattle.cabinet.specs.Numbers.{is_set};
-ghost use Rattle.cabinet.specs.Clock.{time_answer, duration_answer, offset_answer, date_says, no_date, date_answer};
+ghost use Rattle.cabinet.specs.Clock.{time_answer, duration_answer, offset_answer, date_says, date_answer};
 
 use crate::moments::{duration_answer, time_answer};
 use crate::numbers::of_fault;
@@ -13,7 +13,7 @@ use clock::{duration, time};
 
 // A time that was read.
 #[repr(C)]
-#[derive(Clone, Copy)]
+#[derive(Clone, Copy, Default)]
 pub struct Moment {
     pub mjd: u16,
     pub hour: u8,
@@ -24,7 +24,7 @@ pub struct Moment {
 }
 
 #[repr(C)]
-#[derive(Clone, Copy)]
+#[derive(Clone, Copy, Default)]
 pub struct TimeAnswer {
     pub number: u32,
     pub place: usize,
@@ -33,7 +33,7 @@ pub struct TimeAnswer {
 }
 
 #[repr(C)]
-#[derive(Clone, Copy)]
+#[derive(Clone, Copy, Default)]
 pub struct Duration {
     pub hour: u8,
     pub minute: u8,
@@ -41,7 +41,7 @@ pub struct Duration {
 }
 
 #[repr(C)]
-#[derive(Clone, Copy)]
+#[derive(Clone, Copy, Default)]
 pub struct DurationAnswer {
     pub number: u32,
     pub place: usize,
@@ -50,7 +50,7 @@ pub struct DurationAnswer {
 }
 
 #[repr(C)]
-#[derive(Clone, Copy)]
+#[derive(Clone, Copy, Default)]
 pub struct OffsetAnswer {
     pub number: u32,
     pub place: usize,
@@ -60,7 +60,7 @@ pub struct OffsetAnswer {
 }
 
 #[repr(C)]
-#[derive(Clone, Copy)]
+#[derive(Clone, Copy, Default)]
 pub struct Date {
     pub year: u16,
     // From 1, January.
@@ -69,7 +69,7 @@ pub struct Date {
 }
 
 #[repr(C)]
-#[derive(Clone, Copy)]
+#[derive(Clone, Copy, Default)]
 pub struct DateAnswer {
     pub number: u32,
     pub place: usize,
@@ -96,20 +96,16 @@ pub extern "C" fn lohitunga_read_duration(hour: u8, minute: u8, second: u8) -> D
 pub extern "C" fn lohitunga_read_offset(behind: u8, hour: u8, minute: u8) -> OffsetAnswer
     ensures { result ≡ offset_answer (offset_of (is_set behind) hour minute) }
 {
+    let none = OffsetAnswer::default();
     match clock::offset::read(behind != 0, hour, minute) {
-        clock::offset::Answer::Minutes(minutes) => OffsetAnswer {
-            number: 0,
-            place: 0,
-            digit: 0,
-            minutes,
-        },
-        clock::offset::Answer::Refused(fault) => {
+        Ok(minutes) => OffsetAnswer { minutes, ..none },
+        Err(fault) => {
             let why = of_fault(fault);
             OffsetAnswer {
                 number: why.number,
                 place: why.place,
                 digit: why.digit,
-                minutes: 0,
+                ..none
             }
         }
     }
@@ -125,34 +121,23 @@ fn date_given(date: calendar::Date) -> Date
     }
 }
 
-fn no_date() -> Date
-    ensures { result ≡ no_date }
-{
-    Date {
-        year: 0,
-        month: 0,
-        day: 0,
-    }
-}
-
 #[unsafe(no_mangle)]
 pub extern "C" fn lohitunga_read_date(mjd: u16) -> DateAnswer
     ensures { result ≡ date_answer (date_of mjd) }
 {
+    let none = DateAnswer::default();
     match calendar::date_of(mjd) {
-        calendar::Answer::Is(date) => DateAnswer {
-            number: 0,
-            place: 0,
-            digit: 0,
+        Ok(date) => DateAnswer {
             date: date_given(date),
+            ..none
         },
-        calendar::Answer::Refused(fault) => {
+        Err(fault) => {
             let why = of_fault(fault);
             DateAnswer {
                 number: why.number,
                 place: why.place,
                 digit: why.digit,
-                date: no_date(),
+                ..none
             }
         }
     }

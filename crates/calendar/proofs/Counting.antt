@@ -1,29 +1,14 @@
--- What is counted off with pencil and paper: the days of a year, and those of a month by the list of twelve.
+-- What is counted off with pencil and paper: whole years, and whole months.
 use mathlib.Core.Path.{◌≡◌, refl, sym, ap, ◌∙◌}
 use mathlib.Core.Logic.{⊎_elim}
 use mathlib.Core.Bool.{Bool, true, false}
-use mathlib.Core.List.{List}
-use Prim.Native.Nat.{ℕ, zero, suc, ◌+◌, ◌-◌, ◌*◌, ◌%◌, ◌<◌, ◌≤◌}
+use Prim.Native.Nat.{ℕ, zero, suc, ◌+◌, ◌-◌, ◌*◌, ◌<◌, ◌≤◌}
 use native.Mathlib.Nat.{eq-or-lt_of_le}
 use native.Mathlib.Omega.{arith}
-use borrow.Author.Tests.{eq-eqb, ne_eqb}
-use lib.Dec.{eqb}
-use lib.ListN.{get_or}
 use Rattle.calendar.specs.declared.Date.{Date}
 use Rattle.calendar.specs.Calendar.{leap, days_in, dated, gregorian}
 use Rattle.calendar.specs.Dates.{days_of_months, days_of_years, mjd_of, Valid}
-use Rattle.calendar.proofs.Dates.{lengths, month_adds, of_date}
-
-module _ (y : ℕ) where
-  -- a year that 4 does not divide is none of the hundreds
-  pub no_fourth : (y % 4 ≡ 0 → ⊥) → leap y ≡ false
-  no_fourth h = rw (ne_eqb (y % 100) 0 (λ e. h (omega arith)), ne_eqb (y % 4) 0 h) refl
-
-  pub a_fourth : y % 4 ≡ 0 → (y % 100 ≡ 0 → ⊥) → leap y ≡ true
-  a_fourth e h = rw (ne_eqb (y % 100) 0 h, eq-eqb (y % 4) 0 e) refl
-
-  pub a_hundred : y % 100 ≡ 0 → leap y ≡ eqb (y % 400) 0
-  a_hundred e = rw (eq-eqb (y % 100) 0 e) refl
+use Rattle.calendar.proofs.Dates.{is_length, month_adds, year_adds, of_date}
 
 pub leap_year : (y : ℕ) → leap y ≡ true → days_of_months y 12 ≡ 366
 unfolding days_of_months
@@ -32,26 +17,6 @@ leap_year y e = rw e refl
 pub common_year : (y : ℕ) → leap y ≡ false → days_of_months y 12 ≡ 365
 unfolding days_of_months
 common_year y e = rw e refl
-
--- the months of a common year, of 1901 say: by computation the list of the code
-abbrev pub months : List ℕ
-months = lengths 1901
-
--- they are those of every year, but for a leap year's February
-same_but_february : (y i : ℕ) → (i ≡ 1 → leap y ≡ false) → get_or months i 0 ≡ get_or (lengths y) i 0
-same_but_february y zero h = refl
-same_but_february y (suc zero) h = rw (h refl) refl
-same_but_february y (suc (suc i)) h = refl
-
-pub february-of-28 : (m : ℕ) → m ≡ 2 → get_or months (m - 1) 0 ≡ 28
-february-of-28 m e = rw e refl
-
-module _ (y m : ℕ) where
-  pub by_the_list : 1 ≤ m → (m ≡ 2 → leap y ≡ false) → get_or months (m - 1) 0 ≡ days_in y m
-  by_the_list p h = same_but_february y (m - 1) (λ (e : m - 1 ≡ 1). h (omega arith))
-
-  pub a_day_more : m ≡ 2 → leap y ≡ true → get_or months (m - 1) 0 + 1 ≡ days_in y m
-  a_day_more e f = rw (e, f) refl
 
 -- no year is shorter than 365 days
 pub year_long : (y : ℕ) → 365 ≤ days_of_months y 12
@@ -90,3 +55,8 @@ module _ (y m left : ℕ) (p : 1 ≤ m) where
       let valid : Valid t =
       record { year = from; month = p; twelve = l; day = omega arith; inside = omega arith } in
       sym (of_date t valid (omega arith)) ∙ ap gregorian mjd-of
+
+-- what counting off rests on: of years, and of months
+pub ruleset years = (year_adds, years_long, year_long)
+
+pub ruleset months = (is_length, month_off, not_december)

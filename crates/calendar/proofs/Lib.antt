@@ -1,5 +1,4 @@
 -- The laws that the proofs cite, and what holds of the answers.
 pub mod Dates
 pub mod Counting
-pub mod Unique
 pub mod Reported

@@ -1,11 +1,9 @@
 -- The Gregorian calendar, a day at a time.
 use Rattle.std.specs.Prelude.{Bool, [], ◌∷◌, ℕ, zero, suc, ◌+◌, ◌-◌, ◌%◌, eqb, ltb, get_or, if◌then◌else◌}
-use Rattle.wire.specs.Reading.{value, refused, ◌>>=◌}
-use Rattle.clock.specs.Fault.{Answered, numbered}
+use Rattle.wire.specs.Reading.{value, ◌>>=◌}
+use Rattle.clock.specs.Fault.{Answered}
 use Rattle.clock.specs.Time.{day}
 use Rattle.calendar.specs.declared.Date.{Date}
-use Rattle.calendar.specs.declared.Answer.{Answer}
-use Rattle.calendar.specs.declared.Answer.TheVariants.{Is, Refused}
 
 -- every fourth year is a leap year, but of the hundreds every fourth only
 abbrev pub leap : ℕ → Bool
@@ -38,8 +36,3 @@ gregorian mjd = days_on (mjd - 15079)
 -- "the date is the Gregorian one of the MJD"; "65 MJD below 15,079"
 unfoldable pub date_of : ℕ → Answered Date
 date_of mjd = day 0 mjd >>= λ d. value (gregorian d)
-
--- document 01's number for every answer
-abbrev pub told : Answer → Answered Date
-told (Is t) = value t
-told (Refused f) = refused (numbered f)

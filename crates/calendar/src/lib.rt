@@ -2,7 +2,8 @@
 #![tactic(auto)]
 
 ghost use Rattle.std.specs.Prelude.{◌≡◌, ◌+◌, ◌-◌, ◌<◌, ◌≤◌};
-ghost use Rattle.calendar.specs.Calendar.{leap, days_in, date_of, gregorian, told};
+ghost use Rattle.clock.specs.Fault.{told};
+ghost use Rattle.calendar.specs.Calendar.{leap, days_in, date_of, gregorian};
 ghost use Rattle.calendar.specs.Dates.{days_of_months, days_of_years};
 
 use clock::Fault;
@@ -15,12 +16,6 @@ pub struct Date {
     pub day: u8,
 }
 
-#[derive(Clone, Copy)]
-pub enum Answer {
-    Is(Date),
-    Refused(Fault),
-}
-
 // The days of January to December; February has a day more in a leap year.
 const MONTHS: [u16; 12] = [31, 28, 31, 30, 31, 30, 31, 31, 30, 31, 30, 31];
 
@@ -28,32 +23,26 @@ const MONTHS: [u16; 12] = [31, 28, 31, 30, 31, 30, 31, 31, 30, 31, 30, 31];
 fn is_leap(year: u16) -> bool
     ensures { result ≡ leap year }
 {
-    if year % 4 != 0 {
-        return false;
-    }
-    if year % 100 != 0 {
-        return true;
-    }
-    year % 400 == 0
+    year % 4 == 0 && (year % 100 != 0 || year % 400 == 0)
 }
 
+#[tactic(auto, using(crate::proofs::Counting::leap_year, crate::proofs::Counting::common_year))]
 fn year_length(year: u16) -> u16
     ensures { result ≡ days_of_months year 12 }
 {
     if is_leap(year) { 366 } else { 365 }
 }
 
-#[tactic(auto, using(crate::proofs::Counting::by_the_list))]
 fn month_length(year: u16, month: u8) -> u16
     requires { (1 ≤ month) × (month ≤ 12) }
     ensures { result ≡ days_in year month }
 {
-    let months = MONTHS;
-    let length = months[month as usize - 1];
-    if month != 2 {
-        return length;
+    let length = MONTHS[month as usize - 1];
+    if month == 2 && is_leap(year) {
+        length + 1
+    } else {
+        length
     }
-    if is_leap(year) { length + 1 } else { length }
 }
 
 // A year, and the days that are left from its first of January on.
@@ -64,6 +53,7 @@ struct InYear {
 }
 
 // Whole years counted off, from 1900 on.
+#[tactic(auto, using(crate::proofs::Counting::years), unfolding(crate::specs::Dates::days_of_years))]
 fn years_off(days: u16) -> InYear
     ensures { (1900 ≤ result.year) × (days_of_years (result.year - 1900) + result.left ≡ days)
         × (result.left < days_of_months result.year 12) }
@@ -78,13 +68,12 @@ fn years_off(days: u16) -> InYear
 }
 
 // From day 15,020, the first of January 1900, on: whole years off, then whole months; a month's days count from 1.
+#[tactic(auto, using(crate::proofs::Counting::months), unfolding(crate::specs::Dates::days_of_months))]
 fn counted(mjd: u16) -> Date
     requires { 15079 ≤ mjd }
     ensures { result ≡ gregorian mjd }
 {
-    let at = years_off(mjd - 15_020);
-    let year = at.year;
-    let mut left = at.left;
+    let InYear { year, mut left } = years_off(mjd - 15_020);
     let mut month: u8 = 1;
     while month_length(year, month) <= left {
         left -= month_length(year, month);
@@ -98,12 +87,12 @@ fn counted(mjd: u16) -> Date
 }
 
 #[tactic(auto, unfolding(crate::specs::Calendar::date_of))]
-pub fn date_of(mjd: u16) -> Answer
+pub fn date_of(mjd: u16) -> Result<Date, Fault>
     ensures { told result ≡ date_of mjd }
 {
     if mjd < 15079 {
-        Answer::Refused(Fault::TooEarly { place: 0 })
+        Err(Fault::TooEarly { place: 0 })
     } else {
-        Answer::Is(counted(mjd))
+        Ok(counted(mjd))
     }
 }

@@ -9,6 +9,7 @@ use native.Mathlib.Omega.{arith}
 use borrow.Author.Tests.{eqb-true, eq-eqb, ne_eqb, ltb-false, lt-ltb, le-ltb}
 use lib.Dec.{eqb, ltb}
 use lib.IntN.{ℤ, pos, neg_ℤ, nat_abs}
+use Rattle.std.specs.Prelude.{None, Some}
 use Rattle.wire.specs.Reading.{Result, value, refused}
 use Rattle.wire.specs.Number.{number}
 use Rattle.wire.specs.Digits.{digit, bcd_after, bcd_of, bcd_show}
@@ -18,13 +19,11 @@ use Rattle.wire.proofs.Decimal.{bcd_bad}
 use Rattle.wire.proofs.Shown.{bcd_shown, bcd_of_shown, show_below}
 use Rattle.clock.specs.Fault.{RefusedAs, outOfRange, in_field}
 use Rattle.clock.specs.Field.{field, hms, InRange, Written}
-use Rattle.clock.specs.Time.{day, time_at, time_of, Defined, time_shown}
+use Rattle.clock.specs.Time.{Moment, day, time_at, time_of, Defined, time_shown}
 use Rattle.clock.specs.Duration.{duration_of}
 use Rattle.clock.specs.Offset.{signed, offset_at, offset_of, offset_shown}
 use Rattle.clock.specs.declared.Hms.{Hms}
 use Rattle.clock.specs.declared.time.Time.{Time}
-use Rattle.clock.specs.declared.time.Moment.{Moment}
-use Rattle.clock.specs.declared.time.Moment.TheVariants.{Undefined, At}
 use Rattle.clock.proofs.Ranges.{field_below, size_of}
 
 -- ---- one field
@@ -157,7 +156,7 @@ day_is at mjd d =
     if-case (λ x. x ≡ value d → (15079 ≤ d) × (mjd ≡ d)) (ltb mjd 15079) (λ _ e. absurd (never (sym e)))
     (λ h e. (subst (λ n. 15079 ≤ n) (value_is e) (ltb-false mjd 15079 h), value_is e))
 
-not_at : {t : Time} → At t ≡ Undefined → ⊥
+not_at : {t : Time} → Some t ≡ None → ⊥
 not_at e = let z : ◌≡◌ {A = ℕ} 0 1 = cc in omega arith
 
 -- no two digits are eight ones
@@ -170,38 +169,38 @@ module _ (mjd h m s : ℕ) (days : mjd < 65536) (hb : h < 256) (mb : m < 256) (s
   Told x = Defined x × (number (mjd ∷ h ∷ m ∷ s ∷ []) ≡ time_shown x)
 
   undefined_at : (at : ℕ)
-      → time_at at mjd h m s ≡ value Undefined ↔ (mjd ≡ 0xFFFF) × (h ≡ 0xFF) × (m ≡ 0xFF) × (s ≡ 0xFF)
+      → time_at at mjd h m s ≡ value None ↔ (mjd ≡ 0xFFFF) × (h ≡ 0xFF) × (m ≡ 0xFF) × (s ≡ 0xFF)
   unfolding time_at
   undefined_at at = (
-    if-case (λ x. x ≡ value Undefined → (mjd ≡ 0xFFFF) × (h ≡ 0xFF) × (m ≡ 0xFF) × (s ≡ 0xFF))
+    if-case (λ x. x ≡ value None → (mjd ≡ 0xFFFF) × (h ≡ 0xFF) × (m ≡ 0xFF) × (s ≡ 0xFF))
         (eqb (number (mjd ∷ h ∷ m ∷ s ∷ [])) 0xFF_FFFF_FFFF)
         (λ g _. let e = eqb-true (number (mjd ∷ h ∷ m ∷ s ∷ [])) 0xFF_FFFF_FFFF g in
         (omega arith, omega arith, omega arith, omega arith))
         (λ _ e.
-        let a = through (day at mjd) _ Undefined e in
-        let b = through (hms (at + 2) 24 h m s) _ Undefined a.2 in
+        let a = through (day at mjd) _ None e in
+        let b = through (hms (at + 2) 24 h m s) _ None a.2 in
         absurd (not_at (value_is b.2))),
     λ x. rw (eq-eqb (number (mjd ∷ h ∷ m ∷ s ∷ [])) 0xFF_FFFF_FFFF (omega (arith, x.0, x.1, x.2, x.3))),
   )
 
   -- "Forty ones mean "undefined", before any check"
-  pub undefined_exactly : time_of mjd h m s ≡ value Undefined ↔ (mjd ≡ 0xFFFF) × (h ≡ 0xFF) × (m ≡ 0xFF) × (s ≡ 0xFF)
+  pub undefined_exactly : time_of mjd h m s ≡ value None ↔ (mjd ≡ 0xFFFF) × (h ≡ 0xFF) × (m ≡ 0xFF) × (s ≡ 0xFF)
   undefined_exactly = undefined_at 0
 
   -- what is read is what its forty bits show, wherever it stands
   pub time_at_exactly : (at : ℕ) (x : Moment)
       → time_at at mjd h m s ≡ value x ↔ Defined x × (number (mjd ∷ h ∷ m ∷ s ∷ []) ≡ time_shown x)
   unfolding time_at
-  time_at_exactly at Undefined = (
+  time_at_exactly at None = (
     λ e. let u = (undefined_at at).0 e in (tt, omega (arith, u.0, u.1, u.2, u.3)),
     λ x. rw (eq-eqb (number (mjd ∷ h ∷ m ∷ s ∷ [])) 0xFF_FFFF_FFFF x.1),
   )
-  time_at_exactly at (At t) = (
-    if-case (λ x. x ≡ value (At t) → Told (At t)) (eqb (number (mjd ∷ h ∷ m ∷ s ∷ [])) 0xFF_FFFF_FFFF)
+  time_at_exactly at (Some t) = (
+    if-case (λ x. x ≡ value (Some t) → Told (Some t)) (eqb (number (mjd ∷ h ∷ m ∷ s ∷ [])) 0xFF_FFFF_FFFF)
         (λ _ e. absurd (not_at (sym (value_is e))))
         (λ _ e.
-        let a = through (day at mjd) _ (At t) e in
-        let b = through (hms (at + 2) 24 h m s) _ (At t) a.2 in
+        let a = through (day at mjd) _ (Some t) e in
+        let b = through (hms (at + 2) 24 h m s) _ (Some t) a.2 in
         let d = day_is at mjd a.0 a.1 in
         let c = (hms_exactly (at + 2) 24 (omega arith) h m s hb mb sb b.0).0 b.1 in
         subst Told (value_is b.2) ((d.0, c.0), omega (arith, d.1, c.1.hour, c.1.minute, c.1.second))),

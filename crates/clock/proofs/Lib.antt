@@ -1,5 +1,4 @@
 -- The laws that the proofs cite, and what holds of the answers.
-pub mod SignedMinutes
 pub mod Ranges
 pub mod Exactly
 pub mod FirstWrong

@@ -7,6 +7,7 @@ use native.Mathlib.Omega.{arith}
 use borrow.Author.Tests.{ltb-true, ltb-false}
 use lib.Dec.{eqb, ltb}
 use lib.IntN.{ℤ, nat_abs}
+use Rattle.std.specs.Prelude.{Some}
 use Rattle.wire.specs.Reading.{value, ◌>>=◌}
 use Rattle.wire.proofs.ReadingLaws.{value_is, never, through}
 use Rattle.wire.specs.Number.{number}
@@ -19,7 +20,6 @@ use Rattle.clock.specs.Duration.{duration_of}
 use Rattle.clock.specs.Offset.{signed, offset_at, offset_of}
 use Rattle.clock.specs.declared.Hms.{Hms}
 use Rattle.clock.specs.declared.time.Time.{Time}
-use Rattle.clock.specs.declared.time.Moment.TheVariants.{At}
 
 pub field_below : (at b limit n : ℕ) → field at b limit ≡ value n → n < limit
 unfolding field
@@ -51,17 +51,17 @@ day_from at mjd d =
     (λ _ e. absurd (never (sym e))) (λ h e. subst (λ n. 15079 ≤ n) (value_is e) (ltb-false mjd 15079 h))
 
 defined : (mjd h m s : ℕ) (t : Time)
-    → (day 0 mjd >>= λ d. hms 2 24 h m s >>= λ c. value (At (record { mjd = d; clock = c }))) ≡ value (At t)
-    → Defined (At t)
+    → (day 0 mjd >>= λ d. hms 2 24 h m s >>= λ c. value (Some (record { mjd = d; clock = c }))) ≡ value (Some t)
+    → Defined (Some t)
 defined mjd h m s t e =
-    let a = through (day 0 mjd) _ (At t) e in
-    let b = through (hms 2 24 h m s) _ (At t) a.2 in
+    let a = through (day 0 mjd) _ (Some t) e in
+    let b = through (hms 2 24 h m s) _ (Some t) a.2 in
     subst Defined (value_is b.2) (day_from 0 mjd a.0 a.1, hms_in_range 2 24 h m s b.0 b.1)
 
-pub time_in_range : (mjd h m s : ℕ) (t : Time) → time_of mjd h m s ≡ value (At t) → Defined (At t)
+pub time_in_range : (mjd h m s : ℕ) (t : Time) → time_of mjd h m s ≡ value (Some t) → Defined (Some t)
 unfolding time_at
 time_in_range mjd h m s t =
-    if-case (λ x. x ≡ value (At t) → Defined (At t)) (eqb (number (mjd ∷ h ∷ m ∷ s ∷ [])) 0xFF_FFFF_FFFF)
+    if-case (λ x. x ≡ value (Some t) → Defined (Some t)) (eqb (number (mjd ∷ h ∷ m ∷ s ∷ [])) 0xFF_FFFF_FFFF)
     (λ _ e. let z : ◌≡◌ {A = ℕ} 0 1 = cc in absurd (omega arith))
     (λ _ e. defined mjd h m s t e)
 

@@ -11,7 +11,7 @@ use borrow.Author.Tests.{ltb-true, ltb-false}
 use lib.Dec.{eqb, ltb}
 use lib.ListN.{get_or}
 use Rattle.wire.specs.Bytes.{Bytes}
-use Rattle.std.specs.Prelude.{if◌then◌else◌}
+use Rattle.std.specs.Prelude.{None, Some, if◌then◌else◌}
 use Rattle.wire.specs.Reading.{Result, value, refused, ◌>>=◌}
 use Rattle.wire.specs.Number.{number, number_at}
 use Rattle.wire.specs.Digits.{digit, bcd_of, digit_from, NoneBad}
@@ -21,11 +21,9 @@ use Rattle.wire.proofs.Decimal.{bcd_decimal, bcd_first, bcd_none}
 use Rattle.wire.proofs.HalfBytes.{half_of, none_bad_same, first_bad_same}
 use Rattle.clock.specs.Fault.{Answered, bad_digit, outOfRange, too_early, in_field}
 use Rattle.clock.specs.Field.{below, field, hms}
-use Rattle.clock.specs.Time.{day, time_at, time_of}
+use Rattle.clock.specs.Time.{Moment, day, time_at, time_of}
 use Rattle.clock.specs.Duration.{duration_of}
 use Rattle.clock.specs.Offset.{offset_at, offset_of}
-use Rattle.clock.specs.declared.time.Moment.{Moment}
-use Rattle.clock.specs.declared.time.Moment.TheVariants.{Undefined, At}
 use Rattle.clock.specs.Reported.{Checked, digits, clock, mjd, halves, two_digits, BadDigit, Judged, RefusalTells, offset_fields, duration_fields, time_fields}
 use Rattle.clock.proofs.FirstWrong.{judged_value, judged_refusal, judged_then, judged_tells}
 
@@ -133,7 +131,7 @@ module _ (b : List ℕ) (bytes : Bytes b) where
     Fields = do
       d ← day at (number_at 2 b at)
       t ← hms (at + 2) 24 Hour Minute Second
-      value (At (record { mjd = d; clock = t }))
+      value (Some (record { mjd = d; clock = t }))
 
     clock_judged : Judged b Clock (hms (at + 2) 24 Hour Minute Second)
     clock_judged =
@@ -146,15 +144,15 @@ module _ (b : List ℕ) (bytes : Bytes b) where
         judged_then b (mjd at ∷ []) Clock _ _ (day_judged at) (λ d.
         judged_then b Clock [] _ _ clock_judged (λ t. judged_value b [] _ tt))
 
-    either_judged : (ones : Bool) → Judged b (if ones then [] else FourFields) (if ones then value Undefined else Fields)
-    either_judged true = judged_value b [] Undefined tt
+    either_judged : (ones : Bool) → Judged b (if ones then [] else FourFields) (if ones then value None else Fields)
+    either_judged true = judged_value b [] None tt
     either_judged false = four_judged
 
     -- "Forty ones mean "undefined", before any check; else MJD, hour, minute and second are four fields."
     pub time_judged : Judged b (time_fields b at) (time_at at (number_at 2 b at) Hour Minute Second)
     unfolding time_at
     time_judged =
-        subst (λ n. Judged b (time_fields b at) (if eqb n 0xFF_FFFF_FFFF then value Undefined else Fields)) (sym forty_bits)
+        subst (λ n. Judged b (time_fields b at) (if eqb n 0xFF_FFFF_FFFF then value None else Fields)) (sym forty_bits)
         (either_judged (eqb (number_at 5 b at) 0xFF_FFFF_FFFF))
 
 -- ---- by themselves: a place counts in their own bytes

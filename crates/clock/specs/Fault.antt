@@ -1,5 +1,5 @@
 -- What the readings of fields, times and descriptors answer, and the numbers of what can be wrong with a field.
-use Rattle.std.specs.Prelude.{ℕ, ◌≡◌}
+use Rattle.std.specs.Prelude.{ℕ, ◌≡◌, Result as Returned, Ok, Err}
 use Rattle.wire.specs.Reading.{Result, value, refused}
 use Rattle.clock.specs.declared.Fault.{Fault}
 use Rattle.clock.specs.declared.Fault.TheVariants.{BadDigit, OutOfRange, TooEarly}
@@ -49,3 +49,8 @@ abbrev pub numbered : Fault → Why
 numbered (BadDigit at j) = bad_digit at j
 numbered (OutOfRange at) = outOfRange at
 numbered (TooEarly at) = too_early at
+
+-- what a reading returns, as document 01 tells it
+abbrev pub told : {A : Type 0} → Returned A Fault → Answered A
+told (Ok a) = value a
+told (Err f) = refused (numbered f)

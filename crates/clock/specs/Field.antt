@@ -2,12 +2,8 @@
 use Rattle.std.specs.Prelude.{◌≡◌, ℕ, ◌+◌, ◌<◌, ltb, if◌then◌else◌}
 use Rattle.wire.specs.Reading.{value, refused, ◌>>=◌}
 use Rattle.wire.specs.Digits.{bcd_of, bcd_show}
-use Rattle.clock.specs.Fault.{Answered, outOfRange, in_field, numbered}
+use Rattle.clock.specs.Fault.{Answered, outOfRange, in_field}
 use Rattle.clock.specs.declared.Hms.{Hms}
-use Rattle.clock.specs.declared.field.Field.{Field}
-use Rattle.clock.specs.declared.field.Field.TheVariants.{Is, Refused}
-use Rattle.clock.specs.declared.field.Clock.{Clock}
-use Rattle.clock.specs.declared.field.Clock.TheVariants as clock
 
 -- "64 hour above 23, minute or second above 59"
 abbrev pub below : ℕ → ℕ → ℕ → Answered ℕ
@@ -36,13 +32,3 @@ pub record Written (t : Hms) (h m s : ℕ) : Type 0 where
   pub hour : bcd_show 2 t.hour ≡ h
   pub minute : bcd_show 2 t.minute ≡ m
   pub second : bcd_show 2 t.second ≡ s
-
--- document 01's number for every answer
-abbrev pub told : Field → Answered ℕ
-told (Is n) = value n
-told (Refused f) = refused (numbered f)
-
--- and of a whole clock
-abbrev pub told_hms : Clock → Answered Hms
-told_hms (clock.Is t) = value t
-told_hms (clock.Refused f) = refused (numbered f)

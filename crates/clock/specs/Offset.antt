@@ -1,11 +1,9 @@
 -- An offset from UTC.
 use Rattle.std.specs.Prelude.{Bool, true, false, ℕ, ◌+◌, ◌*◌, ◌/◌, ◌%◌, ℤ, pos, neg_ℤ, nat_abs}
-use Rattle.wire.specs.Reading.{value, refused, ◌>>=◌}
+use Rattle.wire.specs.Reading.{value, ◌>>=◌}
 use Rattle.wire.specs.Digits.{bcd_show}
-use Rattle.clock.specs.Fault.{Answered, numbered}
+use Rattle.clock.specs.Fault.{Answered}
 use Rattle.clock.specs.Field.{field}
-use Rattle.clock.specs.declared.offset.Answer.{Answer}
-use Rattle.clock.specs.declared.offset.Answer.TheVariants.{Minutes, Refused}
 
 -- "An offset is signed minutes (polarity 1 is behind UTC); 1 with 0000 is zero."
 abbrev pub signed : Bool → ℕ → ℤ
@@ -26,8 +24,3 @@ offset_of behind h m = offset_at 0 behind h m
 -- the number that its sixteen bits are, two BCD digits of hours and two of minutes, whatever its sign
 abbrev pub offset_shown : ℤ → ℕ
 offset_shown z = bcd_show 2 (nat_abs z / 60) * 256 + bcd_show 2 (nat_abs z % 60)
-
--- document 01's number for every answer
-abbrev pub told : Answer → Answered ℤ
-told (Minutes n) = value n
-told (Refused f) = refused (numbered f)

@@ -7,7 +7,7 @@ pub mod offset;
 pub mod time;
 
 // What is wrong with a field, and the place of its first byte. A field read by itself has the place 0.
-#[derive(Clone, Copy)]
+#[derive(Clone, Copy, PartialEq, Eq, Debug)]
 pub enum Fault {
     // 63: a BCD digit above 9. The first of them, in half bytes from the field's start: 0 is the high half of its first byte.
     BadDigit { place: usize, digit: u32 },

@@ -2,4 +2,3 @@
 pub mod Layouts
 pub mod Printed
 pub mod Reported
-pub mod Unique

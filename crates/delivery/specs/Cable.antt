@@ -1,17 +1,14 @@
 -- 0x44 cable delivery system: EN 300 468, clause 6.2.13.1.
 use Rattle.std.specs.Prelude.{List, [], ◌∷◌, ℕ, ◌*◌, ◌^◌, ◌<◌}
-use Rattle.wire.specs.Reading.{value, refused, ◌>>=◌}
+use Rattle.wire.specs.Reading.{value, ◌>>=◌}
 use Rattle.wire.specs.Digits.{bcd_show}
 use Rattle.forms.specs.Fields.{Field, kept, reserved}
 use Rattle.clock.specs.Fault.{Answered}
 use Rattle.clock.specs.Reported.{Checked, digits}
-use Rattle.layout.specs.Refusal.{numbered}
 use Rattle.layout.specs.Body.{fixed}
 use Rattle.layout.specs.Widths.{size, bits_of, byte_of, digits_of}
 use Rattle.delivery.specs.declared.cable.CableFrequency.{CableFrequency}
 use Rattle.delivery.specs.declared.cable.Cable.{Cable}
-use Rattle.delivery.specs.declared.cable.Answer.{Answer}
-use Rattle.delivery.specs.declared.cable.Answer.TheVariants.{Is, Refused}
 
 -- "Cable .. frequencies count steps of 100 Hz"
 abbrev pub hertz : CableFrequency → ℕ
@@ -62,8 +59,3 @@ shown f =
 -- its numbers in BCD have no more digits than their fields
 abbrev pub Digits : Cable → Type 0
 Digits f = (f.frequency.0 < 10 ^ 8) × (f.symbol_rate < 10 ^ 7)
-
--- document 01's number for every answer
-abbrev pub told : Answer → Answered Cable
-told (Is c) = value c
-told (Refused why) = refused (numbered why)

@@ -1,19 +1,16 @@
 -- 0x43 satellite delivery system: EN 300 468, clause 6.2.13.2.
 use Rattle.std.specs.Prelude.{List, [], ◌∷◌, ℕ, ◌*◌, ◌^◌, ◌<◌, eqb, if◌then◌else◌}
-use Rattle.wire.specs.Reading.{value, refused, ◌>>=◌}
+use Rattle.wire.specs.Reading.{value, ◌>>=◌}
 use Rattle.wire.specs.Digits.{bcd_show}
 use Rattle.forms.specs.Fields.{Field, kept, reserved}
 use Rattle.clock.specs.Fault.{Answered}
 use Rattle.clock.specs.Reported.{Checked, digits}
-use Rattle.layout.specs.Refusal.{numbered}
 use Rattle.layout.specs.Body.{fixed}
 use Rattle.layout.specs.Widths.{size, bits_of, digits_of, bit}
 use Rattle.delivery.specs.declared.satellite.System.{System}
 use Rattle.delivery.specs.declared.satellite.System.TheVariants.{S, S2}
 use Rattle.delivery.specs.declared.satellite.SatelliteFrequency.{SatelliteFrequency}
 use Rattle.delivery.specs.declared.satellite.Satellite.{Satellite}
-use Rattle.delivery.specs.declared.satellite.Answer.{Answer}
-use Rattle.delivery.specs.declared.satellite.Answer.TheVariants.{Is, Refused}
 
 -- "satellite .. frequencies count steps of .. 10 kHz"
 abbrev pub hertz : SatelliteFrequency → ℕ
@@ -92,8 +89,3 @@ shown f =
 -- its numbers in BCD have no more digits than their fields
 abbrev pub Digits : Satellite → Type 0
 Digits f = (f.frequency.0 < 10 ^ 8) × (f.orbital_position < 10 ^ 4) × (f.symbol_rate < 10 ^ 7)
-
--- document 01's number for every answer
-abbrev pub told : Answer → Answered Satellite
-told (Is f) = value f
-told (Refused why) = refused (numbered why)

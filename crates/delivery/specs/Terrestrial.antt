@@ -1,15 +1,12 @@
 -- 0x5A terrestrial delivery system: EN 300 468, clause 6.2.13.4.
 use Rattle.std.specs.Prelude.{List, [], ◌∷◌, ℕ, ◌*◌, eqb}
-use Rattle.wire.specs.Reading.{value, refused, ◌>>=◌}
+use Rattle.wire.specs.Reading.{value, ◌>>=◌}
 use Rattle.forms.specs.Fields.{Field, kept, reserved}
 use Rattle.clock.specs.Fault.{Answered}
-use Rattle.layout.specs.Refusal.{numbered}
 use Rattle.layout.specs.Body.{fixed}
 use Rattle.layout.specs.Widths.{size, bits_of, number_of, bit}
 use Rattle.delivery.specs.declared.terrestrial.TerrestrialFrequency.{TerrestrialFrequency}
 use Rattle.delivery.specs.declared.terrestrial.Terrestrial.{Terrestrial}
-use Rattle.delivery.specs.declared.terrestrial.Answer.{Answer}
-use Rattle.delivery.specs.declared.terrestrial.Answer.TheVariants.{Is, Refused}
 
 -- "terrestrial frequencies count steps of .. 10 Hz"
 abbrev pub hertz : TerrestrialFrequency → ℕ
@@ -71,8 +68,3 @@ shown f =
     ∷ f.transmission_mode
     ∷ bit f.other_frequency_flag
     ∷ []
-
--- document 01's number for every answer
-abbrev pub told : Answer → Answered Terrestrial
-told (Is f) = value f
-told (Refused why) = refused (numbered why)

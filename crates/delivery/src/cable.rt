@@ -1,12 +1,12 @@
 // 0x44 cable delivery system.
 ghost use Rattle.std.specs.Prelude.{◌≡◌};
-ghost use Rattle.delivery.specs.Cable.{hertz, fields, cable, told};
+ghost use Rattle.layout.specs.Refusal.{told};
+ghost use Rattle.delivery.specs.Cable.{hertz, fields, cable};
 
 use layout::Refusal;
-use layout::body::{Body, sized};
-use layout::digits::{Number, digits_at};
+use layout::body::sized;
+use layout::digits::digits_at;
 use wire::numbers::{bits_at, byte_at};
-use wire::parts::after;
 
 // Steps of 100 Hz.
 #[derive(Clone, Copy)]
@@ -30,37 +30,24 @@ pub struct Cable {
     pub fec_inner: u8,
 }
 
-#[derive(Clone, Copy)]
-pub enum Answer {
-    Is(Cable),
-    Refused(Refusal),
-}
-
-fn fields_of(b: &[u8]) -> Answer
+#[tactic(auto, unfolding(crate::specs::Cable::fields))]
+fn fields_of(b: &[u8]) -> Result<Cable, Refusal>
     ensures { told result ≡ fields b.now }
 {
-    let frequency = digits_at(b, 0, 8);
-    let rate = digits_at(b, 7, 7);
-    match frequency {
-        Number::Refused(f) => Answer::Refused(Refusal::Field(f)),
-        Number::Is(frequency) => match rate {
-            Number::Refused(f) => Answer::Refused(Refusal::Field(f)),
-            Number::Is(symbol_rate) => Answer::Is(Cable {
-                frequency: CableFrequency(frequency),
-                fec_outer: bits_at(b, 5, 3, 0),
-                modulation: byte_at(b, 6),
-                symbol_rate,
-                fec_inner: bits_at(b, 10, 3, 0),
-            }),
-        },
-    }
+    let frequency = digits_at(b, 0, 8)?;
+    let symbol_rate = digits_at(b, 7, 7)?;
+    Ok(Cable {
+        frequency: CableFrequency(frequency),
+        fec_outer: bits_at(b, 5, 3, 0),
+        modulation: byte_at(b, 6),
+        symbol_rate,
+        fec_inner: bits_at(b, 10, 3, 0),
+    })
 }
 
-pub fn read(s: &[u8]) -> Answer
+#[tactic(auto, unfolding(crate::specs::Cable::cable))]
+pub fn read(s: &[u8]) -> Result<Cable, Refusal>
     ensures { told result ≡ cable s.now }
 {
-    match sized(s, 0x44, 11) {
-        Body::Refused(why) => Answer::Refused(why),
-        Body::Fits => fields_of(after(s, 2)),
-    }
+    fields_of(sized(s, 0x44, 11)?)
 }

@@ -1,12 +1,12 @@
 // 0x43 satellite delivery system.
 ghost use Rattle.std.specs.Prelude.{◌≡◌};
-ghost use Rattle.delivery.specs.Satellite.{hertz, system, made, fields, satellite, told};
+ghost use Rattle.layout.specs.Refusal.{told};
+ghost use Rattle.delivery.specs.Satellite.{hertz, system, fields, satellite};
 
 use layout::Refusal;
-use layout::body::{Body, sized};
-use layout::digits::{Number, digits_at};
+use layout::body::sized;
+use layout::digits::digits_at;
 use wire::numbers::bits_at;
-use wire::parts::after;
 
 // Steps of 10 kHz.
 #[derive(Clone, Copy)]
@@ -42,12 +42,6 @@ pub struct Satellite {
     pub fec_inner: u8,
 }
 
-#[derive(Clone, Copy)]
-pub enum Answer {
-    Is(Satellite),
-    Refused(Refusal),
-}
-
 #[tactic(auto, unfolding(crate::specs::Satellite::system))]
 fn system_of(b: &[u8]) -> System
     ensures { result ≡ system b.now }
@@ -61,46 +55,28 @@ fn system_of(b: &[u8]) -> System
     }
 }
 
-// The fields around the three numbers in BCD.
-fn satellite_of(b: &[u8], frequency: u32, orbital_position: u32, symbol_rate: u32) -> Satellite
-    ensures { result ≡ made b.now frequency orbital_position symbol_rate }
+#[tactic(auto, unfolding(crate::specs::Satellite::fields))]
+fn fields_of(b: &[u8]) -> Result<Satellite, Refusal>
+    ensures { told result ≡ fields b.now }
 {
-    let modulation_system = system_of(b);
-    Satellite {
+    let frequency = digits_at(b, 0, 8)?;
+    let orbital_position = digits_at(b, 4, 4)?;
+    let symbol_rate = digits_at(b, 7, 7)?;
+    Ok(Satellite {
         frequency: SatelliteFrequency(frequency),
         orbital_position,
         west_east_flag: bits_at(b, 6, 7, 7) == 1,
         polarization: bits_at(b, 6, 6, 5),
-        modulation_system,
+        modulation_system: system_of(b),
         modulation_type: bits_at(b, 6, 1, 0),
         symbol_rate,
         fec_inner: bits_at(b, 10, 3, 0),
-    }
+    })
 }
 
-fn fields_of(b: &[u8]) -> Answer
-    ensures { told result ≡ fields b.now }
-{
-    let frequency = digits_at(b, 0, 8);
-    let orbital = digits_at(b, 4, 4);
-    let rate = digits_at(b, 7, 7);
-    match frequency {
-        Number::Refused(f) => Answer::Refused(Refusal::Field(f)),
-        Number::Is(frequency) => match orbital {
-            Number::Refused(f) => Answer::Refused(Refusal::Field(f)),
-            Number::Is(orbital) => match rate {
-                Number::Refused(f) => Answer::Refused(Refusal::Field(f)),
-                Number::Is(rate) => Answer::Is(satellite_of(b, frequency, orbital, rate)),
-            },
-        },
-    }
-}
-
-pub fn read(s: &[u8]) -> Answer
+#[tactic(auto, unfolding(crate::specs::Satellite::satellite))]
+pub fn read(s: &[u8]) -> Result<Satellite, Refusal>
     ensures { told result ≡ satellite s.now }
 {
-    match sized(s, 0x43, 11) {
-        Body::Refused(why) => Answer::Refused(why),
-        Body::Fits => fields_of(after(s, 2)),
-    }
+    fields_of(sized(s, 0x43, 11)?)
 }

@@ -1,11 +1,11 @@
 // 0x5A terrestrial delivery system.
 ghost use Rattle.std.specs.Prelude.{◌≡◌};
-ghost use Rattle.delivery.specs.Terrestrial.{hertz, fields, terrestrial, told};
+ghost use Rattle.layout.specs.Refusal.{told};
+ghost use Rattle.delivery.specs.Terrestrial.{hertz, fields, terrestrial};
 
 use layout::Refusal;
-use layout::body::{Body, sized};
+use layout::body::sized;
 use wire::numbers::{bits_at, number32_at};
-use wire::parts::after;
 
 // Steps of 10 Hz.
 #[derive(Clone, Copy)]
@@ -35,12 +35,6 @@ pub struct Terrestrial {
     pub other_frequency_flag: bool,
 }
 
-#[derive(Clone, Copy)]
-pub enum Answer {
-    Is(Terrestrial),
-    Refused(Refusal),
-}
-
 fn fields_of(b: &[u8]) -> Terrestrial
     ensures { result ≡ fields b.now }
 {
@@ -60,11 +54,10 @@ fn fields_of(b: &[u8]) -> Terrestrial
     }
 }
 
-pub fn read(s: &[u8]) -> Answer
+#[tactic(auto, unfolding(crate::specs::Terrestrial::terrestrial))]
+pub fn read(s: &[u8]) -> Result<Terrestrial, Refusal>
     ensures { told result ≡ terrestrial s.now }
 {
-    match sized(s, 0x5A, 11) {
-        Body::Refused(why) => Answer::Refused(why),
-        Body::Fits => Answer::Is(fields_of(after(s, 2))),
-    }
+    let b = sized(s, 0x5A, 11)?;
+    Ok(fields_of(b))
 }

@@ -4,13 +4,13 @@ use mathlib.Core.Path.{◌≡◌, refl}
 use mathlib.Core.Bool.{true, false}
 use mathlib.Core.List.{[], ◌∷◌}
 use lib.IntN.{pos, neg_ℤ}
+use Rattle.std.specs.Prelude.{Some}
 use Rattle.wire.specs.Reading.{value}
 use Rattle.wire.specs.Number.{number_at, bits_at}
 use Rattle.wire.specs.Digits.{bcd_after, bcd_of}
 use Rattle.clock.specs.Field.{field, hms}
 use Rattle.clock.specs.Time.{time_at}
 use Rattle.clock.specs.Offset.{offset_at}
-use Rattle.clock.specs.declared.time.Moment.TheVariants.{At}
 use Rattle.layout.specs.Body.{framed, fixed}
 use Rattle.layout.specs.Items.{items, place, item}
 use Rattle.layout.specs.Texts.{two_texts}
@@ -48,7 +48,7 @@ pub offset_example : offsets.localTimeOffset
       country_code = 0x474252;
       country_region_id = 5;
       local_time_offset = neg_ℤ (pos 210);
-      time_of_change = At (record { mjd = 0xC079; clock = record { hour = 12; minute = 45; second = 0 } });
+      time_of_change = Some (record { mjd = 0xC079; clock = record { hour = 12; minute = 45; second = 0 } });
       next_time_offset = neg_ℤ (pos 135);
     })
 unfolding offsets.localTimeOffset offsets.fields offsets.offset_in offsets.time_in item place items framed number_at bits_at

@@ -4,6 +4,7 @@ use Prim.Native.Nat.{ℕ, ◌+◌}
 use mathlib.Core.Path.{◌≡◌, refl}
 use mathlib.Core.Bool.{true}
 use mathlib.Core.List.{List, [], ◌∷◌}
+use Rattle.std.specs.Prelude.{None}
 use Rattle.wire.specs.Reading.{value, refused}
 use Rattle.wire.specs.Number.{number_at, bits_at}
 use Rattle.wire.specs.Digits.{bcd_after, bcd_of}
@@ -12,7 +13,6 @@ use Rattle.clock.specs.Field.{field, hms}
 use Rattle.clock.specs.Time.{time_at, time_of}
 use Rattle.clock.specs.Duration.{duration_of}
 use Rattle.clock.specs.Offset.{offset_at, offset_of}
-use Rattle.clock.specs.declared.time.Moment.TheVariants.{Undefined}
 use Rattle.layout.specs.Body.{framed, fixed}
 use Rattle.layout.specs.Field.{digits_at}
 use Rattle.layout.specs.Items.{items, place, item}
@@ -81,6 +81,6 @@ unfolding offsets.localTimeOffset offsets.fields offsets.offset_in offsets.time_
 item_told = (refl, refl, refl, refl, refl)
 
 -- forty ones are no fault
-pub ones_are_undefined : time_of 0xFFFF 0xFF 0xFF 0xFF ≡ value Undefined
+pub ones_are_undefined : time_of 0xFFFF 0xFF 0xFF 0xFF ≡ value None
 unfolding time_at
 ones_are_undefined = refl

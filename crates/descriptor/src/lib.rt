@@ -2,7 +2,6 @@
 #![tactic(auto)]
 
 pub use delivery::{cable, satellite, terrestrial};
-pub use layout::items::Count;
 pub use layout::{Part, Refusal, bytes_of};
 pub use lists::{content, local_time_offset, parental_rating, service_list};
 pub use texts::{network_name, service, short_event, stuffing};

@@ -139,6 +139,10 @@ module _ (k tag : ℕ) (s : List ℕ) (i : ℕ) where
       (λ h q. omega (arith, inside k (length b) i (ltb-true i (length b / k) h), l, value_is q))
       (λ _ q. absurd (never (sym q))) t.2
 
+  -- so that its place is no more than a slice can have
+  pub item_fits : (n : ℕ) → count s tag k ≡ value n → i < n → 2 + k * i + k ≤ length s
+  item_fits n e h = item_inside (2 + k * i) (index_below n e h)
+
   -- its place in the body is its offset in the list
   pub item_place : (at : ℕ) → place s tag k i ≡ value at → at ≡ 2 + k * i
   unfolding place

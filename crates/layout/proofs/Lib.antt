@@ -4,5 +4,5 @@ pub mod Inside
 pub mod Exactly
 pub mod Accepts
 pub mod Reported
-pub mod Unique
 pub mod WidthLaws
+pub mod Unique

@@ -1,10 +1,7 @@
 -- The tag and the length in front of a body.
-use Rattle.std.specs.Prelude.{Bool, List, [], ◌∷◌, ℕ, eqb, length, drop, if◌then◌else◌}
+use Rattle.std.specs.Prelude.{Bool, List, [], ◌∷◌, ℕ, eqb, length, if◌then◌else◌}
 use Rattle.wire.specs.Reading.{value, refused, ◌>>=◌}
 use Rattle.clock.specs.Fault.{Answered, plain}
-use Rattle.layout.specs.Refusal.{numbered}
-use Rattle.layout.specs.declared.body.Body.{Body}
-use Rattle.layout.specs.declared.body.Body.TheVariants.{Fits, Refused}
 
 -- "62 length byte missing or not the number of bytes after it"
 abbrev pub lengthed : List ℕ → Answered (List ℕ)
@@ -23,8 +20,3 @@ fit fits body = if fits then value body else refused (plain 62)
 -- a body of n bytes
 unfoldable pub fixed : List ℕ → ℕ → ℕ → Answered (List ℕ)
 fixed s tag n = framed s tag >>= λ body. fit (eqb (length body) n) body
-
--- what an answer tells of the descriptor s
-abbrev pub told : List ℕ → Body → Answered (List ℕ)
-told s Fits = value (drop 2 s)
-told s (Refused why) = refused (numbered why)

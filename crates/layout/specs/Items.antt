@@ -2,12 +2,7 @@
 use Rattle.std.specs.Prelude.{List, ℕ, ◌+◌, ◌*◌, ◌/◌, ◌%◌, eqb, ltb, length, take, drop, if◌then◌else◌}
 use Rattle.wire.specs.Reading.{value, refused, ◌>>=◌}
 use Rattle.clock.specs.Fault.{Answered, plain}
-use Rattle.layout.specs.Refusal.{numbered}
 use Rattle.layout.specs.Body.{framed, fit}
-use Rattle.layout.specs.declared.items.Count.{Count}
-use Rattle.layout.specs.declared.items.Count.TheVariants.{Items, Refused}
-use Rattle.layout.specs.declared.items.ItemPlace.{ItemPlace}
-use Rattle.layout.specs.declared.items.ItemPlace.TheVariants as answer
 
 -- 62, "body doesn't fit the layout exactly": its size is no multiple of k
 unfoldable pub items : List ℕ → ℕ → ℕ → Answered (List ℕ)
@@ -25,13 +20,3 @@ place s tag k index =
 -- the bytes of that item
 unfoldable pub item : List ℕ → ℕ → ℕ → ℕ → Answered (List ℕ)
 item s tag k index = place s tag k index >>= λ at. value (take k (drop at s))
-
--- document 01's number for every answer
-abbrev pub told_count : Count → Answered ℕ
-told_count (Items n) = value n
-told_count (Refused why) = refused (numbered why)
-
--- and of a place
-abbrev pub told_place : ItemPlace → Answered ℕ
-told_place (answer.At at) = value at
-told_place (answer.Refused why) = refused (numbered why)

@@ -1,5 +1,7 @@
 -- The refusals' numbers, and parts of the caller's bytes.
-use Rattle.std.specs.Prelude.{List, ℕ, ◌+◌, take, drop}
+use Rattle.std.specs.Prelude.{List, ℕ, ◌+◌, take, drop, Result as Returned, Ok, Err}
+use Rattle.core.specs.Borrow.{Bor}
+use Rattle.wire.specs.Reading.{value, refused}
 use Rattle.clock.specs.Fault as fault
 use Rattle.layout.specs.declared.Refusal.{Refusal}
 use Rattle.layout.specs.declared.Refusal.TheVariants.{WrongTag, DoesNotFit, PastEnd, Field}
@@ -12,6 +14,16 @@ numbered WrongTag = fault.plain 61
 numbered DoesNotFit = fault.plain 62
 numbered PastEnd = fault.plain 66
 numbered (Field f) = fault.numbered f
+
+-- what a reading returns, as document 01 tells it
+abbrev pub told : {A : Type 0} → Returned A Refusal → fault.Answered A
+told (Ok a) = value a
+told (Err why) = refused (numbered why)
+
+-- the bytes that a reading lends
+abbrev pub lent : Returned (Bor (List ℕ)) Refusal → Returned (List ℕ) Refusal
+lent (Ok b) = Ok b.now
+lent (Err why) = Err why
 
 -- the n bytes of the body at a place, as a part of the descriptor, whose body follows two bytes
 abbrev pub part_at : ℕ → ℕ → Part

@@ -4,8 +4,6 @@ use Rattle.wire.specs.Reading.{value, refused}
 use Rattle.clock.specs.Fault.{Answered, plain}
 use Rattle.layout.specs.Refusal.{part_at, bytes_of}
 use Rattle.layout.specs.declared.texts.TwoTexts.{TwoTexts}
-use Rattle.layout.specs.declared.texts.Texts.{Texts}
-use Rattle.layout.specs.declared.texts.Texts.TheVariants.{Are, DoNotFit}
 
 -- a body of h bytes, then a length a and a bytes of text, then a length n and n bytes of text, and nothing after
 unfoldable pub two_texts : List ℕ → ℕ → Answered TwoTexts
@@ -20,8 +18,3 @@ abbrev pub Filled : ℕ → List ℕ → TwoTexts → Type 0
 Filled h s t =
     drop 2 s
     ≡ take h (drop 2 s) ++ (t.first.length ∷ (bytes_of s t.first ++ (t.second.length ∷ bytes_of s t.second)))
-
--- document 01's number for every answer
-abbrev pub told : Texts → Answered TwoTexts
-told (Are t) = value t
-told DoNotFit = refused (plain 62)

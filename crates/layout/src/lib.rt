@@ -4,6 +4,7 @@
 
 ghost use Rattle.std.specs.Prelude.{◌≡◌};
 ghost use Rattle.layout.specs.Refusal.{bytes_of};
+ghost use Rattle.layout.specs.declared.Refusal.TheVariants.{Field};
 
 use clock::Fault;
 use wire::parts::part;
@@ -14,7 +15,7 @@ pub mod items;
 pub mod texts;
 
 // Why a descriptor is not read.
-#[derive(Clone, Copy)]
+#[derive(Clone, Copy, PartialEq, Eq, Debug)]
 pub enum Refusal {
     // 61: no byte, or another tag.
     WrongTag,
@@ -24,6 +25,14 @@ pub enum Refusal {
     PastEnd,
     // 63 to 65: a field that is wrong.
     Field(Fault),
+}
+
+impl From<Fault> for Refusal {
+    ghost from_gives = { λ f why. why ≡ Field f };
+
+    fn from(f: Fault) -> Refusal {
+        Refusal::Field(f)
+    }
 }
 
 // A part of a descriptor's bytes, its start counted from the tag as 0.
@@ -37,7 +46,5 @@ pub struct Part {
 pub fn bytes_of(s: &[u8], p: Part) -> &[u8]
     ensures { result.now ≡ bytes_of s.now p }
 {
-    let start = p.start;
-    let length = p.length;
-    part(s, start, length)
+    part(s, p.start, p.length)
 }

@@ -1,8 +1,9 @@
 // Two texts, each after the byte that gives its length.
 ghost use Rattle.std.specs.Prelude.{◌≡◌};
-ghost use Rattle.layout.specs.Texts.{two_texts, told};
+ghost use Rattle.layout.specs.Refusal.{told};
+ghost use Rattle.layout.specs.Texts.{two_texts};
 
-use super::Part;
+use super::{Part, Refusal};
 use wire::numbers::byte_at;
 use wire::wide;
 
@@ -12,31 +13,26 @@ pub struct TwoTexts {
     pub second: Part,
 }
 
-#[derive(Clone, Copy)]
-pub enum Texts {
-    Are(TwoTexts),
-    // The lengths do not fill the body.
-    DoNotFit,
-}
-
-// A body of h bytes and two texts.
-pub fn two_texts(b: &[u8], h: u8) -> Texts
+// A body of h bytes and two texts, refused where the lengths do not fill it.
+#[tactic(auto, unfolding(crate::specs::Texts::two_texts))]
+pub fn two_texts(b: &[u8], h: u8) -> Result<TwoTexts, Refusal>
     ensures { told result ≡ two_texts b.now h }
 {
     let h = wide(h);
     let a = wide(byte_at(b, h));
     let n = wide(byte_at(b, h + 1 + a));
     if b.len() == h + 2 + a + n {
-        let first = Part {
-            start: 2 + (h + 1),
-            length: a,
-        };
-        let second = Part {
-            start: 2 + (h + 2 + a),
-            length: n,
-        };
-        Texts::Are(TwoTexts { first, second })
+        Ok(TwoTexts {
+            first: Part {
+                start: 2 + (h + 1),
+                length: a,
+            },
+            second: Part {
+                start: 2 + (h + 2 + a),
+                length: n,
+            },
+        })
     } else {
-        Texts::DoNotFit
+        Err(Refusal::DoesNotFit)
     }
 }

@@ -1,4 +1,3 @@
 -- What holds of the answers.
 pub mod Layouts
 pub mod Reported
-pub mod Unique

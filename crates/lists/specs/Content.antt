@@ -1,14 +1,11 @@
 -- 0x54 content: EN 300 468, clause 6.2.9.
 use Rattle.std.specs.Prelude.{List, [], ◌∷◌, ℕ}
-use Rattle.wire.specs.Reading.{value, refused, ◌>>=◌}
+use Rattle.wire.specs.Reading.{value, ◌>>=◌}
 use Rattle.forms.specs.Fields.{Field, kept}
 use Rattle.clock.specs.Fault.{Answered}
-use Rattle.layout.specs.Refusal.{numbered}
 use Rattle.layout.specs.Items.{item, count}
 use Rattle.layout.specs.Widths.{size, bits_of, byte_of}
 use Rattle.lists.specs.declared.content.Item.{Item}
-use Rattle.lists.specs.declared.content.Answer.{Answer}
-use Rattle.lists.specs.declared.content.Answer.TheVariants.{Is, Refused}
 
 -- an item, in the order of the table
 abbrev pub layout : List Field
@@ -33,8 +30,3 @@ content_count s = count s 0x54 (size layout)
 -- the values that its fields have, in the layout's order
 abbrev pub shown : Item → List ℕ
 shown i = i.content_nibble_level_1 ∷ i.content_nibble_level_2 ∷ i.user_byte ∷ []
-
--- document 01's number for every answer
-abbrev pub told : Answer → Answered Item
-told (Is i) = value i
-told (Refused why) = refused (numbered why)

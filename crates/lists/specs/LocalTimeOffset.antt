@@ -1,19 +1,15 @@
 -- 0x58 local time offset: EN 300 468, clause 6.2.20.
 use Rattle.std.specs.Prelude.{◌≡◌, Bool, List, [], ◌∷◌, ◌++◌, ℕ, ◌+◌, ◌*◌, ◌<◌, ℤ, nat_abs, eqb, get_or}
-use Rattle.wire.specs.Reading.{value, refused, ◌>>=◌}
+use Rattle.wire.specs.Reading.{value, ◌>>=◌}
 use Rattle.wire.specs.Number.{number_at}
 use Rattle.forms.specs.Fields.{Field, kept, reserved}
 use Rattle.clock.specs.Fault.{Answered}
 use Rattle.clock.specs.Reported.{Checked, offset_fields, time_fields}
 use Rattle.clock.specs.Offset.{signed, offset_at, offset_shown}
-use Rattle.clock.specs.Time.{time_at, Defined, time_shown}
-use Rattle.clock.specs.declared.time.Moment.{Moment}
-use Rattle.layout.specs.Refusal.{numbered}
+use Rattle.clock.specs.Time.{Moment, time_at, Defined, time_shown}
 use Rattle.layout.specs.Items.{item, count}
 use Rattle.layout.specs.Widths.{size, place, bits_of, number_of, bit}
 use Rattle.lists.specs.declared.local_time_offset.Item.{Item}
-use Rattle.lists.specs.declared.local_time_offset.Answer.{Answer}
-use Rattle.lists.specs.declared.local_time_offset.Answer.TheVariants.{Is, Refused}
 
 -- an item, in the order of the table
 abbrev pub layout : List Field
@@ -81,8 +77,3 @@ pub record Right (behind : Bool) (i : Item) : Type 0 where
   pub local : Signed behind i.local_time_offset
   pub change : Defined i.time_of_change
   pub next : Signed behind i.next_time_offset
-
--- document 01's number for every answer
-abbrev pub told : Answer → Answered Item
-told (Is i) = value i
-told (Refused why) = refused (numbered why)

@@ -1,14 +1,11 @@
 -- 0x41 service list: EN 300 468, clause 6.2.35.
 use Rattle.std.specs.Prelude.{List, [], ◌∷◌, ℕ}
-use Rattle.wire.specs.Reading.{value, refused, ◌>>=◌}
+use Rattle.wire.specs.Reading.{value, ◌>>=◌}
 use Rattle.forms.specs.Fields.{Field, kept}
 use Rattle.clock.specs.Fault.{Answered}
-use Rattle.layout.specs.Refusal.{numbered}
 use Rattle.layout.specs.Items.{item, count}
 use Rattle.layout.specs.Widths.{size, byte_of, number_of}
 use Rattle.lists.specs.declared.service_list.Item.{Item}
-use Rattle.lists.specs.declared.service_list.Answer.{Answer}
-use Rattle.lists.specs.declared.service_list.Answer.TheVariants.{Is, Refused}
 
 -- an item, in the order of the table
 abbrev pub layout : List Field
@@ -32,8 +29,3 @@ service_count s = count s 0x41 (size layout)
 -- the values that its fields have, in the layout's order
 abbrev pub shown : Item → List ℕ
 shown i = i.service_id ∷ i.service_type ∷ []
-
--- document 01's number for every answer
-abbrev pub told : Answer → Answered Item
-told (Is i) = value i
-told (Refused why) = refused (numbered why)

@@ -1,24 +1,17 @@
 // 0x54 content: items of 2 bytes.
 ghost use Rattle.std.specs.Prelude.{◌≡◌};
-ghost use Rattle.layout.specs.Items.{told_count};
-ghost use Rattle.lists.specs.Content.{fields, content, content_count, told};
+ghost use Rattle.layout.specs.Refusal.{told};
+ghost use Rattle.lists.specs.Content.{fields, content, content_count};
 
 use layout::Refusal;
-use layout::items::{Count, ItemPlace, item_at, number_of};
+use layout::items::{item, number_of};
 use wire::numbers::{bits_at, byte_at};
-use wire::parts::part;
 
 #[derive(Clone, Copy)]
 pub struct Item {
     pub content_nibble_level_1: u8,
     pub content_nibble_level_2: u8,
     pub user_byte: u8,
-}
-
-#[derive(Clone, Copy)]
-pub enum Answer {
-    Is(Item),
-    Refused(Refusal),
 }
 
 fn fields_of(b: &[u8]) -> Item
@@ -32,18 +25,17 @@ fn fields_of(b: &[u8]) -> Item
 }
 
 // How many items there are.
-pub fn count(s: &[u8]) -> Count
-    ensures { told_count result ≡ content_count s.now }
+pub fn count(s: &[u8]) -> Result<usize, Refusal>
+    ensures { told result ≡ content_count s.now }
 {
     number_of(s, 0x54, 2)
 }
 
 // The item of an index counted from 0.
-pub fn read(s: &[u8], index: usize) -> Answer
+#[tactic(auto, unfolding(crate::specs::Content::content))]
+pub fn read(s: &[u8], index: usize) -> Result<Item, Refusal>
     ensures { told result ≡ content s.now index }
 {
-    match item_at(s, 0x54, 2, index) {
-        ItemPlace::Refused(why) => Answer::Refused(why),
-        ItemPlace::At(at) => Answer::Is(fields_of(part(s, at, 2))),
-    }
+    let b = item(s, 0x54, 2, index)?;
+    Ok(fields_of(b))
 }

@@ -1,13 +1,13 @@
 // 0x58 local time offset: items of 13 bytes.
 ghost use Rattle.std.specs.Prelude.{◌≡◌, ◌<◌};
-ghost use Rattle.clock.specs.Offset as Offset;
-ghost use Rattle.clock.specs.Time as Time;
-ghost use Rattle.layout.specs.Items.{told_count};
-ghost use Rattle.lists.specs.LocalTimeOffset.{offset_in, time_in, fields, localTimeOffset, offset_count, told};
+ghost use Rattle.clock.specs.Fault.{told as toldField};
+ghost use Rattle.layout.specs.Refusal.{told};
+ghost use Rattle.lists.specs.LocalTimeOffset.{offset_in, time_in, fields, localTimeOffset, offset_count};
 
+use clock::Fault;
 use clock::time::Moment;
 use layout::Refusal;
-use layout::items::{Count, ItemPlace, item_at, number_of};
+use layout::items::{item_at, number_of};
 use wire::numbers::{bits_at, byte_at, number16_at, number24_at};
 use wire::parts::part;
 
@@ -23,16 +23,11 @@ pub struct Item {
     pub next_time_offset: i16,
 }
 
-#[derive(Clone, Copy)]
-pub enum Answer {
-    Is(Item),
-    Refused(Refusal),
-}
-
 // The offset at a place of the item, which stands at `from` in the body. One polarity serves both offsets.
-fn offset_in(b: &[u8], from: u16, at: u16) -> clock::offset::Answer
+#[tactic(auto, unfolding(crate::specs::LocalTimeOffset::offset_in))]
+fn offset_in(b: &[u8], from: u16, at: u16) -> Result<i16, Fault>
     requires { (from < 256) × (at < 256) }
-    ensures { Offset.told result ≡ offset_in b.now from at }
+    ensures { toldField result ≡ offset_in b.now from at }
 {
     let place = from + at;
     let at = at as usize;
@@ -44,9 +39,10 @@ fn offset_in(b: &[u8], from: u16, at: u16) -> clock::offset::Answer
     )
 }
 
-fn time_in(b: &[u8], from: u16, at: u16) -> clock::time::Answer
+#[tactic(auto, unfolding(crate::specs::LocalTimeOffset::time_in))]
+fn time_in(b: &[u8], from: u16, at: u16) -> Result<Moment, Fault>
     requires { (from < 256) × (at < 256) }
-    ensures { Time.told result ≡ time_in b.now from at }
+    ensures { toldField result ≡ time_in b.now from at }
 {
     let place = from + at;
     let at = at as usize;
@@ -59,46 +55,35 @@ fn time_in(b: &[u8], from: u16, at: u16) -> clock::time::Answer
     )
 }
 
-fn fields_of(b: &[u8], from: u16) -> Answer
+#[tactic(auto, unfolding(crate::specs::LocalTimeOffset::fields))]
+fn fields_of(b: &[u8], from: u16) -> Result<Item, Refusal>
     requires { from < 256 }
     ensures { told result ≡ fields from b.now }
 {
-    let country_code = number24_at(b, 0);
-    let country_region_id = bits_at(b, 3, 7, 2);
-    let local = offset_in(b, from, 4);
-    let change = time_in(b, from, 6);
-    let next = offset_in(b, from, 11);
-    match local {
-        clock::offset::Answer::Refused(f) => Answer::Refused(Refusal::Field(f)),
-        clock::offset::Answer::Minutes(local_time_offset) => match change {
-            clock::time::Answer::Refused(f) => Answer::Refused(Refusal::Field(f)),
-            clock::time::Answer::Is(time_of_change) => match next {
-                clock::offset::Answer::Refused(f) => Answer::Refused(Refusal::Field(f)),
-                clock::offset::Answer::Minutes(next_time_offset) => Answer::Is(Item {
-                    country_code,
-                    country_region_id,
-                    local_time_offset,
-                    time_of_change,
-                    next_time_offset,
-                }),
-            },
-        },
-    }
+    let local_time_offset = offset_in(b, from, 4)?;
+    let time_of_change = time_in(b, from, 6)?;
+    let next_time_offset = offset_in(b, from, 11)?;
+    Ok(Item {
+        country_code: number24_at(b, 0),
+        country_region_id: bits_at(b, 3, 7, 2),
+        local_time_offset,
+        time_of_change,
+        next_time_offset,
+    })
 }
 
 // How many items there are.
-pub fn count(s: &[u8]) -> Count
-    ensures { told_count result ≡ offset_count s.now }
+pub fn count(s: &[u8]) -> Result<usize, Refusal>
+    ensures { told result ≡ offset_count s.now }
 {
     number_of(s, 0x58, 13)
 }
 
 // The item of an index counted from 0.
-pub fn read(s: &[u8], index: usize) -> Answer
+#[tactic(auto, unfolding(crate::specs::LocalTimeOffset::localTimeOffset, layout::specs::Items::item))]
+pub fn read(s: &[u8], index: usize) -> Result<Item, Refusal>
     ensures { told result ≡ localTimeOffset s.now index }
 {
-    match item_at(s, 0x58, 13, index) {
-        ItemPlace::Refused(why) => Answer::Refused(why),
-        ItemPlace::At(at) => fields_of(part(s, at, 13), (at - 2) as u16),
-    }
+    let at = item_at(s, 0x58, 13, index)?;
+    fields_of(part(s, at, 13), (at - 2) as u16)
 }

@@ -1,24 +1,17 @@
 // 0x55 parental rating: items of 4 bytes.
 ghost use Rattle.std.specs.Prelude.{◌≡◌};
-ghost use Rattle.layout.specs.Items.{told_count};
-ghost use Rattle.lists.specs.ParentalRating.{fields, parental_rating, rating_count, told};
+ghost use Rattle.layout.specs.Refusal.{told};
+ghost use Rattle.lists.specs.ParentalRating.{fields, parental_rating, rating_count};
 
 use layout::Refusal;
-use layout::items::{Count, ItemPlace, item_at, number_of};
+use layout::items::{item, number_of};
 use wire::numbers::{byte_at, number24_at};
-use wire::parts::part;
 
 #[derive(Clone, Copy)]
 pub struct Item {
     // Three characters, the first the highest byte.
     pub country_code: u32,
     pub rating: u8,
-}
-
-#[derive(Clone, Copy)]
-pub enum Answer {
-    Is(Item),
-    Refused(Refusal),
 }
 
 fn fields_of(b: &[u8]) -> Item
@@ -31,18 +24,17 @@ fn fields_of(b: &[u8]) -> Item
 }
 
 // How many items there are.
-pub fn count(s: &[u8]) -> Count
-    ensures { told_count result ≡ rating_count s.now }
+pub fn count(s: &[u8]) -> Result<usize, Refusal>
+    ensures { told result ≡ rating_count s.now }
 {
     number_of(s, 0x55, 4)
 }
 
 // The item of an index counted from 0.
-pub fn read(s: &[u8], index: usize) -> Answer
+#[tactic(auto, unfolding(crate::specs::ParentalRating::parental_rating))]
+pub fn read(s: &[u8], index: usize) -> Result<Item, Refusal>
     ensures { told result ≡ parental_rating s.now index }
 {
-    match item_at(s, 0x55, 4, index) {
-        ItemPlace::Refused(why) => Answer::Refused(why),
-        ItemPlace::At(at) => Answer::Is(fields_of(part(s, at, 4))),
-    }
+    let b = item(s, 0x55, 4, index)?;
+    Ok(fields_of(b))
 }

@@ -1,23 +1,16 @@
 // 0x41 service list: items of 3 bytes.
 ghost use Rattle.std.specs.Prelude.{◌≡◌};
-ghost use Rattle.layout.specs.Items.{told_count};
-ghost use Rattle.lists.specs.ServiceList.{fields, service_list, service_count, told};
+ghost use Rattle.layout.specs.Refusal.{told};
+ghost use Rattle.lists.specs.ServiceList.{fields, service_list, service_count};
 
 use layout::Refusal;
-use layout::items::{Count, ItemPlace, item_at, number_of};
+use layout::items::{item, number_of};
 use wire::numbers::{byte_at, number16_at};
-use wire::parts::part;
 
 #[derive(Clone, Copy)]
 pub struct Item {
     pub service_id: u16,
     pub service_type: u8,
-}
-
-#[derive(Clone, Copy)]
-pub enum Answer {
-    Is(Item),
-    Refused(Refusal),
 }
 
 fn fields_of(b: &[u8]) -> Item
@@ -30,18 +23,17 @@ fn fields_of(b: &[u8]) -> Item
 }
 
 // How many items there are.
-pub fn count(s: &[u8]) -> Count
-    ensures { told_count result ≡ service_count s.now }
+pub fn count(s: &[u8]) -> Result<usize, Refusal>
+    ensures { told result ≡ service_count s.now }
 {
     number_of(s, 0x41, 3)
 }
 
 // The item of an index counted from 0.
-pub fn read(s: &[u8], index: usize) -> Answer
+#[tactic(auto, unfolding(crate::specs::ServiceList::service_list))]
+pub fn read(s: &[u8], index: usize) -> Result<Item, Refusal>
     ensures { told result ≡ service_list s.now index }
 {
-    match item_at(s, 0x41, 3, index) {
-        ItemPlace::Refused(why) => Answer::Refused(why),
-        ItemPlace::At(at) => Answer::Is(fields_of(part(s, at, 3))),
-    }
+    let b = item(s, 0x41, 3, index)?;
+    Ok(fields_of(b))
 }

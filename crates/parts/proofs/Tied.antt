@@ -7,8 +7,7 @@ use prog.Routine.{Routine}
 use types.Logic.{Logic}
 use contract.Monad.{Fun}
 use Rattle.wire.specs.Ensures.{Ensures}
-use Rattle.clock.specs.Time as time
-use Rattle.clock.specs.Duration as duration
+use Rattle.clock.specs.Fault.{told}
 use Rattle.parts.specs.Parts.{no_part, within}
 use Rattle.parts.specs.Opening.{Opens}
 use Rattle.parts.specs.Entries.{next_entry}
@@ -70,9 +69,9 @@ module _ {M : Type 1} {𝓤 : Ura M} (𝓛 : Logic 𝓤) (mem : Memory → SProp
   duration-in-ensures κs a g r ws = refl
 
   pub time-from-ensures : Ensures 𝓤 time-from-call.ended (time-from-call.clauses 𝓛 mem run)
-      (λ κs a r ws. time.told r ≡ time_from a.0.now)
+      (λ κs a r ws. told r ≡ time_from a.0.now)
   time-from-ensures κs a g r ws = refl
 
   pub duration-from-ensures : Ensures 𝓤 duration-from-call.ended (duration-from-call.clauses 𝓛 mem run)
-      (λ κs a r ws. duration.told r ≡ duration_from a.0.now)
+      (λ κs a r ws. told r ≡ duration_from a.0.now)
   duration-from-ensures κs a g r ws = refl

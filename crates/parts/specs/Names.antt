@@ -3,12 +3,11 @@
 use Rattle.std.specs.Prelude.{ℕ, ◌+◌, Bool, ◌||◌, List, get_or, ltb, eqb, if◌then◌else◌}
 use Rattle.wire.specs.Number.{number_at}
 use Rattle.clock.specs.Fault.{Answered}
-use Rattle.clock.specs.Time.{time_of}
+use Rattle.clock.specs.Time.{Moment, time_of}
 use Rattle.clock.specs.Duration.{duration_of}
 use Rattle.tables.specs.Tables.{NIT, BAT, EIT, row_of}
 use Rattle.parts.specs.Parts.{part, no_part, within, bytes_of}
 use Rattle.clock.specs.declared.Hms.{Hms}
-use Rattle.clock.specs.declared.time.Moment.{Moment}
 use Rattle.parts.specs.declared.Part.{Part}
 
 -- the table's row is r

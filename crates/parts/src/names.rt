@@ -1,10 +1,11 @@
 // What stands in an entry's fixed bytes, by name; and times and durations out of their bytes. A byte that is not there reads as 0.
 ghost use Rattle.std.specs.Prelude.{◌≡◌, ◌+◌, ◌≤◌, length};
-ghost use Rattle.clock.specs.Time as time;
-ghost use Rattle.clock.specs.Duration as duration;
+ghost use Rattle.clock.specs.Fault.{told};
 ghost use Rattle.parts.specs.Names.{id_in, network_in, event_at, event_part, start_in, duration_in, time_from, duration_from};
 
 use crate::{Part, is_within, no_part};
+use clock::time::Moment;
+use clock::{Fault, Hms};
 use tables::{BAT, EIT, NIT, row_of};
 use wire::numbers::{byte_at, number16_at};
 
@@ -73,8 +74,8 @@ pub fn duration_in(section: &[u8], fixed: Part) -> Part
 }
 
 // The time in the first five bytes.
-pub fn time_from(bytes: &[u8]) -> clock::time::Answer
-    ensures { time.told result ≡ time_from bytes.now }
+pub fn time_from(bytes: &[u8]) -> Result<Moment, Fault>
+    ensures { told result ≡ time_from bytes.now }
 {
     clock::time::read(
         number16_at(bytes, 0),
@@ -85,8 +86,8 @@ pub fn time_from(bytes: &[u8]) -> clock::time::Answer
 }
 
 // The duration in the first three bytes.
-pub fn duration_from(bytes: &[u8]) -> clock::duration::Answer
-    ensures { duration.told result ≡ duration_from bytes.now }
+pub fn duration_from(bytes: &[u8]) -> Result<Hms, Fault>
+    ensures { told result ≡ duration_from bytes.now }
 {
     clock::duration::read(byte_at(bytes, 0), byte_at(bytes, 1), byte_at(bytes, 2))
 }

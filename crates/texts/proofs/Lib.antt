@@ -1,4 +1,3 @@
 -- What holds of the answers.
 pub mod Handed
 pub mod Layouts
-pub mod Unique

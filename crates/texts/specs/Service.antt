@@ -1,16 +1,13 @@
 -- 0x48 service: EN 300 468, clause 6.2.33.
 use Rattle.std.specs.Prelude.{List, [], ◌∷◌, ℕ}
-use Rattle.wire.specs.Reading.{value, refused, ◌>>=◌}
+use Rattle.wire.specs.Reading.{value, ◌>>=◌}
 use Rattle.forms.specs.Fields.{Field, kept}
 use Rattle.clock.specs.Fault.{Answered}
-use Rattle.layout.specs.Refusal.{numbered}
 use Rattle.layout.specs.Body.{framed}
 use Rattle.layout.specs.Texts.{two_texts}
 use Rattle.layout.specs.Widths.{size, byte_of}
 use Rattle.layout.specs.declared.texts.TwoTexts.{TwoTexts}
 use Rattle.texts.specs.declared.service.Service.{Service}
-use Rattle.texts.specs.declared.service.Answer.{Answer}
-use Rattle.texts.specs.declared.service.Answer.TheVariants.{Is, Refused}
 
 -- what stands in front of the texts
 abbrev pub layout : List Field
@@ -30,8 +27,3 @@ service s = framed s 0x48 >>= fields
 -- its two texts
 abbrev pub names : Service → TwoTexts
 names f = record { first = f.service_provider_name; second = f.service_name }
-
--- document 01's number for every answer
-abbrev pub told : Answer → Answered Service
-told (Is f) = value f
-told (Refused why) = refused (numbered why)

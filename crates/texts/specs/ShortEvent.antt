@@ -1,16 +1,13 @@
 -- 0x4D short event: EN 300 468, clause 6.2.37.
 use Rattle.std.specs.Prelude.{List, [], ◌∷◌, ℕ}
-use Rattle.wire.specs.Reading.{value, refused, ◌>>=◌}
+use Rattle.wire.specs.Reading.{value, ◌>>=◌}
 use Rattle.forms.specs.Fields.{Field, kept}
 use Rattle.clock.specs.Fault.{Answered}
-use Rattle.layout.specs.Refusal.{numbered}
 use Rattle.layout.specs.Body.{framed}
 use Rattle.layout.specs.Texts.{two_texts}
 use Rattle.layout.specs.Widths.{size, number_of}
 use Rattle.layout.specs.declared.texts.TwoTexts.{TwoTexts}
 use Rattle.texts.specs.declared.short_event.ShortEvent.{ShortEvent}
-use Rattle.texts.specs.declared.short_event.Answer.{Answer}
-use Rattle.texts.specs.declared.short_event.Answer.TheVariants.{Is, Refused}
 
 -- what stands in front of the texts
 abbrev pub layout : List Field
@@ -30,8 +27,3 @@ short_event s = framed s 0x4D >>= fields
 -- its two texts
 abbrev pub texts : ShortEvent → TwoTexts
 texts f = record { first = f.event_name; second = f.text }
-
--- document 01's number for every answer
-abbrev pub told : Answer → Answered ShortEvent
-told (Is f) = value f
-told (Refused why) = refused (numbered why)

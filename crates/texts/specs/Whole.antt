@@ -1,18 +1,11 @@
 -- A body that is one text or any other bytes, to the end.
 use Rattle.std.specs.Prelude.{List, ℕ, length}
-use Rattle.wire.specs.Reading.{value, refused, ◌>>=◌}
+use Rattle.wire.specs.Reading.{value, ◌>>=◌}
 use Rattle.clock.specs.Fault.{Answered}
-use Rattle.layout.specs.Refusal.{numbered, part_at}
+use Rattle.layout.specs.Refusal.{part_at}
 use Rattle.layout.specs.Body.{framed}
 use Rattle.layout.specs.declared.Part.{Part}
-use Rattle.texts.specs.declared.whole.Answer.{Answer}
-use Rattle.texts.specs.declared.whole.Answer.TheVariants.{Is, Refused}
 
 -- all bytes of the body behind a tag
 unfoldable pub whole : List ℕ → ℕ → Answered Part
 whole s tag = framed s tag >>= λ b. value (part_at 0 (length b))
-
--- document 01's number for every answer
-abbrev pub told : Answer → Answered Part
-told (Is bytes) = value bytes
-told (Refused why) = refused (numbered why)

@@ -1,11 +1,12 @@
 // 0x40 network name: the name, to the end.
 ghost use Rattle.std.specs.Prelude.{◌≡◌};
-ghost use Rattle.texts.specs.Whole.{told};
+ghost use Rattle.layout.specs.Refusal.{told};
 ghost use Rattle.texts.specs.NetworkName.{network_name};
 
-pub use super::whole::Answer;
+use layout::{Part, Refusal};
 
-pub fn read(s: &[u8]) -> Answer
+#[tactic(auto, unfolding(crate::specs::NetworkName::network_name))]
+pub fn read(s: &[u8]) -> Result<Part, Refusal>
     ensures { told result ≡ network_name s.now }
 {
     super::whole::read(s, 0x40)

@@ -1,12 +1,12 @@
 // 0x48 service: a type and two names.
 ghost use Rattle.std.specs.Prelude.{◌≡◌};
-ghost use Rattle.texts.specs.Service.{fields, service, told};
+ghost use Rattle.layout.specs.Refusal.{told};
+ghost use Rattle.texts.specs.Service.{fields, service};
 
-use layout::body::{Body, any};
-use layout::texts::{Texts, two_texts};
+use layout::body::any;
+use layout::texts::two_texts;
 use layout::{Part, Refusal};
 use wire::numbers::byte_at;
-use wire::parts::after;
 
 #[derive(Clone, Copy)]
 pub struct Service {
@@ -15,35 +15,21 @@ pub struct Service {
     pub service_name: Part,
 }
 
-#[derive(Clone, Copy)]
-pub enum Answer {
-    Is(Service),
-    Refused(Refusal),
-}
-
-fn fields_of(b: &[u8]) -> Answer
+#[tactic(auto, unfolding(crate::specs::Service::fields))]
+fn fields_of(b: &[u8]) -> Result<Service, Refusal>
     ensures { told result ≡ fields b.now }
 {
-    let service_type = byte_at(b, 0);
-    match two_texts(b, 1) {
-        Texts::DoNotFit => Answer::Refused(Refusal::DoesNotFit),
-        Texts::Are(texts) => {
-            let service_provider_name = texts.first;
-            let service_name = texts.second;
-            Answer::Is(Service {
-                service_type,
-                service_provider_name,
-                service_name,
-            })
-        }
-    }
+    let names = two_texts(b, 1)?;
+    Ok(Service {
+        service_type: byte_at(b, 0),
+        service_provider_name: names.first,
+        service_name: names.second,
+    })
 }
 
-pub fn read(s: &[u8]) -> Answer
+#[tactic(auto, unfolding(crate::specs::Service::service))]
+pub fn read(s: &[u8]) -> Result<Service, Refusal>
     ensures { told result ≡ service s.now }
 {
-    match any(s, 0x48) {
-        Body::Refused(why) => Answer::Refused(why),
-        Body::Fits => fields_of(after(s, 2)),
-    }
+    fields_of(any(s, 0x48)?)
 }

@@ -1,12 +1,12 @@
 // 0x4D short event: a language, a name and a text.
 ghost use Rattle.std.specs.Prelude.{◌≡◌};
-ghost use Rattle.texts.specs.ShortEvent.{fields, short_event, told};
+ghost use Rattle.layout.specs.Refusal.{told};
+ghost use Rattle.texts.specs.ShortEvent.{fields, short_event};
 
-use layout::body::{Body, any};
-use layout::texts::{Texts, two_texts};
+use layout::body::any;
+use layout::texts::two_texts;
 use layout::{Part, Refusal};
 use wire::numbers::number24_at;
-use wire::parts::after;
 
 #[derive(Clone, Copy)]
 pub struct ShortEvent {
@@ -16,35 +16,21 @@ pub struct ShortEvent {
     pub text: Part,
 }
 
-#[derive(Clone, Copy)]
-pub enum Answer {
-    Is(ShortEvent),
-    Refused(Refusal),
-}
-
-fn fields_of(b: &[u8]) -> Answer
+#[tactic(auto, unfolding(crate::specs::ShortEvent::fields))]
+fn fields_of(b: &[u8]) -> Result<ShortEvent, Refusal>
     ensures { told result ≡ fields b.now }
 {
-    let language_code = number24_at(b, 0);
-    match two_texts(b, 3) {
-        Texts::DoNotFit => Answer::Refused(Refusal::DoesNotFit),
-        Texts::Are(texts) => {
-            let event_name = texts.first;
-            let text = texts.second;
-            Answer::Is(ShortEvent {
-                language_code,
-                event_name,
-                text,
-            })
-        }
-    }
+    let texts = two_texts(b, 3)?;
+    Ok(ShortEvent {
+        language_code: number24_at(b, 0),
+        event_name: texts.first,
+        text: texts.second,
+    })
 }
 
-pub fn read(s: &[u8]) -> Answer
+#[tactic(auto, unfolding(crate::specs::ShortEvent::short_event))]
+pub fn read(s: &[u8]) -> Result<ShortEvent, Refusal>
     ensures { told result ≡ short_event s.now }
 {
-    match any(s, 0x4D) {
-        Body::Refused(why) => Answer::Refused(why),
-        Body::Fits => fields_of(after(s, 2)),
-    }
+    fields_of(any(s, 0x4D)?)
 }

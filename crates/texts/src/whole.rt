@@ -1,24 +1,18 @@
 // A body that is one text or any other bytes, to the end.
 ghost use Rattle.std.specs.Prelude.{◌≡◌};
-ghost use Rattle.texts.specs.Whole.{whole, told};
+ghost use Rattle.layout.specs.Refusal.{told};
+ghost use Rattle.texts.specs.Whole.{whole};
 
-use layout::body::{Body, any, size};
+use layout::body::any;
 use layout::{Part, Refusal};
 
-#[derive(Clone, Copy)]
-pub enum Answer {
-    Is(Part),
-    Refused(Refusal),
-}
-
-pub fn read(s: &[u8], tag: u8) -> Answer
+#[tactic(auto, unfolding(crate::specs::Whole::whole))]
+pub fn read(s: &[u8], tag: u8) -> Result<Part, Refusal>
     ensures { told result ≡ whole s.now tag }
 {
-    match any(s, tag) {
-        Body::Refused(why) => Answer::Refused(why),
-        Body::Fits => Answer::Is(Part {
-            start: 2,
-            length: size(s),
-        }),
-    }
+    let body = any(s, tag)?;
+    Ok(Part {
+        start: 2,
+        length: body.len(),
+    })
 }

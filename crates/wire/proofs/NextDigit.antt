@@ -1,7 +1,7 @@
 -- A number in BCD a digit at a time, for any number of digits.
 use mathlib.Core.Path.{◌≡◌, sym, ap, ap₂, ◌∙◌}
 use mathlib.Core.Logic.{⊎_elim}
-use Prim.Native.Nat.{ℕ, zero, suc, ◌+◌, ◌-◌, ◌*◌, ◌/◌, ◌%◌, ◌^◌, ◌<◌, ◌≤◌}
+use Prim.Native.Nat.{ℕ, zero, suc, ◌+◌, ◌-◌, ◌*◌, ◌/◌, ◌%◌, ◌^◌, ◌<◌, ◌≤◌, min}
 use native.Mathlib.Nat.{eq-or-lt_of_le, lt_of_lt_of_le, div-eq_of_lt}
 use native.Mathlib.Omega.{arith}
 use borrow.Author.Tests.{lt-ltb, le-ltb}
@@ -54,6 +54,14 @@ above_eight (suc m) i v h g =
     (eq-or-lt_of_le g)
 
 -- so that the first of the eight is at place n - 8
-pub eight : (n v : ℕ) → v < 2 ^ 32 → 8 ≤ n → bcd_of v n ≡ bcd_after (n - 8) 0 8 v
+eight : (n v : ℕ) → v < 2 ^ 32 → 8 ≤ n → bcd_of v n ≡ bcd_after (n - 8) 0 8 v
 unfolding bcd_of
 eight n v h g = let q : 0 + (n - 8) ≡ n - 8 = omega arith in above_eight n 0 v h g ∙ ap (λ (j : ℕ). bcd_after j 0 8 v) q
+
+-- so that n or eight digits are left to be read, the first of them at its place among the n
+pub first_left : (n m v : ℕ) → v < 2 ^ 32 → m ≡ min n 8 → bcd_after (n - m) 0 m v ≡ bcd_of v n
+unfolding bcd_of
+first_left n m v h e =
+    ⊎_elim (λ (all : m ≡ n). ap₂ (λ (i k : ℕ). bcd_after i 0 k v) (omega arith) all)
+    (λ (some : m < n). let q : m ≡ 8 = omega arith in
+    ap (λ (k : ℕ). bcd_after (n - k) 0 k v) q ∙ sym (eight n v h (omega arith))) (eq-or-lt_of_le (omega arith))

@@ -1,28 +1,24 @@
 -- Two answers that tell the same are the same.
-use mathlib.Core.Path.{◌≡◌, sym, ap, ◌∙◌}
+use mathlib.Core.Path.{◌≡◌, refl, sym, ap, ◌∙◌}
+use Prim.Native.Nat.{ℕ}
+use Rattle.std.specs.Prelude.{Result as Returned, Ok, Err}
 use Rattle.wire.specs.Reading.{Result, value, refused}
 use Rattle.wire.proofs.ReadingLaws.{value_is, refused_is, never}
 use Rattle.wire.specs.Digits.{told}
-use Rattle.wire.specs.declared.digits.Digits.{Digits}
-use Rattle.wire.specs.declared.digits.Digits.TheVariants.{Value, Bad}
+use Rattle.wire.specs.declared.digits.BadDigit.{BadDigit}
 
 -- THE LAW, for any answer that is a value or a fault that tells a refusal: two faults that tell one refusal have to be the same
-module _ {A F W R : Type 0} (told : R → Result W A) (is : A → R) (no : F → R) (numbered : F → W)
-    (tells : (a : A) → told (is a) ≡ value a) (refuses : (f : F) → told (no f) ≡ refused (numbered f))
-    (cases : (P : R → Type 0) → ((a : A) → P (is a)) → ((f : F) → P (no f)) → (r : R) → P r)
+module _ {A F W : Type 0} (told : Returned A F → Result W A) (numbered : F → W)
+    (tells : (a : A) → told (Ok a) ≡ value a) (refuses : (f : F) → told (Err f) ≡ refused (numbered f))
     (fault_once : (f g : F) → numbered f ≡ numbered g → f ≡ g) where
-  pub answer_once : (p q : R) → told p ≡ told q → p ≡ q
-  answer_once =
-      cases (λ p. (q : R) → told p ≡ told q → p ≡ q)
-      (λ a. cases (λ q. told (is a) ≡ told q → is a ≡ q)
-      (λ b e. ap is (value_is (sym (tells a) ∙ e ∙ tells b)))
-      (λ f e. absurd (never (sym (tells a) ∙ e ∙ refuses f))))
-      (λ f. cases (λ q. told (no f) ≡ told q → no f ≡ q)
-      (λ b e. absurd (never (sym (tells b) ∙ sym e ∙ refuses f)))
-      (λ g e. ap no (fault_once f g (refused_is (sym (refuses f) ∙ e ∙ refuses g)))))
+  pub answer_once : (p q : Returned A F) → told p ≡ told q → p ≡ q
+  answer_once (Ok a) (Ok b) e = ap Ok (value_is (sym (tells a) ∙ e ∙ tells b))
+  answer_once (Ok a) (Err g) e = absurd (never (sym (tells a) ∙ e ∙ refuses g))
+  answer_once (Err f) (Ok b) e = absurd (never (sym (tells b) ∙ sym e ∙ refuses f))
+  answer_once (Err f) (Err g) e = ap Err (fault_once f g (refused_is (sym (refuses f) ∙ e ∙ refuses g)))
 
-pub digits_once : (p q : Digits) → told p ≡ told q → p ≡ q
-digits_once (Value a) (Value b) e = ap Value (value_is e)
-digits_once (Value a) (Bad j) e = absurd (never e)
-digits_once (Bad i) (Value b) e = absurd (never (sym e))
-digits_once (Bad i) (Bad j) e = ap Bad (refused_is e)
+same_place : (p q : BadDigit) → p.0 ≡ q.0 → p ≡ q
+same_place p q e = ap (λ (n : ℕ). record { 0 = n }) e
+
+pub digits_once : (p q : Returned ℕ BadDigit) → told p ≡ told q → p ≡ q
+digits_once = answer_once told (λ bad. bad.0) (λ a. refl) (λ bad. refl) same_place

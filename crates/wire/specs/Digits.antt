@@ -1,8 +1,7 @@
 -- Numbers in BCD: four bits for each decimal digit, the highest first.
-use Rattle.std.specs.Prelude.{ℕ, zero, suc, ◌+◌, ◌-◌, ◌*◌, ◌/◌, ◌%◌, ◌^◌, ◌<◌, ◌≤◌, ltb, if◌then◌else◌}
+use Rattle.std.specs.Prelude.{ℕ, zero, suc, ◌+◌, ◌-◌, ◌*◌, ◌/◌, ◌%◌, ◌^◌, ◌<◌, ◌≤◌, ltb, if◌then◌else◌, Result as Returned, Ok, Err}
 use Rattle.wire.specs.Reading.{Result, value, refused}
-use Rattle.wire.specs.declared.digits.Digits.{Digits}
-use Rattle.wire.specs.declared.digits.Digits.TheVariants.{Value, Bad}
+use Rattle.wire.specs.declared.digits.BadDigit.{BadDigit}
 
 -- the digit of v that has k digits below it
 abbrev pub digit : ℕ → ℕ → ℕ
@@ -42,6 +41,6 @@ bcd_show zero a = 0
 bcd_show (suc k) a = bcd_show k (a / 10) * 16 + a % 10
 
 -- the number, or the place of the first bad digit
-abbrev pub told : Digits → Result ℕ ℕ
-told (Value a) = value a
-told (Bad j) = refused j
+abbrev pub told : Returned ℕ BadDigit → Result ℕ ℕ
+told (Ok a) = value a
+told (Err bad) = refused bad.0

@@ -6,13 +6,13 @@ use mathlib.Core.List.{[], ◌∷◌}
 use native.Mathlib.Omega.{arith}
 use borrow.Author.Tests.{lt-ltb, le-ltb, ne_eqb}
 use lib.Dec.{eqb}
+use Rattle.std.specs.Prelude.{Some}
 use Rattle.wire.specs.Reading.{value, refused}
 use Rattle.wire.specs.Number.{number}
 use Rattle.clock.specs.Fault.{Why, number_of}
 use Rattle.clock.specs.Field.{hms}
 use Rattle.clock.specs.Time.{time_at}
 use Rattle.clock.specs.declared.Hms.{Hms}
-use Rattle.clock.specs.declared.time.Moment.TheVariants.{At}
 use Rattle.clock.proofs.Exactly.{time_exactly}
 use Rattle.wire.specs.Digits.{bcd_show}
 use Rattle.wire.proofs.Shown.{show_below}
@@ -51,7 +51,7 @@ every_clock mjd d low high valid number t right =
       moment =
           (time_exactly mjd (shown t.hour) (shown t.minute) (shown t.second) high
           (show_below 2 t.hour) (show_below 2 t.minute) (show_below 2 t.second)
-          (At (record { mjd = mjd; clock = t }))).1
+          (Some (record { mjd = mjd; clock = t }))).1
           ((low, right), refl);
       date = date_is mjd d low valid number;
     }

@@ -1,6 +1,6 @@
 -- Document 01, "Worked values (starred: proved, as a single list under a single statement)": the starred ones, and what each of them says of the
 -- definitions that the promises cite.
-use Rattle.std.specs.Prelude.{ℕ, ◌<◌, ◌≤◌, ◌≡◌, List, [], ◌∷◌, ◌++◌, get_or, take, set}
+use Rattle.std.specs.Prelude.{ℕ, ◌<◌, ◌≤◌, ◌≡◌, List, [], ◌∷◌, ◌++◌, get_or, take, set, Some}
 use Rattle.wire.specs.Reading.{value, ◌>>=◌}
 use Rattle.wire.specs.Number.{number_at}
 use Rattle.verdict.specs.Verdict.{Said, accepted, refused as refusedAt}
@@ -10,7 +10,6 @@ use Rattle.clock.specs.Fault.{Answered, RefusedAs}
 use Rattle.clock.specs.Field.{InRange}
 use Rattle.clock.specs.Time.{time_of}
 use Rattle.clock.specs.declared.Hms.{Hms}
-use Rattle.clock.specs.declared.time.Moment.TheVariants.{At}
 use Rattle.calendar.specs.Calendar.{dated, date_of}
 use Rattle.calendar.specs.declared.Date.{Date}
 use Rattle.delivery.specs.Cable.{cable}
@@ -45,7 +44,7 @@ clock h m s = record { hour = h; minute = m; second = s }
 
 -- a time that is read: its day and its clock, and the date of the day
 pub record Told (mjd h m s : ℕ) (d : Date) (t : Hms) : Type 0 where
-  pub moment : time_of mjd h m s ≡ value (At (record { mjd = mjd; clock = t }))
+  pub moment : time_of mjd h m s ≡ value (Some (record { mjd = mjd; clock = t }))
   pub date : date_of mjd ≡ value d
 
 -- the rest of a delivery system's eleven bytes, where each is 0

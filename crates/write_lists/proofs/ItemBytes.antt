@@ -9,14 +9,12 @@ use lib.Dec.{ltb, eqb, eqb-suc-zero}
 use lib.IntN.{ℤ, pos, negsuc, nat_abs}
 use lib.ListN.{length, get_or, drop}
 use lib.Seq.{get_or-drop}
-use Rattle.std.specs.Prelude.{if◌then◌else◌}
+use Rattle.std.specs.Prelude.{if◌then◌else◌, None, Some}
 use Rattle.wire.specs.Reading.{Reading, value, refused, ◌>>=◌}
 use Rattle.wire.proofs.ReadingLaws.{value_is, refused_is, never, through}
 use Rattle.forms.specs.Fields.{Field, kept, bits, room, pack}
 use Rattle.clock.specs.Offset.{offset_shown}
-use Rattle.clock.specs.Time.{time_shown}
-use Rattle.clock.specs.declared.time.Moment.{Moment}
-use Rattle.clock.specs.declared.time.Moment.TheVariants.{Undefined, At}
+use Rattle.clock.specs.Time.{Moment, time_shown}
 use Rattle.layout.specs.Widths.{size, bit}
 use Rattle.lists.specs.Content as content
 use Rattle.lists.specs.LocalTimeOffset as offset
@@ -101,7 +99,7 @@ content_piece zs =
 
 -- a day and a clock that are read
 some_of : (d h m s : Reading ℕ)
-    → moment_bits (d >>= λ day. h >>= λ hour. m >>= λ minute. s >>= λ second. value (At (record {
+    → moment_bits (d >>= λ day. h >>= λ hour. m >>= λ minute. s >>= λ second. value (Some (record {
       mjd = day;
       clock = record { hour = hour; minute = minute; second = second };
     })))
@@ -137,7 +135,7 @@ zero_or (negsuc n) = rw (le-ltb (suc n) 1 (omega arith))
 
 none_of : (a b c d : Bool)
     → moment_bits (if (if a then if b then if c then if d then true else false else false else false else false)
-    then value Undefined else refused 112)
+    then value None else refused 112)
     ≡ joint (joint (joint (zero_if a) 1 (zero_if b)) 1 (joint (zero_if c) 1 (zero_if d))) 1 (value 0xFF_FFFF_FFFF)
 unfolding moment_bits joint
 none_of true true true true = refl

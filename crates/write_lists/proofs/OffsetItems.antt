@@ -13,16 +13,14 @@ use lib.IntN.{ℤ, pos, negsuc, nat_abs}
 use lib.ListN.{length, get_or, drop}
 use Rattle.wire.specs.Bytes.{Bytes}
 use Rattle.wire.specs.Digits.{bcd_after, bcd_of, bcd_show}
-use Rattle.std.specs.Prelude.{if◌then◌else◌}
+use Rattle.std.specs.Prelude.{if◌then◌else◌, None, Some}
 use Rattle.wire.specs.Number.{number_at, bits_at}
 use Rattle.wire.specs.Reading.{Reading, value, refused}
 use Rattle.wire.proofs.IfLaws.{if-case, true_not_false}
 use Rattle.wire.proofs.ReadingLaws.{value_is, never, through}
 use Rattle.wire.proofs.Shown.{show_below, bcd_of_shown}
 use Rattle.clock.specs.Offset.{signed, offset_shown}
-use Rattle.clock.specs.Time.{Defined, time_shown}
-use Rattle.clock.specs.declared.time.Moment.{Moment}
-use Rattle.clock.specs.declared.time.Moment.TheVariants.{Undefined, At}
+use Rattle.clock.specs.Time.{Moment, Defined, time_shown}
 use Rattle.layout.specs.Widths.{kept_of, keptIn, bit, bits_of, number_of}
 use Rattle.layout.proofs.WidthLaws.{spans, unpack_spans, whole_span}
 use Rattle.lists.specs.LocalTimeOffset.{layout, shown, localTimeOffset, Right}
@@ -88,8 +86,8 @@ are_offsets_lem l n = (
 
 moment_there : (m : Moment) (zs : List ℤ) → Defined m → time_shown m < 2 ^ 40 → moment (moment_row m zs) ≡ value m
 unfolding moment no_moment some_moment natural below
-moment_there Undefined zs d h = refl
-moment_there (At t) zs d h =
+moment_there None zs d h = refl
+moment_there (Some t) zs d h =
     rw (
       natural_value (2 ^ 16) t.mjd (omega (arith, h)),
       le-ltb t.mjd 15079 d.0,
@@ -114,7 +112,7 @@ module _ (zs : List ℤ) (m : Moment) where
   undefined_back : at zs 4 ≡ pos 1 → no_moment zs ≡ value m → Numbered zs m
   unfolding no_moment
   undefined_back u e =
-      let t = if-value (below _ (1 ∷ 1 ∷ 1 ∷ 1 ∷ [])) Undefined m 112 e in
+      let t = if-value (below _ (1 ∷ 1 ∷ 1 ∷ 1 ∷ [])) None m 112 e in
       let x = below_is _ (1 ∷ 1 ∷ 1 ∷ 1 ∷ []) t.0 in
       let a = no_size (at zs 0) x.0 in
       let b = no_size (at zs 1) x.1.0 in
@@ -153,7 +151,7 @@ module _ (zs : List ℤ) (m : Moment) where
 module _ (zs : List ℤ) where
   none_only : Field112 (no_moment zs)
   unfolding no_moment
-  none_only = if-case Field112 (below _ (1 ∷ 1 ∷ 1 ∷ 1 ∷ [])) (λ _. value-112 Undefined) (λ _. refused-112)
+  none_only = if-case Field112 (below _ (1 ∷ 1 ∷ 1 ∷ 1 ∷ [])) (λ _. value-112 None) (λ _. refused-112)
 
   some_only : Field112 (some_moment zs)
   unfolding some_moment
@@ -172,19 +170,19 @@ module _ (zs : List ℤ) where
 
 -- the numbers behind the five of a moment, and the first of them
 row_behind : (m : Moment) (ns zs : List ℤ) → moment_row m ns ++ zs ≡ moment_row m (ns ++ zs)
-row_behind Undefined ns zs = refl
-row_behind (At t) ns zs = refl
+row_behind None ns zs = refl
+row_behind (Some t) ns zs = refl
 
 pub sixth : (m : Moment) (zs : List ℤ) → at (moment_row m zs) 5 ≡ at zs 0
-sixth Undefined zs = refl
-sixth (At t) zs = refl
+sixth None zs = refl
+sixth (Some t) zs = refl
 
 row_size_lem : (x : Item) → length (row x) ≡ 9
 row_size_lem x = moment_size x.time_of_change
   where
     moment_size : (m : Moment) → suc (suc (suc (length (moment_row m (x.next_time_offset ∷ []))))) ≡ 9
-    moment_size Undefined = refl
-    moment_size (At t) = refl
+    moment_size None = refl
+    moment_size (Some t) = refl
 
 offset_there : (p : Bool) (x : Item) (zs : List ℤ) → Right p x → below (shown p x) (capacities layout) ≡ true
     → item (row x ++ zs) ≡ value x

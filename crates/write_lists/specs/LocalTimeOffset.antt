@@ -1,9 +1,8 @@
 -- 0x58 local time offset, written: EN 300 468, clause 6.2.20. The layout is that of the reading.
-use Rattle.std.specs.Prelude.{◌≡◌, Bool, true, false, not, List, [], ◌∷◌, ℕ, zero, suc, ◌^◌, eqb, ltb, ℤ, pos, negsuc, nat_abs, get_or, drop, if◌then◌else◌}
+use Rattle.std.specs.Prelude.{◌≡◌, Bool, true, false, not, List, [], ◌∷◌, ℕ, zero, suc, ◌^◌, eqb, ltb, ℤ, pos, negsuc, nat_abs, get_or, drop, if◌then◌else◌, None, Some}
 use Rattle.wire.specs.Reading.{Reading, value, refused, ◌>>=◌}
 use Rattle.clock.specs.Fault.{Answered}
-use Rattle.clock.specs.declared.time.Moment.{Moment}
-use Rattle.clock.specs.declared.time.Moment.TheVariants.{Undefined, At}
+use Rattle.clock.specs.Time.{Moment}
 use Rattle.layout.specs.Widths.{bits_of, number_of}
 use Rattle.lists.specs.LocalTimeOffset.{layout, shown, localTimeOffset, offset_count}
 use Rattle.lists.specs.declared.local_time_offset.Item.{Item}
@@ -39,7 +38,7 @@ behind l n = if belowZero l then true else belowZero n
 -- where `undefined` is 1 no other number stands beside it
 unfoldable pub no_moment : List ℤ → Reading Moment
 no_moment zs =
-    if below (nat_abs (at zs 0) ∷ nat_abs (at zs 1) ∷ nat_abs (at zs 2) ∷ nat_abs (at zs 3) ∷ []) (1 ∷ 1 ∷ 1 ∷ 1 ∷ []) then value Undefined
+    if below (nat_abs (at zs 0) ∷ nat_abs (at zs 1) ∷ nat_abs (at zs 2) ∷ nat_abs (at zs 3) ∷ []) (1 ∷ 1 ∷ 1 ∷ 1 ∷ []) then value None
     else refused 112
 
 -- a day from 15,079 on, and a time of that day
@@ -50,15 +49,15 @@ some_moment zs = do
   hour ← natural 24 (at zs 1)
   minute ← natural 60 (at zs 2)
   second ← natural 60 (at zs 3)
-  value (At (record { mjd = day; clock = record { hour = hour; minute = minute; second = second } }))
+  value (Some (record { mjd = day; clock = record { hour = hour; minute = minute; second = second } }))
 
 unfoldable pub moment : List ℤ → Reading Moment
 moment zs = natural 2 (at zs 4) >>= λ undefined. if eqb undefined 1 then no_moment zs else some_moment zs
 
 -- its numbers
 abbrev pub moment_row : Moment → List ℤ → List ℤ
-moment_row Undefined zs = pos 0 ∷ pos 0 ∷ pos 0 ∷ pos 0 ∷ pos 1 ∷ zs
-moment_row (At t) zs = pos t.mjd ∷ pos t.clock.hour ∷ pos t.clock.minute ∷ pos t.clock.second ∷ pos 0 ∷ zs
+moment_row None zs = pos 0 ∷ pos 0 ∷ pos 0 ∷ pos 0 ∷ pos 1 ∷ zs
+moment_row (Some t) zs = pos t.mjd ∷ pos t.clock.hour ∷ pos t.clock.minute ∷ pos t.clock.second ∷ pos 0 ∷ zs
 
 -- ---- an item
 

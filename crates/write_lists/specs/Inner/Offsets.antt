@@ -1,8 +1,7 @@
 -- The bits of a local time offset.
 use Rattle.std.specs.Prelude.{List, ℕ, ◌/◌, ◌%◌, ◌^◌, ltb, eqb, ℤ, drop, if◌then◌else◌}
 use Rattle.wire.specs.Reading.{Reading, value, refused, ◌>>=◌}
-use Rattle.clock.specs.Time.{time_shown}
-use Rattle.clock.specs.declared.time.Moment.{Moment}
+use Rattle.clock.specs.Time.{Moment, time_shown}
 use Rattle.writing.specs.Rows.{natural, sized}
 use Rattle.writing.specs.declared.rows.Sized.{Sized}
 use Rattle.write_lists.specs.LocalTimeOffset.{at, moment}

@@ -1,52 +1,36 @@
--- The layout's refusal, or the fields of the item, with its offset in the list.
-use Prim.Native.Nat.{ℕ, ◌+◌, ◌*◌, ◌<◌}
+-- The item stands at 13 times its index, and a body has no more than 255 bytes.
+use Prim.Native.Nat.{◌+◌, ◌*◌, ◌<◌}
 use mathlib.Core.Path.{◌≡◌, sym, ap, ◌∙◌}
-use mathlib.Core.List.{List}
 use native.Mathlib.Omega.{arith}
 use Rattle.wire.specs.Reading.{value}
-use Rattle.layout.specs.Items.{place, item, told_place}
+use Rattle.layout.specs.Items.{place, item}
 use Rattle.layout.proofs.Exactly.{item_place, item_low}
 use Rattle.lists.specs.LocalTimeOffset.{fields, localTimeOffset}
 use Rattle.lists.proofs.local_time_offset.read.Goals as goal
-use Rattle.lists.proofs.local_time_offset.read.Goals.{In-At}
+use Rattle.lists.proofs.local_time_offset.read.Goals.{After-part}
 
--- the item stands at 13 times its index, and a body has no more than 255 bytes
-module _ (b : In-At) where
-  abbrev At : ℕ
-  At = b.in-At.at
+module _ (b : After-part) where
+  placed : place b.args.s.now 0x58 13 b.args.index ≡ value b.in_ok-at.at
+  placed = sym b.in_ok-at.ensures
 
-  abbrev S : List ℕ
-  S = b.args.s.now
+  where-it-stands : b.in_ok-at.at ≡ 2 + 13 * b.args.index
+  where-it-stands = item_place 13 0x58 b.args.s.now b.args.index _ placed
 
-  abbrev Index : ℕ
-  Index = b.args.index
-
-  placed : place S 0x58 13 Index ≡ value At
-  placed = sym b.item_at.ensures ∙ ap told_place b.in-At.is
-
-  where-it-stands : At ≡ 2 + 13 * Index
-  where-it-stands = item_place 13 0x58 S Index At placed
-
-  low : At + 13 < 258
-  low = item_low 13 0x58 S Index (b.shared_slice_known-1.given 1).fits At placed
+  low : b.in_ok-at.at + 13 < 258
+  low = item_low 13 0x58 b.args.s.now b.args.index (b.type_inv.s 1).fits _ placed
 
 pub overflow_sub-at : goal.overflow_sub-at
-overflow_sub-at c = omega (arith, where-it-stands (goal.at.overflow_sub-at c).In-At)
+overflow_sub-at c = omega (arith, where-it-stands (goal.at.overflow_sub-at c).After-part)
 
 pub overflow_cast-at : goal.overflow_cast-at
-overflow_cast-at c = omega (arith, low (goal.at.overflow_cast-at c).In-At)
+overflow_cast-at c = omega (arith, low (goal.at.overflow_cast-at c).After-part)
 
 pub fields_of-requires : goal.fields_of-requires
-fields_of-requires c = omega (arith, low (goal.at.fields_of-requires c).In-At)
+fields_of-requires c = omega (arith, low (goal.at.fields_of-requires c).After-part)
 
-pub returns-in-Refused : goal.returns-in-Refused
+pub returns : goal.returns
 unfolding localTimeOffset item
-returns-in-Refused c = rw (← c.item_at.ensures, c.in-Refused.is)
-
-pub returns-in-At : goal.returns-in-At
-unfolding localTimeOffset item
-returns-in-At c =
-    let item-at = c.item_at in
-    let at = where-it-stands (goal.at.returns-in-At c).In-At in
-    rw (← item-at.ensures, c.in-At.is, ← c.part.ensures)
+returns c =
+    let at = where-it-stands (goal.at.returns c).After-part in
+    rw (← c.item_at.ensures, c.in_ok-at.was, ← c.part.ensures)
     (c.fields_of.ensures ∙ ap (λ from. fields from c.part.result.now) (omega arith))

@@ -6,7 +6,4 @@ use Rattle.wire.specs.Digits.{bcd_after, bcd_of}
 use Rattle.wire.proofs.digits.bcd.Given as goal
 
 abbrev pub invariant-loop-k : goal.invariant-loop-k
-invariant-loop-k l = (l.k ≤ 8) × (l.k ≤ l.n) × (l.a ≤ l.v / 2 ^ (4 * l.k)) × (bcd_after (l.n - l.k) l.a l.k l.v ≡ bcd_of l.v l.n)
-
-abbrev pub decreases-loop-k : goal.decreases-loop-k
-decreases-loop-k l = l.k
+invariant-loop-k l = (l.a ≤ l.v / 2 ^ (4 * l.k)) × (bcd_after (l.n - l.k) l.a l.k l.v ≡ bcd_of l.v l.n)

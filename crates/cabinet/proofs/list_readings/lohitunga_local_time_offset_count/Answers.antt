@@ -1,8 +1,0 @@
--- How many items, or the refusal.
-use Rattle.cabinet.proofs.list_readings.lohitunga_local_time_offset_count.Statement.{
-  statement,
-}
-use Rattle.cabinet.proofs.list_readings.lohitunga_local_time_offset_count.Goals as goal
-
-pub returns : goal.returns
-returns c = rw (c.count_of.ensures, c.count.ensures)

@@ -1,5 +1,0 @@
--- How many items, or the refusal.
-use Rattle.cabinet.proofs.list_readings.lohitunga_service_list_count.Goals as goal
-
-pub returns : goal.returns
-returns c = rw (c.count_of.ensures, c.count.ensures)

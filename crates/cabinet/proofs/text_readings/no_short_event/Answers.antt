@@ -1,5 +1,0 @@
--- Zeros.
-use Rattle.cabinet.proofs.text_readings.no_short_event.Goals as goal
-
-pub returns : goal.returns
-returns c = rw (c.no_part.ensures, c.no_part-2.ensures)
