@@ -3,13 +3,11 @@ use mathlib.Core.Path.{◌≡◌, refl}
 use mathlib.Core.List.{List, ◌∷◌}
 use Prim.Native.Nat.{ℕ, ◌<◌, ◌≤◌}
 use borrow.Author.Tests.{lt-ltb, le-ltb}
-use native.Mathlib.Omega.{arith}
-use Rattle.std.proofs.lemmas.Bool.Decides.{nat_tests}
 use lib.ListN.{length}
 use Rattle.wire.specs.Reading.{Reading, value, refused}
 use Rattle.forms.specs.Room.{put}
-use Rattle.std.specs.Prelude.{Result, Ok, Err}
-use Rattle.writing.specs.Written.{headed, into, roomFor, Writes}
+use Rattle.std.specs.Prelude.{Result, Ok, Err, IsErrAnd}
+use Rattle.writing.specs.Written.{headed, into, Writes}
 use Rattle.writing.specs.declared.Refusal.{Refusal}
 use Rattle.writing.specs.declared.Refusal.TheVariants.{Room, Field, Long}
 
@@ -20,19 +18,17 @@ headed-value tag body h = rw (le-ltb 255 (length body) h)
 pub headed_long : (tag : ℕ) (body : List ℕ) → 255 < length body → headed tag body ≡ refused 113
 headed_long tag body h = rw (lt-ltb 255 (length body) h)
 
--- a room that is not refused
-pub room_enough : (n : ℕ) → {r : Result Unit Refusal} {u : Unit} → r ≡ roomFor n → r ≡ Ok u → 257 ≤ n
-room_enough n e f = grind (arith, nat_tests)
-
 module _ (d : Reading (List ℕ)) (o : List ℕ) where
   -- "111 room under 257"
   pub room_short : length o < 257 → Writes d o (Err Room) o
   unfolding into
   room_short h = rw (lt-ltb (length o) 257 h) (refl, refl)
 
-  pub room_refused : {r : Result Unit Refusal} {k : Refusal} → r ≡ roomFor (length o) → r ≡ Err k → Writes d o (Err k) o
-  unfolding into
-  room_refused e f = grind (arith, nat_tests)
+  -- the same, handed on
+  pub room_refused : {k : Refusal} → (k ≡ Room) × (length o < 257) → (q : Result ℕ Refusal) → IsErrAnd q (λ e. e ≡ k)
+      → Writes d o q o
+  room_refused h (Err k) e = rw (e, h.0) (room_short h.1)
+  room_refused h (Ok n) e = absurd e
 
   module _ (room : 257 ≤ length o) where
     -- "112 a field outside its layout"

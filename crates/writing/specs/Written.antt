@@ -23,10 +23,6 @@ outcome (refused k) = refuses k 0
 unfoldable pub into : ℕ → Reading (List ℕ) → Outcome
 into n d = if ltb n 257 then refuses 111 0 else outcome d
 
--- the same, asked before any field is looked at
-abbrev pub roomFor : ℕ → Result Unit Refusal
-roomFor n = if ltb n 257 then Err Room else Ok tt
-
 -- document 02's number for every answer
 abbrev pub told : Result ℕ Refusal → Told
 told (Ok n) = wrote n

@@ -1,8 +1,7 @@
 // What the writers of descriptors share: the refusals, numbers as bytes, numbers in BCD, numbers of either sign.
 #![tactic(auto)]
 
-ghost use Rattle.std.specs.Prelude.{◌≡◌, length};
-ghost use Rattle.writing.specs.Written.{roomFor};
+ghost use Rattle.std.specs.Prelude.{◌≡◌, ◌<◌, ◌≤◌, length, MatchResult};
 
 pub mod digits;
 pub mod numbers;
@@ -21,7 +20,8 @@ pub enum Refusal {
 
 // A writer asks for the room of the longest descriptor before it looks at a field.
 pub fn room_for(room: &[u8]) -> Result<(), Refusal>
-    ensures { result ≡ roomFor (length room.now) }
+    ensures { MatchResult result (λ _. 257 ≤ length room.now)
+        (λ e. (e ≡ Refusal.Room) × (length room.now < 257)) }
 {
     if room.len() < 257 {
         return Err(Refusal::Room);
