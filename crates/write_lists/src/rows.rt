@@ -50,15 +50,10 @@ fn are_items(kind: Kind, numbers: &[i32], n: usize) -> bool
     ensures { passed result ≡ judged (rows (row_size kind) (piece_of kind) n numbers.now) }
 {
     let k = kind.sizes().row;
-    let mut row = numbers;
-    let mut left = n;
-    while 0 < left {
-        if !is_item(kind, row) {
+    for i in 0..n {
+        if !is_item(kind, after(numbers, k * i)) {
             return false;
         }
-        let next = after(row, k);
-        row = next;
-        left -= 1;
     }
     true
 }
@@ -91,15 +86,9 @@ fn put_items(kind: Kind, numbers: &[i32], n: usize, room: &mut [u8])
         (joined_rows (rows (row_size kind) (piece_of kind) n numbers.now)) }
 {
     let sizes = kind.sizes();
-    let mut row = numbers;
-    let mut left = n;
-    let mut to = 2;
-    while 0 < left {
-        put_piece(kind, row, room, to);
-        to += sizes.item;
-        let next = after(row, sizes.row);
-        row = next;
-        left -= 1;
+    for i in 0..n {
+        let row = after(numbers, sizes.row * i);
+        put_piece(kind, row, room, 2 + sizes.item * i);
     }
 }
 
