@@ -4,14 +4,15 @@ use mathlib.Core.List.{List}
 use Prim.Native.Nat.{ℕ}
 use lib.Dec.{ltb}
 use lib.ListN.{length}
+use Rattle.std.specs.Prelude.{Result}
 use Rattle.wire.specs.Reading.{Reading, refused}
 use Rattle.wire.proofs.IfLaws.{if-case}
 use Rattle.writing.specs.Written.{told, roomAfter, into, Writes}
-use Rattle.writing.specs.declared.Written.{Written}
+use Rattle.writing.specs.declared.Refusal.{Refusal}
 use Rattle.desk.specs.Answers.{says, saysOutside, Called}
 use Rattle.desk.specs.declared.answers.WriteAnswer.{WriteAnswer}
 
-pub called : (d : Reading (List ℕ)) (o o' : List ℕ) (w : Written) (r : WriteAnswer) → Writes d o w o'
+pub called : (d : Reading (List ℕ)) (o o' : List ℕ) (w : Result ℕ Refusal) (r : WriteAnswer) → Writes d o w o'
     → r ≡ says (told w) → Called d o r o'
 called d o o' w r x e = (e ∙ ap says x.0, x.1)
 

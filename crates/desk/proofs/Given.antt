@@ -4,6 +4,7 @@ use mathlib.Core.Bool.{Bool, true, false, not}
 use mathlib.Core.List.{List}
 use Prim.Native.Nat.{ℕ, ◌<◌, ◌≤◌}
 use borrow.Author.Tests.{lt-ltb, le-ltb, not-false, not-true}
+use Rattle.std.specs.Prelude.{Option, Some, None, Result}
 use Rattle.wire.specs.Reading.{Reading, value, refused, ◌>>=◌}
 use Rattle.delivery.specs.declared.satellite.System.{System}
 use Rattle.delivery.specs.declared.satellite.Satellite as satellite
@@ -14,7 +15,7 @@ use Rattle.cabinet.specs.declared.text_readings.Part.{Part}
 use Rattle.cabinet.specs.declared.text_readings.Service.{Service}
 use Rattle.cabinet.specs.declared.text_readings.ShortEvent.{ShortEvent}
 use Rattle.writing.specs.Written.{told, Writes}
-use Rattle.writing.specs.declared.Written.{Written}
+use Rattle.writing.specs.declared.Refusal.{Refusal}
 use Rattle.write_delivery.specs.Satellite.{satellite_written}
 use Rattle.write_delivery.specs.Terrestrial.{terrestrial_written}
 use Rattle.write_texts.specs.NetworkName.{network_name_written}
@@ -25,12 +26,10 @@ use Rattle.desk.specs.Answers.{says, Called}
 use Rattle.desk.specs.Delivery.{system_of, told_system, satellite_of, satellite_fields, satellite_given, are_flags, terrestrial_of, terrestrial_fields, terrestrial_given}
 use Rattle.desk.specs.Texts.{lies_in, text_of, text, name_given, stuffing_given, service_given, short_event_given}
 use Rattle.desk.specs.declared.answers.WriteAnswer.{WriteAnswer}
-use Rattle.desk.specs.declared.delivery_writers.Found.{Found}
-use Rattle.desk.specs.declared.delivery_writers.Found.TheVariants.{Is, Outside}
 use Rattle.desk.proofs.Called.{called}
 
 -- the promise of what makes the same
-same_called : (d e : Reading (List ℕ)) → d ≡ e → (o o' : List ℕ) (w : Written) (r : WriteAnswer) → Writes d o w o'
+same_called : (d e : Reading (List ℕ)) → d ≡ e → (o o' : List ℕ) (w : Result ℕ Refusal) (r : WriteAnswer) → Writes d o w o'
     → r ≡ says (told w) → Called e o r o'
 same_called d e q o o' w r x h = called e o o' w r (subst (λ y. Writes y o w o') q x) h
 
@@ -41,18 +40,18 @@ module _ (c : Satellite) where
   unfolding satellite_given satellite_fields
   satellite_flag h = rw (lt-ltb 1 c.west_east_flag h)
 
-  module _ (x : Found) (flag : c.west_east_flag ≤ 1)
+  module _ (x : Option System) (flag : c.west_east_flag ≤ 1)
       (found : told_system x ≡ system_of c.modulation_system c.roll_off) where
-    pub satellite_system : x ≡ Outside → satellite_given c ≡ refused 112
+    pub satellite_system : x ≡ None → satellite_given c ≡ refused 112
     unfolding satellite_given satellite_fields
     satellite_system e = rw (le-ltb 1 c.west_east_flag flag, sym found ∙ ap told_system e)
 
-    satellite_made : (w : System) → x ≡ Is w → satellite_given c ≡ satellite_written (satellite_of c w)
+    satellite_made : (w : System) → x ≡ Some w → satellite_given c ≡ satellite_written (satellite_of c w)
     unfolding satellite_given satellite_fields
     satellite_made w e = rw (le-ltb 1 c.west_east_flag flag, sym found ∙ ap told_system e)
 
-    pub satellite_called : (w : System) → x ≡ Is w → (f : satellite.Satellite) → f ≡ satellite_of c w
-        → (o o' : List ℕ) (v : Written) (r : WriteAnswer) → Writes (satellite_written f) o v o' → r ≡ says (told v)
+    pub satellite_called : (w : System) → x ≡ Some w → (f : satellite.Satellite) → f ≡ satellite_of c w
+        → (o o' : List ℕ) (v : Result ℕ Refusal) (r : WriteAnswer) → Writes (satellite_written f) o v o' → r ≡ says (told v)
         → Called (satellite_given c) o r o'
     satellite_called w e f q =
         same_called (satellite_written f) (satellite_given c) (ap satellite_written q ∙ sym (satellite_made w e))
@@ -69,7 +68,7 @@ module _ (c : Terrestrial) (b : Bool) (test : b ≡ are_flags c) where
   terrestrial_made h = rw (sym test ∙ not-false b h)
 
   pub terrestrial_called : not b ≡ false → (f : terrestrial.Terrestrial) → f ≡ terrestrial_of c → (o o' : List ℕ)
-      (v : Written) (r : WriteAnswer) → Writes (terrestrial_written f) o v o' → r ≡ says (told v)
+      (v : Result ℕ Refusal) (r : WriteAnswer) → Writes (terrestrial_written f) o v o' → r ≡ says (told v)
       → Called (terrestrial_given c) o r o'
   terrestrial_called h f q =
       same_called (terrestrial_written f) (terrestrial_given c) (ap terrestrial_written q ∙ sym (terrestrial_made h))
@@ -93,7 +92,7 @@ module _ (bytes : List ℕ) (p : Part) (b : Bool) (test : b ≡ lies_in bytes p)
   unfolding stuffing_given
   stuffing_outside h = ap (λ r. r >>= stuffing_written) (text_outside h)
 
-  module _ (h : not b ≡ false) (t : List ℕ) (taken : t ≡ text_of bytes p) (o o' : List ℕ) (v : Written)
+  module _ (h : not b ≡ false) (t : List ℕ) (taken : t ≡ text_of bytes p) (o o' : List ℕ) (v : Result ℕ Refusal)
       (r : WriteAnswer) where
     pub name_called : Writes (network_name_written t) o v o' → r ≡ says (told v) → Called (name_given bytes p) o r o'
     unfolding name_given
@@ -147,7 +146,7 @@ module _ (bytes : List ℕ) (c : Service) where
           both_inside bytes c.service_provider_name c.service_name b d first second service_fields h
 
       pub service_called : not d ≡ false → (t u : List ℕ) → t ≡ text_of bytes c.service_provider_name
-          → u ≡ text_of bytes c.service_name → (o o' : List ℕ) (v : Written) (r : WriteAnswer)
+          → u ≡ text_of bytes c.service_name → (o o' : List ℕ) (v : Result ℕ Refusal) (r : WriteAnswer)
           → Writes (service_fields t u) o v o' → r ≡ says (told v) → Called (service_given bytes c) o r o'
       service_called g t u e q =
           same_called (service_fields t u) (service_given bytes c) (ap₂ service_fields e q ∙ sym (service_made g))
@@ -172,7 +171,7 @@ module _ (bytes : List ℕ) (c : ShortEvent) where
       event_made = both_inside bytes c.event_name c.text b d first second event_fields h
 
       pub event_called : not d ≡ false → (t u : List ℕ) → t ≡ text_of bytes c.event_name
-          → u ≡ text_of bytes c.text → (o o' : List ℕ) (v : Written) (r : WriteAnswer)
+          → u ≡ text_of bytes c.text → (o o' : List ℕ) (v : Result ℕ Refusal) (r : WriteAnswer)
           → Writes (event_fields t u) o v o' → r ≡ says (told v) → Called (short_event_given bytes c) o r o'
       event_called g t u e q =
           same_called (event_fields t u) (short_event_given bytes c) (ap₂ event_fields e q ∙ sym (event_made g))

@@ -1,5 +1,5 @@
 -- The fields of the delivery systems, as a reading gives them to C: flags are 0 or 1, and DVB-S has no roll_off. Any other number is 112.
-use Rattle.std.specs.Prelude.{Bool, List, [], ◌∷◌, ℕ, eqb, ltb, if◌then◌else◌}
+use Rattle.std.specs.Prelude.{Bool, List, [], ◌∷◌, ℕ, eqb, ltb, if◌then◌else◌, Option, Some, None}
 use Rattle.wire.specs.Reading.{Reading, value, refused, ◌>>=◌}
 use Rattle.writing.specs.Fill.{below}
 use Rattle.delivery.specs.declared.cable.Cable as cable
@@ -13,8 +13,6 @@ use Rattle.write_delivery.specs.Terrestrial.{terrestrial_written}
 use Rattle.cabinet.specs.declared.delivery_readings.Cable.{Cable}
 use Rattle.cabinet.specs.declared.delivery_readings.Satellite.{Satellite}
 use Rattle.cabinet.specs.declared.delivery_readings.Terrestrial.{Terrestrial}
-use Rattle.desk.specs.declared.delivery_writers.Found.{Found}
-use Rattle.desk.specs.declared.delivery_writers.Found.TheVariants.{Is, Outside}
 
 -- ---- 0x44 cable
 
@@ -58,9 +56,9 @@ unfoldable pub satellite_given : Satellite → Reading (List ℕ)
 satellite_given c = satellite_fields c >>= satellite_written
 
 -- what an answer tells
-abbrev pub told_system : Found → Reading System
-told_system (Is w) = value w
-told_system Outside = refused 112
+abbrev pub told_system : Option System → Reading System
+told_system (Some w) = value w
+told_system None = refused 112
 
 -- ---- 0x5A terrestrial
 

@@ -3,7 +3,7 @@ ghost use Rattle.std.specs.Prelude.{◌≡◌};
 ghost use Rattle.writing.specs.Written.{told};
 ghost use Rattle.desk.specs.Answers.{says, saysOutside};
 
-use writing::Written;
+use writing::Refusal;
 
 #[repr(C)]
 #[derive(Clone, Copy)]
@@ -12,21 +12,17 @@ pub struct WriteAnswer {
     pub size: usize,
 }
 
-pub fn answer_of(written: Written) -> WriteAnswer
+pub fn answer_of(written: Result<usize, Refusal>) -> WriteAnswer
     ensures { result ≡ says (told written) }
 {
     match written {
-        Written::Wrote(size) => WriteAnswer { number: 0, size },
-        Written::Room => WriteAnswer {
-            number: 111,
-            size: 0,
-        },
-        Written::Field => WriteAnswer {
-            number: 112,
-            size: 0,
-        },
-        Written::Long => WriteAnswer {
-            number: 113,
+        Ok(size) => WriteAnswer { number: 0, size },
+        Err(refusal) => WriteAnswer {
+            number: match refusal {
+                Refusal::Room => 111,
+                Refusal::Field => 112,
+                Refusal::Long => 113,
+            },
             size: 0,
         },
     }
@@ -37,8 +33,8 @@ pub fn outside(room: usize) -> WriteAnswer
     ensures { result ≡ saysOutside room }
 {
     if room < 257 {
-        answer_of(Written::Room)
+        answer_of(Err(Refusal::Room))
     } else {
-        answer_of(Written::Field)
+        answer_of(Err(Refusal::Field))
     }
 }

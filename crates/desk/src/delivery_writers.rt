@@ -12,46 +12,33 @@ use delivery::{cable, satellite, terrestrial};
 pub extern "C" fn lohitunga_write_cable(cable: Cable, room: &mut [u8]) -> WriteAnswer
     ensures { Called (cable_given cable) room.old result room.new }
 {
-    let frequency = cable.frequency;
     let fields = cable::Cable {
-        frequency: cable::CableFrequency(frequency.steps),
+        frequency: cable::CableFrequency(cable.frequency.steps),
         fec_outer: cable.fec_outer,
         modulation: cable.modulation,
         symbol_rate: cable.symbol_rate,
         fec_inner: cable.fec_inner,
     };
-    let written = write_delivery::cable::write(fields, room);
-    answer_of(written)
+    answer_of(write_delivery::cable::write(fields, room))
 }
 
-// A modulation system by its two fields.
-#[derive(Clone, Copy)]
-enum Found {
-    Is(satellite::System),
-    Outside,
-}
-
-fn system_of(modulation_system: u8, roll_off: u8) -> Found
+// A modulation system by its two fields; DVB-S has no roll-off factor.
+#[tactic(auto, unfolding(crate::specs::Delivery::system_of))]
+fn system_of(modulation_system: u8, roll_off: u8) -> Option<satellite::System>
     ensures { told_system result ≡ system_of modulation_system roll_off }
 {
-    if modulation_system == 1 {
-        return Found::Is(satellite::System::S2 { roll_off });
+    match (modulation_system, roll_off) {
+        (1, roll_off) => Some(satellite::System::S2 { roll_off }),
+        (0, 0) => Some(satellite::System::S),
+        _ => None,
     }
-    if modulation_system != 0 {
-        return Found::Outside;
-    }
-    if roll_off != 0 {
-        return Found::Outside;
-    }
-    Found::Is(satellite::System::S)
 }
 
 fn satellite_of(c: Satellite, system: satellite::System) -> satellite::Satellite
     ensures { result ≡ satellite_of c system }
 {
-    let frequency = c.frequency;
     satellite::Satellite {
-        frequency: satellite::SatelliteFrequency(frequency.steps),
+        frequency: satellite::SatelliteFrequency(c.frequency.steps),
         orbital_position: c.orbital_position,
         west_east_flag: c.west_east_flag == 1,
         polarization: c.polarization,
@@ -69,40 +56,28 @@ pub extern "C" fn lohitunga_write_satellite(satellite: Satellite, room: &mut [u8
     if 1 < satellite.west_east_flag {
         return outside(room.len());
     }
-    match system_of(satellite.modulation_system, satellite.roll_off) {
-        Found::Outside => outside(room.len()),
-        Found::Is(system) => {
-            let written = write_delivery::satellite::write(satellite_of(satellite, system), room);
-            answer_of(written)
-        }
-    }
+    let Some(system) = system_of(satellite.modulation_system, satellite.roll_off) else {
+        return outside(room.len());
+    };
+    answer_of(write_delivery::satellite::write(satellite_of(satellite, system), room))
 }
 
 // Each flag is 0 or 1.
+#[tactic(auto, unfolding(crate::specs::Delivery::are_flags, writing::specs::Fill::below))]
 fn are_flags(c: Terrestrial) -> bool
     ensures { result ≡ are_flags c }
 {
-    if 1 < c.priority {
-        return false;
-    }
-    if 1 < c.time_slicing_indicator {
-        return false;
-    }
-    if 1 < c.mpe_fec_indicator {
-        return false;
-    }
-    if 1 < c.other_frequency_flag {
-        return false;
-    }
-    true
+    c.priority <= 1
+        && c.time_slicing_indicator <= 1
+        && c.mpe_fec_indicator <= 1
+        && c.other_frequency_flag <= 1
 }
 
 fn terrestrial_of(c: Terrestrial) -> terrestrial::Terrestrial
     ensures { result ≡ terrestrial_of c }
 {
-    let frequency = c.centre_frequency;
     terrestrial::Terrestrial {
-        centre_frequency: terrestrial::TerrestrialFrequency(frequency.steps),
+        centre_frequency: terrestrial::TerrestrialFrequency(c.centre_frequency.steps),
         bandwidth: c.bandwidth,
         priority: c.priority == 1,
         time_slicing_indicator: c.time_slicing_indicator == 1,
@@ -127,6 +102,5 @@ pub extern "C" fn lohitunga_write_terrestrial(
     if !are_flags(terrestrial) {
         return outside(room.len());
     }
-    let written = write_delivery::terrestrial::write(terrestrial_of(terrestrial), room);
-    answer_of(written)
+    answer_of(write_delivery::terrestrial::write(terrestrial_of(terrestrial), room))
 }

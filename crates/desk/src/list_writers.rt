@@ -12,30 +12,26 @@ use write_lists::{content, local_time_offset, parental_rating, service_list};
 pub extern "C" fn lohitunga_write_service_list(numbers: &[i32], room: &mut [u8]) -> WriteAnswer
     ensures { Called (service_list_written numbers.now) room.old result room.new }
 {
-    let services = service_list::write(numbers, room);
-    answer_of(services)
+    answer_of(service_list::write(numbers, room))
 }
 
 #[unsafe(no_mangle)]
 pub extern "C" fn lohitunga_write_content(numbers: &[i32], room: &mut [u8]) -> WriteAnswer
     ensures { Called (content_written numbers.now) room.old result room.new }
 {
-    let contents = content::write(numbers, room);
-    answer_of(contents)
+    answer_of(content::write(numbers, room))
 }
 
 #[unsafe(no_mangle)]
 pub extern "C" fn lohitunga_write_parental_rating(numbers: &[i32], room: &mut [u8]) -> WriteAnswer
     ensures { Called (parental_rating_written numbers.now) room.old result room.new }
 {
-    let ratings = parental_rating::write(numbers, room);
-    answer_of(ratings)
+    answer_of(parental_rating::write(numbers, room))
 }
 
 #[unsafe(no_mangle)]
 pub extern "C" fn lohitunga_write_local_time_offset(numbers: &[i32], room: &mut [u8]) -> WriteAnswer
     ensures { Called (local_time_offset_written numbers.now) room.old result room.new }
 {
-    let offsets = local_time_offset::write(numbers, room);
-    answer_of(offsets)
+    answer_of(local_time_offset::write(numbers, room))
 }

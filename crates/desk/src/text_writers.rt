@@ -12,18 +12,14 @@ use write_texts::{network_name, service, short_event, stuffing};
 fn lies_in(p: Part, bytes: &[u8]) -> bool
     ensures { result ≡ lies_in bytes.now p }
 {
-    let start = p.start;
-    let size = p.size;
-    !lacks(bytes.len(), start, size)
+    !lacks(bytes.len(), p.start, p.size)
 }
 
 // The bytes of a part.
 fn text(bytes: &[u8], p: Part) -> &[u8]
     ensures { result.now ≡ text_of bytes.now p }
 {
-    let start = p.start;
-    let size = p.size;
-    part(bytes, start, size)
+    part(bytes, p.start, p.size)
 }
 
 #[unsafe(no_mangle)]
@@ -37,8 +33,7 @@ pub extern "C" fn lohitunga_write_network_name(
     if !lies_in(name, bytes) {
         return outside(room.len());
     }
-    let written = network_name::write(text(bytes, name), room);
-    answer_of(written)
+    answer_of(network_name::write(text(bytes, name), room))
 }
 
 #[unsafe(no_mangle)]
@@ -52,8 +47,7 @@ pub extern "C" fn lohitunga_write_stuffing(
     if !lies_in(stuffing, bytes) {
         return outside(room.len());
     }
-    let written = stuffing::write(text(bytes, stuffing), room);
-    answer_of(written)
+    answer_of(stuffing::write(text(bytes, stuffing), room))
 }
 
 #[unsafe(no_mangle)]
@@ -72,13 +66,12 @@ pub extern "C" fn lohitunga_write_service(
     if !lies_in(name, bytes) {
         return outside(room.len());
     }
-    let written = service::write(
+    answer_of(service::write(
         service.service_type,
         text(bytes, provider),
         text(bytes, name),
         room,
-    );
-    answer_of(written)
+    ))
 }
 
 #[unsafe(no_mangle)]
@@ -97,11 +90,10 @@ pub extern "C" fn lohitunga_write_short_event(
     if !lies_in(description, bytes) {
         return outside(room.len());
     }
-    let written = short_event::write(
+    answer_of(short_event::write(
         short_event.language_code,
         text(bytes, name),
         text(bytes, description),
         room,
-    );
-    answer_of(written)
+    ))
 }

@@ -7,13 +7,13 @@ use native.Mathlib.Omega.{arith}
 use borrow.Author.Tests.{not-false, not-true}
 use lib.ListN.{length}
 use Rattle.wire.specs.Digits.{bcd_show}
+use Rattle.std.specs.Prelude.{Ok}
 use Rattle.wire.specs.Reading.{Reading, value, refused, ◌>>=◌}
 use Rattle.wire.proofs.Shown.{show_below}
 use Rattle.forms.specs.Room.{put}
 use Rattle.forms.proofs.Puts.{put_put}
 use Rattle.writing.specs.Number.{ofNumber}
 use Rattle.writing.specs.Written.{inside, headed, Writes}
-use Rattle.writing.specs.declared.Written.TheVariants.{Wrote}
 use Rattle.writing.proofs.NumberBytes.{of_join, head_bytes}
 use Rattle.writing.proofs.Tens.{show_short}
 use Rattle.writing.proofs.Answers.{written}
@@ -62,7 +62,7 @@ abbrev pub WritesBody : Reading (List ℕ) → Bool → ℕ → ℕ → ℕ → 
 WritesBody d r tag first middle last =
     (o o' : List ℕ) (x y z : ℕ) → not r ≡ false → 257 ≤ length o → o' ≡ put o 0 (tag ∷ 11 ∷ body x y z)
     → x ≡ first → y ≡ middle → z ≡ last
-    → Writes d o (Wrote 13) o'
+    → Writes d o (Ok 13) o'
 
 module _ (tag : ℕ) (ok : Bool) (b : List ℕ) where
   abbrev descriptor : Reading (List ℕ)

@@ -1,18 +1,11 @@
-// What they have alike: a body of 4, 3 and 4 bytes, flags of one bit, and in two of them the last four bytes.
+// What they have alike: a body of 4, 3 and 4 bytes, and in two of them the last four bytes.
 ghost use Rattle.std.specs.Prelude.{◌≡◌, ◌∷◌, ◌++◌, ◌+◌, ◌*◌, ◌^◌, ◌<◌, ◌≤◌, length};
 ghost use Rattle.wire.specs.Digits.{bcd_show};
 ghost use Rattle.forms.specs.Room.{put};
-ghost use Rattle.layout.specs.Widths.{bit};
 ghost use Rattle.writing.specs.Number.{ofNumber};
 
 use writing::digits::to_bcd;
 use writing::numbers::put_number;
-
-pub fn of_flag(flag: bool) -> u8
-    ensures { result ≡ bit flag }
-{
-    if flag { 1 } else { 0 }
-}
 
 // The tag, the length and the body, at the room's start.
 pub fn put_body(room: &mut [u8], tag: u8, first: u32, middle: u32, last: u32)

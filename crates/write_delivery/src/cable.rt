@@ -7,30 +7,17 @@ ghost use Rattle.write_delivery.specs.Inner.Middle.{cable_middle};
 
 use crate::body::{put_body, rate_bits};
 use delivery::cable::Cable;
-use writing::Written;
 use writing::digits::to_bcd;
+use writing::{Refusal, room_for};
 
+#[tactic(auto, unfolding(writing::specs::Fill::below))]
 fn is_inside(f: Cable) -> bool
     ensures { result ≡ below (numbers f) limits }
 {
-    let frequency = f.frequency;
-    let frequency = frequency.0;
-    let rate = f.symbol_rate;
-    let outer = f.fec_outer;
-    let inner = f.fec_inner;
-    if 100_000_000 <= frequency {
-        return false;
-    }
-    if 16 <= outer {
-        return false;
-    }
-    if 10_000_000 <= rate {
-        return false;
-    }
-    if 16 <= inner {
-        return false;
-    }
-    true
+    f.frequency.0 < 100_000_000
+        && f.fec_outer < 16
+        && f.symbol_rate < 10_000_000
+        && f.fec_inner < 16
 }
 
 // The three bytes behind the frequency.
@@ -40,17 +27,14 @@ fn middle(f: Cable) -> u32
     0xFF_F000 + f.fec_outer as u32 * 256 + f.modulation as u32
 }
 
-pub fn write(f: Cable, room: &mut [u8]) -> Written
+pub fn write(f: Cable, room: &mut [u8]) -> Result<usize, Refusal>
     ensures { Writes (cable_written f) room.old result room.new }
 {
-    if room.len() < 257 {
-        return Written::Room;
-    }
+    room_for(room)?;
     if !is_inside(f) {
-        return Written::Field;
+        return Err(Refusal::Field);
     }
     let last = rate_bits(f.symbol_rate, f.fec_inner);
-    let frequency = f.frequency;
-    put_body(room, 0x44, to_bcd(frequency.0), middle(f), last);
-    Written::Wrote(13)
+    put_body(room, 0x44, to_bcd(f.frequency.0), middle(f), last);
+    Ok(13)
 }

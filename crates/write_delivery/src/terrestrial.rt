@@ -6,35 +6,21 @@ ghost use Rattle.writing.specs.Written.{Writes};
 ghost use Rattle.write_delivery.specs.Terrestrial.{terrestrial_written};
 ghost use Rattle.write_delivery.specs.Inner.Middle.{first_bits, second_bits, third_bits, terrestrial_middle};
 
-use crate::body::{of_flag, put_body};
+use crate::body::put_body;
 use delivery::terrestrial::Terrestrial;
-use writing::Written;
+use writing::{Refusal, room_for};
 
+#[tactic(auto, unfolding(writing::specs::Fill::below))]
 fn is_inside(f: Terrestrial) -> bool
     ensures { result ≡ below (shown f) (capacities layout) }
 {
-    if 8 <= f.bandwidth {
-        return false;
-    }
-    if 4 <= f.constellation {
-        return false;
-    }
-    if 8 <= f.hierarchy_information {
-        return false;
-    }
-    if 8 <= f.code_rate_hp_stream {
-        return false;
-    }
-    if 8 <= f.code_rate_lp_stream {
-        return false;
-    }
-    if 4 <= f.guard_interval {
-        return false;
-    }
-    if 4 <= f.transmission_mode {
-        return false;
-    }
-    true
+    f.bandwidth < 8
+        && f.constellation < 4
+        && f.hierarchy_information < 8
+        && f.code_rate_hp_stream < 8
+        && f.code_rate_lp_stream < 8
+        && f.guard_interval < 4
+        && f.transmission_mode < 4
 }
 
 // The three bytes behind the frequency, one by one. Each is small whatever the fields are, so that their sum fits.
@@ -42,9 +28,9 @@ fn first_bits(f: Terrestrial) -> u32
     ensures { (result ≡ first_bits f) × (result < 2 ^ 15) }
 {
     f.bandwidth as u32 * 32
-        + of_flag(f.priority) as u32 * 16
-        + of_flag(f.time_slicing_indicator) as u32 * 8
-        + of_flag(f.mpe_fec_indicator) as u32 * 4
+        + f.priority as u32 * 16
+        + f.time_slicing_indicator as u32 * 8
+        + f.mpe_fec_indicator as u32 * 4
         + 3
 }
 
@@ -60,7 +46,7 @@ fn third_bits(f: Terrestrial) -> u32
     f.code_rate_lp_stream as u32 * 32
         + f.guard_interval as u32 * 8
         + f.transmission_mode as u32 * 2
-        + of_flag(f.other_frequency_flag) as u32
+        + f.other_frequency_flag as u32
 }
 
 // All three.
@@ -70,16 +56,13 @@ fn middle(f: Terrestrial) -> u32
     first_bits(f) * 0x1_0000 + second_bits(f) * 0x100 + third_bits(f)
 }
 
-pub fn write(f: Terrestrial, room: &mut [u8]) -> Written
+pub fn write(f: Terrestrial, room: &mut [u8]) -> Result<usize, Refusal>
     ensures { Writes (terrestrial_written f) room.old result room.new }
 {
-    if room.len() < 257 {
-        return Written::Room;
-    }
+    room_for(room)?;
     if !is_inside(f) {
-        return Written::Field;
+        return Err(Refusal::Field);
     }
-    let frequency = f.centre_frequency;
-    put_body(room, 0x5A, frequency.0, middle(f), 0xFFFF_FFFF);
-    Written::Wrote(13)
+    put_body(room, 0x5A, f.centre_frequency.0, middle(f), 0xFFFF_FFFF);
+    Ok(13)
 }

@@ -9,7 +9,8 @@ use lib.Dec.{ltb, eqb, eqb-suc-zero}
 use lib.IntN.{ℤ, pos, negsuc, nat_abs}
 use lib.ListN.{length, get_or, drop}
 use lib.Seq.{get_or-drop}
-use Rattle.std.specs.Prelude.{if◌then◌else◌, None, Some}
+use Rattle.std.specs.Prelude.{if◌then◌else◌}
+use Rattle.std.specs.Prelude.{Option, Some, None}
 use Rattle.wire.specs.Reading.{Reading, value, refused, ◌>>=◌}
 use Rattle.wire.proofs.ReadingLaws.{value_is, refused_is, never, through}
 use Rattle.forms.specs.Fields.{Field, kept, bits, room, pack}
@@ -36,8 +37,6 @@ use Rattle.write_lists.specs.Inner.Offsets.{hours_in, signs, front_bits, back_bi
 use Rattle.write_lists.specs.Inner.Kinds.{item_size, piece_of, service_bits, content_bits, rating_bits, item_of}
 use Rattle.write_lists.specs.declared.kinds.Kind.{Kind}
 use Rattle.write_lists.specs.declared.kinds.Kind.TheVariants.{ServiceList, Content, ParentalRating, LocalTimeOffset}
-use Rattle.write_lists.specs.declared.numbers.Bits.{Bits}
-use Rattle.write_lists.specs.declared.numbers.Bits.TheVariants.{Are, Outside}
 
 bind_bind : {A B C : Type 0} (r : Reading A) (f : A → Reading B) (g : B → Reading C)
     → ((r >>= f) >>= g) ≡ (r >>= λ a. f a >>= g)
@@ -193,13 +192,13 @@ made_offset country region p local change next h =
     ap (ofNumber 13) (omega arith) ∙ of_join 6 7 high (change * 2 ^ 16 + next) h
 
 -- what an answer tells is below its limit, or refused by 112
-told_below : {limit x : ℕ} (b : Bits) → Within limit (value x) b → x < limit
-told_below {limit} (Are y) w = subst (λ n. n < limit) (value_is w.told) w.small
-told_below Outside w = absurd (never (sym w.told))
+told_below : {limit x : ℕ} (b : Option ℕ) → Within limit (value x) b → x < limit
+told_below {limit} (Some y) w = subst (λ n. n < limit) (value_is w.told) w.small
+told_below None w = absurd (never (sym w.told))
 
-told_refusal : {limit k : ℕ} (b : Bits) → Within limit (refused k) b → 112 ≡ k
-told_refusal (Are y) w = absurd (never w.told)
-told_refusal Outside w = refused_is w.told
+told_refusal : {limit k : ℕ} (b : Option ℕ) → Within limit (refused k) b → 112 ≡ k
+told_refusal (Some y) w = absurd (never w.told)
+told_refusal None w = refused_is w.told
 
 -- an item, where its offsets are such
 abbrev item_with : ℕ → ℕ → ℤ → ℤ → Bool → Moment → Reading Item
@@ -219,7 +218,7 @@ shown_if small z = if small then value (offset_shown z) else refused 112
 
 -- Offsets are refused by one test behind the time, and by three around it: all by 112, as the time is.
 module _ (country region : ℕ) (l n : ℤ) where
-  offsets_of : (m : Reading Moment) (opposed small near : Bool) (b : Bits)
+  offsets_of : (m : Reading Moment) (opposed small near : Bool) (b : Option ℕ)
       → Within (2 ^ 56) (joint (moment_bits m) (2 ^ 16) (shown_if near n)) b
       → (m >>= λ t. item_with country region l n (if small then (if near then not opposed else false) else false) t
       >>= bytes_of)
@@ -241,7 +240,7 @@ module _ (country region : ℕ) (l n : ℤ) where
   offsets_of (refused k) false false near b w = ap refused (sym (told_refusal b w))
   offsets_of (refused k) true small near b w = ap refused (sym (told_refusal b w))
 
-fields_of : (c r : Reading ℕ) (m : Reading Moment) (l n : ℤ) (b : Bits)
+fields_of : (c r : Reading ℕ) (m : Reading Moment) (l n : ℤ) (b : Option ℕ)
     → Within (2 ^ 56) (joint (moment_bits m) (2 ^ 16) (hours_in (sized n))) b
     → ((c >>= λ country. r >>= λ region. m >>= item_with country region l n (are_offsets l n)) >>= bytes_of)
     ≡ item_of LocalTimeOffset (joint (joint (joint c 64 r) 4 (signs (sized l) (sized n))) (2 ^ 16) (hours_in (sized l)))
@@ -254,7 +253,7 @@ fields_of (value c) (value r) m l n b w =
 fields_of (value c) (refused k) m l n b w = refl
 fields_of (refused k) r m l n b w = refl
 
-pub offset_piece : (zs : List ℤ) (b : Bits) → Within (2 ^ 56) (back_bits zs) b
+pub offset_piece : (zs : List ℤ) (b : Option ℕ) → Within (2 ^ 56) (back_bits zs) b
     → offsets.piece zs ≡ item_of LocalTimeOffset (front_bits zs) (back_bits zs)
 unfolding offsets.piece offsets.item
 offset_piece zs b w =

@@ -1,16 +1,14 @@
 -- Rows, from one to the next: for any reading of an item, and for the four lists.
 use Prim.{Unit}
 use mathlib.Core.Path.{◌≡◌, refl, sym, ap, ap₂, ◌∙◌}
-use mathlib.Core.Bool.{Bool, true, false, not}
+use mathlib.Core.Bool.{Bool, true, false}
 use mathlib.Core.List.{List, [], ◌∷◌, ◌++◌}
-use Prim.Native.Nat.{ℕ, zero, suc, ◌+◌, ◌-◌, ◌*◌, ◌^◌, ◌≤◌, ◌<◌}
-use native.Mathlib.Nat.{mul-suc, mul-zero}
+use Prim.Native.Nat.{ℕ, zero, suc, ◌+◌, ◌-◌, ◌*◌, ◌≤◌, ◌<◌}
+use native.Mathlib.Nat.{mul-suc, mul-zero, mul-add, mul-le-mul_left}
 use native.Mathlib.Omega.{arith}
-use borrow.Author.Tests.{not-true, not-false}
-use mir.Syntax.{w64}
-use mir.Val.{Fits}
 use lib.IntN.{ℤ}
 use lib.ListN.{length, drop, length-append, length-drop}
+use lib.Seq.{drop-drop}
 use Rattle.wire.specs.Reading.{Reading, value, refused, ◌>>=◌}
 use Rattle.wire.proofs.ReadingLaws.{never}
 use Rattle.forms.specs.Room.{put}
@@ -26,13 +24,23 @@ times_first : (m n : ℕ) → 0 < n → m * n ≡ m + m * (n - 1)
 times_first m zero h = absurd (omega arith)
 times_first m (suc n) h = let e : suc n - 1 ≡ n = omega arith in rw e (omega (arith, mul-suc m n))
 
--- so many rows of k numbers are there
-module _ (k n : ℕ) (zs : List ℤ) (enough : k * n ≤ length zs) (some : 0 < n) {j : ℕ} (e : j ≡ k) where
-  pub row_there : j ≤ length zs
-  row_there = omega (arith, times_first k n some)
+times_next : (m i : ℕ) → m * (i + 1) ≡ m * i + m
+times_next m i = omega (arith, mul-add m i 1)
 
-  pub rows_behind : {next : List ℤ} → next ≡ drop j zs → k * (n - 1) ≤ length next
-  rows_behind f = rw (f, e) (omega (arith, times_first k n some, length-drop k zs))
+drop_none : (zs : List ℤ) → drop 0 zs ≡ zs
+drop_none [] = refl
+drop_none (z ∷ zs) = refl
+
+-- one row more is left out
+next_row : (k i : ℕ) (zs : List ℤ) → drop k (drop (k * i) zs) ≡ drop (k * (i + 1)) zs
+next_row k i zs = drop-drop k (k * i) zs ∙ ap (λ m. drop m zs) (sym (times_next k i))
+
+-- so many rows of k numbers are there
+pub row_there : (k n i : ℕ) (zs : List ℤ) → k * n ≤ length zs → i < n → {j : ℕ} → j ≡ k → j * i ≤ length zs
+row_there k n i zs enough some e = rw e (omega (arith, mul-le-mul_left {m = i} {n = n} k (omega arith)))
+
+rows_behind : (k n : ℕ) (zs : List ℤ) → k * n ≤ length zs → 0 < n → k * (n - 1) ≤ length (drop k zs)
+rows_behind k n zs enough some = omega (arith, times_first k n some, length-drop k zs)
 
 -- ---- are they items?
 
@@ -54,6 +62,10 @@ module _ {A : Type 0} (k : ℕ) (item : List ℤ → Reading A) where
   unfolding rows
   rows_none n zs h = let e : n ≡ 0 = omega arith in rw e
 
+  -- none is judged yet
+  pub all_left : (n : ℕ) (zs : List ℤ) → judged (rows k item (n - 0) (drop (k * 0) zs)) ≡ judged (rows k item n zs)
+  all_left n zs = let all : n - 0 ≡ n = omega arith in rw (mul-zero k, drop_none zs, all) refl
+
   module _ (n : ℕ) (zs : List ℤ) {all : Reading (Unit {0})} (so_far : judged (rows k item n zs) ≡ all) where
     -- no row is left
     pub none_left : n ≤ 0 → passed true ≡ all
@@ -68,14 +80,28 @@ module _ {A : Type 0} (k : ℕ) (item : List ℤ → Reading A) where
           ∙ judged_both (item zs) (rows k item (n - 1) (drop k zs))
           ∙ ap (λ r. r >>= λ _. judged (rows k item (n - 1) (drop k zs))) (sym row)
 
-      -- the next row is no item
-      pub row_refused : not b ≡ true → passed false ≡ all
-      row_refused h = sym (rw (not-true b h) at first)
+      first_refused : b ≡ false → passed false ≡ all
+      first_refused h = sym (rw h at first)
 
-      -- the next row is one
-      pub row_passed : not b ≡ false → {j : ℕ} {next : List ℤ} → j ≡ k → next ≡ drop j zs
-          → judged (rows k item (n - 1) next) ≡ all
-      row_passed h e f = rw (f, e) (sym (rw (not-false b h) at first))
+      first_passed : b ≡ true → judged (rows k item (n - 1) (drop k zs)) ≡ all
+      first_passed h = sym (rw h at first)
+
+  -- the row of an index
+  module _ (n i : ℕ) (zs : List ℤ) {all : Reading (Unit {0})}
+      (so_far : judged (rows k item (n - i) (drop (k * i) zs)) ≡ all) (some : i < n) {j : ℕ} (e : j ≡ k)
+      {row : List ℤ} (f : row ≡ drop (j * i) zs) (b : Bool) (test : passed b ≡ judged (item row)) where
+    tested : passed b ≡ judged (item (drop (k * i) zs))
+    tested = test ∙ ap (λ r. judged (item r)) (f ∙ ap (λ x. drop (x * i) zs) e)
+
+    -- is no item
+    pub row_refused : b ≡ false → passed false ≡ all
+    row_refused = first_refused (n - i) (drop (k * i) zs) so_far (omega arith) b tested
+
+    -- is one
+    pub row_passed : b ≡ true → judged (rows k item (n - (i + 1)) (drop (k * (i + 1)) zs)) ≡ all
+    row_passed h =
+        let less : n - i - 1 ≡ n - (i + 1) = omega arith in
+        rw (less, next_row k i zs) at (first_passed (n - i) (drop (k * i) zs) so_far (omega arith) b tested h)
 
 -- ---- their bytes
 
@@ -132,8 +158,11 @@ module _ (kind : Kind) where
 
   pub all_ahead : (o : List ℕ) (zs : List ℤ) (n : ℕ)
       → (row_size kind * n ≤ length zs) × (2 + item_size kind * n ≤ length o) × Judged (items n zs)
-      → Ahead o (put o 2 (joined_rows (items n zs))) o zs n 2
-  all_ahead o zs n h = record { enough = h.0; are = h.2; fits = h.1; same = refl; rest = refl }
+      → Ahead o (put o 2 (joined_rows (items n zs))) o (drop (row_size kind * 0) zs) (n - 0) (2 + item_size kind * 0)
+  all_ahead o zs n h =
+      let all : n - 0 ≡ n = omega arith in
+      rw (mul-zero (row_size kind), mul-zero (item_size kind), drop_none zs, all)
+      (record { enough = h.0; are = h.2; fits = h.1; same = refl; rest = refl })
 
   module _ {o all room : List ℕ} {row : List ℤ} {left to : ℕ} (ahead : Ahead o all room row left to) where
     pub none_ahead : left ≤ 0 → room ≡ all
@@ -143,21 +172,12 @@ module _ (kind : Kind) where
         ∙ ahead.rest
 
     module _ (some : 0 < left) where
-      pub row_ahead : {k : ℕ} → k ≡ row_size kind → k ≤ length row
-      row_ahead e = row_there (row_size kind) left row ahead.enough some e
-
-      pub room_for : to + item_size kind ≤ length room
+      room_for : to + item_size kind ≤ length room
       room_for = omega (arith, ahead.fits, times_first (item_size kind) left some)
 
-      pub next_fits : {size : ℕ} → size ≡ item_size kind → length o < 2 ^ 64 → Fits w64 (to + size)
-      next_fits e h = record { fits = rw e (omega (arith, room_for, ahead.same)) }
-
-      pub next_ahead : {k size : ℕ} {room' : List ℕ} {next : List ℤ} → room' ≡ put room to (bytes_or (piece_of kind row))
-          → k ≡ row_size kind
-          → next ≡ drop k row
-          → size ≡ item_size kind
-          → Ahead o all room' next (left - 1) (to + size)
-      next_ahead stored e f g =
+      next_ahead : {room' : List ℕ} → room' ≡ put room to (bytes_or (piece_of kind row))
+          → Ahead o all room' (drop (row_size kind) row) (left - 1) (to + item_size kind)
+      next_ahead stored =
           let piece : List ℕ = bytes_or (piece_of kind row) in
           let rest : List ℕ = joined_rows (others left row) in
           let t = items_first left row some ahead.are in
@@ -166,8 +186,8 @@ module _ (kind : Kind) where
           let all_fit = ahead.fits in
           let more = times_first (item_size kind) left some in
           let kept = length_put room to piece (omega arith) in
-          rw (stored, f, e, g) (record {
-            enough = rows_behind (row_size kind) left row ahead.enough some refl refl;
+          rw stored (record {
+            enough = rows_behind (row_size kind) left row ahead.enough some;
             are = t.1;
             fits = omega arith;
             same = kept ∙ ahead.same;
@@ -176,3 +196,19 @@ module _ (kind : Kind) where
                 ∙ ap (put room to) (sym t.2)
                 ∙ ahead.rest;
           })
+
+  -- the item of an index
+  module _ {o all room : List ℕ} (zs : List ℤ) (n i : ℕ)
+      (ahead : Ahead o all room (drop (row_size kind * i) zs) (n - i) (2 + item_size kind * i)) (some : i < n)
+      {m : ℕ} (size : m ≡ item_size kind) where
+    pub item_room : 2 + m * i + item_size kind ≤ length room
+    item_room = rw size (room_for ahead (omega arith))
+
+    pub item_put : {j : ℕ} {row : List ℤ} {room' : List ℕ} → j ≡ row_size kind → row ≡ drop (j * i) zs
+        → room' ≡ put room (2 + m * i) (bytes_or (piece_of kind row))
+        → Ahead o all room' (drop (row_size kind * (i + 1)) zs) (n - (i + 1)) (2 + item_size kind * (i + 1))
+    item_put e f stored =
+        let less : n - i - 1 ≡ n - (i + 1) = omega arith in
+        let along : 2 + item_size kind * i + item_size kind ≡ 2 + item_size kind * (i + 1) =
+        omega (arith, times_next (item_size kind) i) in
+        rw (less, along, next_row (row_size kind) i zs) at (next_ahead ahead (omega arith) (rw (f, e, size) at stored))

@@ -10,66 +10,62 @@ pub enum Kind {
     LocalTimeOffset,
 }
 
+#[derive(Clone, Copy)]
+pub struct Sizes {
+    pub tag: u8,
+    // The numbers of a row.
+    pub row: usize,
+    // The bytes of an item.
+    pub item: usize,
+    // Of them the bytes of the high number, and of the low one.
+    pub high: usize,
+    pub low: usize,
+}
+
 // An item's bytes as two numbers, the one behind the other.
 #[derive(Clone, Copy)]
-pub enum Piece {
-    Is { high: u64, low: u64 },
-    // A field outside its layout.
-    Outside,
+pub struct Piece {
+    pub high: u64,
+    pub low: u64,
 }
 
-pub fn tag(kind: Kind) -> u8
-    ensures { result ≡ tag_of kind }
-{
-    match kind {
-        Kind::ServiceList => 0x41,
-        Kind::Content => 0x54,
-        Kind::ParentalRating => 0x55,
-        Kind::LocalTimeOffset => 0x58,
-    }
-}
-
-pub fn row_size(kind: Kind) -> usize
-    ensures { (result ≡ row_size kind) × (0 < result) }
-{
-    match kind {
-        Kind::ServiceList => 2,
-        Kind::Content => 3,
-        Kind::ParentalRating => 2,
-        Kind::LocalTimeOffset => 9,
-    }
-}
-
-pub fn item_size(kind: Kind) -> usize
-    ensures { (result ≡ item_size kind) × (0 < result) }
-{
-    match kind {
-        Kind::ServiceList => 3,
-        Kind::Content => 2,
-        Kind::ParentalRating => 4,
-        Kind::LocalTimeOffset => 13,
-    }
-}
-
-// The bytes of the high number, and of the low one.
-pub fn high_size(kind: Kind) -> usize
-    ensures { result ≡ high_size kind }
-{
-    match kind {
-        Kind::ServiceList => 0,
-        Kind::Content => 0,
-        Kind::ParentalRating => 0,
-        Kind::LocalTimeOffset => 6,
-    }
-}
-
-pub fn low_size(kind: Kind) -> usize
-    ensures { result ≡ low_size kind }
-{
-    match kind {
-        Kind::ServiceList => 3,
-        Kind::Content => 2,
-        Kind::ParentalRating => 4,
-        Kind::LocalTimeOffset => 7,
+impl Kind {
+    pub fn sizes(self) -> Sizes
+        ensures tag { result.tag ≡ tag_of self }
+        ensures row { (result.row ≡ row_size self) × (0 < result.row) }
+        ensures item { (result.item ≡ item_size self) × (0 < result.item) }
+        ensures high { result.high ≡ high_size self }
+        ensures low { result.low ≡ low_size self }
+    {
+        match self {
+            Kind::ServiceList => Sizes {
+                tag: 0x41,
+                row: 2,
+                item: 3,
+                high: 0,
+                low: 3,
+            },
+            Kind::Content => Sizes {
+                tag: 0x54,
+                row: 3,
+                item: 2,
+                high: 0,
+                low: 2,
+            },
+            Kind::ParentalRating => Sizes {
+                tag: 0x55,
+                row: 2,
+                item: 4,
+                high: 0,
+                low: 4,
+            },
+            Kind::LocalTimeOffset => Sizes {
+                tag: 0x58,
+                row: 9,
+                item: 13,
+                high: 6,
+                low: 7,
+            },
+        }
     }
 }

@@ -4,9 +4,9 @@ ghost use Rattle.writing.specs.Written.{Writes};
 ghost use Rattle.write_lists.specs.LocalTimeOffset.{local_time_offset_written};
 
 use crate::kinds::Kind;
-use writing::Written;
+use writing::Refusal;
 
-pub fn write(numbers: &[i32], room: &mut [u8]) -> Written
+pub fn write(numbers: &[i32], room: &mut [u8]) -> Result<usize, Refusal>
     ensures { Writes (local_time_offset_written numbers.now) room.old result room.new }
 {
     crate::rows::write(Kind::LocalTimeOffset, numbers, room)

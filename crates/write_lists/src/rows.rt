@@ -8,54 +8,40 @@ ghost use Rattle.write_lists.specs.Inner.Kinds.{row_size, high_size, low_size, i
 ghost use Rattle.write_lists.specs.Inner.Kinds.{told_piece, item_of, passed, judged, Judged, bytes_or, joined_rows, list_bytes, Ready, Counted};
 ghost use Rattle.write_lists.specs.Inner.Numbers.{told_bits};
 
-use crate::kinds::{Kind, Piece, high_size, item_size, low_size, row_size, tag};
-use crate::numbers::{Bits, after};
+use crate::kinds::{Kind, Piece};
+use crate::numbers::after;
 use crate::{offsets, pieces};
-use writing::Written;
 use writing::numbers::put_number;
-
-// The rows of some numbers.
-#[derive(Clone, Copy)]
-pub enum Count {
-    Rows(usize),
-    // 112: numbers that are no row, or a row that is no item.
-    Outside,
-    // 113: items of more than 255 bytes.
-    Long,
-}
+use writing::{Refusal, room_for};
 
 // An item of two numbers.
-fn item(high: Bits, low: Bits) -> Piece
+#[tactic(auto, unfolding(crate::specs::Inner::Kinds::item_of))]
+fn item(high: Option<u64>, low: Option<u64>) -> Option<Piece>
     ensures { (k : Kind) → told_piece k result ≡ item_of k (told_bits high) (told_bits low) }
 {
-    match high {
-        Bits::Outside => Piece::Outside,
-        Bits::Are(high) => match low {
-            Bits::Outside => Piece::Outside,
-            Bits::Are(low) => Piece::Is { high, low },
-        },
-    }
+    Some(Piece {
+        high: high?,
+        low: low?,
+    })
 }
 
 // The item of the row that some numbers begin with.
-fn piece(kind: Kind, row: &[i32]) -> Piece
+fn piece(kind: Kind, row: &[i32]) -> Option<Piece>
     ensures { told_piece kind result ≡ piece_of kind row.now }
 {
     match kind {
-        Kind::ServiceList => item(Bits::Are(0), pieces::service(row)),
-        Kind::Content => item(Bits::Are(0), pieces::content(row)),
-        Kind::ParentalRating => item(Bits::Are(0), pieces::rating(row)),
+        Kind::ServiceList => item(Some(0), pieces::service(row)),
+        Kind::Content => item(Some(0), pieces::content(row)),
+        Kind::ParentalRating => item(Some(0), pieces::rating(row)),
         Kind::LocalTimeOffset => item(offsets::front(row), offsets::back(row)),
     }
 }
 
+#[tactic(auto, unfolding(crate::specs::Inner::Kinds::judged))]
 fn is_item(kind: Kind, row: &[i32]) -> bool
     ensures { passed result ≡ judged (piece_of kind row.now) }
 {
-    match piece(kind, row) {
-        Piece::Outside => false,
-        Piece::Is { high: _, low: _ } => true,
-    }
+    piece(kind, row).is_some()
 }
 
 // Each of n rows is an item.
@@ -63,28 +49,23 @@ fn are_items(kind: Kind, numbers: &[i32], n: usize) -> bool
     requires { row_size kind * n ≤ length numbers.now }
     ensures { passed result ≡ judged (rows (row_size kind) (piece_of kind) n numbers.now) }
 {
-    let k = row_size(kind);
-    let mut row = numbers;
-    let mut left = n;
-    while 0 < left {
-        if !is_item(kind, row) {
+    let k = kind.sizes().row;
+    for i in 0..n {
+        if !is_item(kind, after(numbers, k * i)) {
             return false;
         }
-        let next = after(row, k);
-        row = next;
-        left -= 1;
     }
     true
 }
 
 // The two numbers of an item, at a place of the room.
-fn put_both(kind: Kind, high: u64, low: u64, room: &mut [u8], to: usize)
+fn put_both(kind: Kind, piece: Piece, room: &mut [u8], to: usize)
     requires { to + (high_size kind + low_size kind) ≤ length room.old }
-    ensures { room.new ≡ put room.old to (ofNumber (high_size kind) high ++ ofNumber (low_size kind) low) }
+    ensures { room.new ≡ put room.old to (ofNumber (high_size kind) piece.high ++ ofNumber (low_size kind) piece.low) }
 {
-    let n = high_size(kind);
-    put_number(room, to, n, high);
-    put_number(room, to + n, low_size(kind), low);
+    let sizes = kind.sizes();
+    put_number(room, to, sizes.high, piece.high);
+    put_number(room, to + sizes.high, sizes.low, piece.low);
 }
 
 // The item of a row, at a place of the room.
@@ -92,9 +73,8 @@ fn put_piece(kind: Kind, row: &[i32], room: &mut [u8], to: usize)
     requires { to + item_size kind ≤ length room.old }
     ensures { room.new ≡ put room.old to (bytes_or (piece_of kind row.now)) }
 {
-    match piece(kind, row) {
-        Piece::Outside => {}
-        Piece::Is { high, low } => put_both(kind, high, low, room, to),
+    if let Some(piece) = piece(kind, row) {
+        put_both(kind, piece, room, to);
     }
 }
 
@@ -105,36 +85,29 @@ fn put_items(kind: Kind, numbers: &[i32], n: usize, room: &mut [u8])
     ensures { room.new ≡ put room.old 2
         (joined_rows (rows (row_size kind) (piece_of kind) n numbers.now)) }
 {
-    let k = row_size(kind);
-    let size = item_size(kind);
-    let mut row = numbers;
-    let mut left = n;
-    let mut to = 2;
-    while 0 < left {
-        put_piece(kind, row, room, to);
-        to += size;
-        let next = after(row, k);
-        row = next;
-        left -= 1;
+    let sizes = kind.sizes();
+    for i in 0..n {
+        let row = after(numbers, sizes.row * i);
+        put_piece(kind, row, room, 2 + sizes.item * i);
     }
 }
 
 // How many rows there are, or why they make no descriptor.
-fn count_rows(kind: Kind, numbers: &[i32]) -> Count
+fn count_rows(kind: Kind, numbers: &[i32]) -> Result<usize, Refusal>
     ensures { Counted kind numbers.now result }
 {
-    let k = row_size(kind);
-    let n = numbers.len() / k;
-    if numbers.len() % k != 0 {
-        return Count::Outside;
+    let sizes = kind.sizes();
+    let n = numbers.len() / sizes.row;
+    if numbers.len() % sizes.row != 0 {
+        return Err(Refusal::Field);
     }
     if !are_items(kind, numbers, n) {
-        return Count::Outside;
+        return Err(Refusal::Field);
     }
-    if 255 / item_size(kind) < n {
-        return Count::Long;
+    if 255 / sizes.item < n {
+        return Err(Refusal::Long);
     }
-    Count::Rows(n)
+    Ok(n)
 }
 
 // The descriptor of n rows, at the room's start; its size.
@@ -143,21 +116,17 @@ fn put_list(kind: Kind, numbers: &[i32], n: usize, room: &mut [u8]) -> usize
     ensures { (result ≡ 2 + item_size kind * n)
         × (room.new ≡ put room.old 0 (list_bytes kind n numbers.now)) }
 {
-    let body = item_size(kind) * n;
-    put_number(room, 0, 2, tag(kind) as u64 * 256 + body as u64);
+    let sizes = kind.sizes();
+    let body = sizes.item * n;
+    put_number(room, 0, 2, sizes.tag as u64 * 256 + body as u64);
     put_items(kind, numbers, n, room);
     2 + body
 }
 
-pub fn write(kind: Kind, numbers: &[i32], room: &mut [u8]) -> Written
+pub fn write(kind: Kind, numbers: &[i32], room: &mut [u8]) -> Result<usize, Refusal>
     ensures { Writes (list_written kind numbers.now) room.old result room.new }
 {
-    if room.len() < 257 {
-        return Written::Room;
-    }
-    match count_rows(kind, numbers) {
-        Count::Outside => Written::Field,
-        Count::Long => Written::Long,
-        Count::Rows(n) => Written::Wrote(put_list(kind, numbers, n, room)),
-    }
+    room_for(room)?;
+    let n = count_rows(kind, numbers)?;
+    Ok(put_list(kind, numbers, n, room))
 }

@@ -7,14 +7,15 @@ use native.Mathlib.Omega.{arith}
 use borrow.Author.Tests.{lt-ltb, le-ltb, ltb-true, ltb-false}
 use lib.Dec.{ltb}
 use lib.ListN.{length, length-append}
+use Rattle.std.specs.Prelude.{Result, Ok, Err}
 use Rattle.wire.specs.Reading.{Reading, value, refused, ◌>>=◌}
 use Rattle.forms.specs.Fields.{Field, kept, room, pack}
 use Rattle.forms.specs.Room.{put}
 use Rattle.writing.specs.Number.{ofNumber}
 use Rattle.writing.specs.Fill.{ones, filled, made, below, capacities}
 use Rattle.writing.specs.Written.{inside, headed, Writes}
-use Rattle.writing.specs.declared.Written.{Written}
-use Rattle.writing.specs.declared.Written.TheVariants.{Wrote, Long}
+use Rattle.writing.specs.declared.Refusal.{Refusal}
+use Rattle.writing.specs.declared.Refusal.TheVariants.{Long}
 use Rattle.writing.proofs.NumberBytes.{length_of}
 use Rattle.writing.proofs.Answers.{headed_long, body-long}
 use Rattle.write_texts.specs.Texts.{lengthed, two_texts}
@@ -50,11 +51,11 @@ module _ (n v : ℕ) (first second : List ℕ) where
 
   -- by the size that the code finds
   module _ (tag s : ℕ) (o : List ℕ) (found : s ≡ min (size_of n first second) 256) (room : 257 ≤ length o) where
-    pub numbered_long : 255 < s → Writes (headed tag numbered) o Long o
+    pub numbered_long : 255 < s → Writes (headed tag numbered) o (Err Long) o
     numbered_long h = body-long (headed tag numbered) o room (headed_long tag numbered (omega (arith, numbered_length)))
 
     pub numbered_written : s ≤ 255 → tag < 256 → {o₁ o₂ : List ℕ} → o₁ ≡ put o 0 (ofNumber 2 (tag * 256 + s))
-        → o₂ ≡ put o₁ 2 numbered → Writes (headed tag numbered) o (Wrote (s + 2)) o₂
+        → o₂ ≡ put o₁ 2 numbered → Writes (headed tag numbered) o (Ok (s + 2)) o₂
     numbered_written h byte = behind tag s byte h numbered o (omega (arith, numbered_length)) room
 
 -- ---- as the fields of a layout
@@ -83,7 +84,7 @@ module _ (tag n v : ℕ) (first second : List ℕ) where
   unfolding below
   written_outside h = rw (le-ltb v (2 ^ (8 * n)) h)
 
-  pub writes_inside : (o : List ℕ) (r : Written) (o' : List ℕ) → Writes (headed tag (numbered n v first second)) o r o'
+  pub writes_inside : (o : List ℕ) (r : Result ℕ Refusal) (o' : List ℕ) → Writes (headed tag (numbered n v first second)) o r o'
       → v < 2 ^ (8 * n) → Writes fields_written o r o'
   writes_inside o r o' w h = subst (λ d. Writes d o r o') (sym (written_inside h)) w
 

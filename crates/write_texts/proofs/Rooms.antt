@@ -5,12 +5,12 @@ use Prim.Native.Nat.{ℕ, ◌+◌, ◌*◌, ◌<◌, ◌≤◌}
 use native.Mathlib.Omega.{arith}
 use lib.ListN.{length}
 use lib.Seq.{take-length}
+use Rattle.std.specs.Prelude.{Ok}
 use Rattle.copy.specs.Copy.{copied}
 use Rattle.forms.specs.Room.{put}
 use Rattle.forms.proofs.Puts.{copied_put, put_put}
 use Rattle.writing.specs.Number.{ofNumber}
 use Rattle.writing.specs.Written.{headed, Writes}
-use Rattle.writing.specs.declared.Written.TheVariants.{Wrote}
 use Rattle.writing.proofs.NumberBytes.{head_bytes}
 use Rattle.writing.proofs.Answers.{headed-value, written}
 
@@ -30,12 +30,12 @@ put_next o to l m at e h f g =
 module _ (tag n : ℕ) (byte : tag < 256) (most : n ≤ 255) where
   -- the tag and the length as one number, and the body behind them
   pub behind : (body o : List ℕ) → n ≡ length body → 257 ≤ length o → {o₁ o₂ : List ℕ}
-      → o₁ ≡ put o 0 (ofNumber 2 (tag * 256 + n)) → o₂ ≡ put o₁ 2 body → Writes (headed tag body) o (Wrote (n + 2)) o₂
+      → o₁ ≡ put o 0 (ofNumber 2 (tag * 256 + n)) → o₂ ≡ put o₁ 2 body → Writes (headed tag body) o (Ok (n + 2)) o₂
   behind body o e room {o₁} {o₂} f g =
       let s : List ℕ = tag ∷ length body ∷ body in
       let size : length s ≡ n + 2 = omega arith in
       let all : o₂ ≡ put o 0 s =
       put_next o 0 (tag ∷ n ∷ []) body 2 (omega arith) (omega arith) (f ∙ ap (put o 0) (head_bytes tag n byte (omega arith))) g
       ∙ ap (λ k. put o 0 (tag ∷ k ∷ body)) e in
-      subst (λ k. Writes (headed tag body) o (Wrote k) o₂) size
+      subst (λ k. Writes (headed tag body) o (Ok k) o₂) size
       (written (headed tag body) o room s o₂ (headed-value tag body (omega arith)) all)

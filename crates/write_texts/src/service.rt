@@ -2,9 +2,14 @@
 ghost use Rattle.writing.specs.Written.{Writes};
 ghost use Rattle.write_texts.specs.Service.{service_written};
 
-use writing::Written;
+use writing::Refusal;
 
-pub fn write(service_type: u8, provider: &[u8], name: &[u8], room: &mut [u8]) -> Written
+pub fn write(
+    service_type: u8,
+    provider: &[u8],
+    name: &[u8],
+    room: &mut [u8],
+) -> Result<usize, Refusal>
     ensures { Writes (service_written (record {
       service_type = service_type;
       service_provider_name = provider.now;

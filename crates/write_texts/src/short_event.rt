@@ -2,9 +2,14 @@
 ghost use Rattle.writing.specs.Written.{Writes};
 ghost use Rattle.write_texts.specs.ShortEvent.{short_event_written};
 
-use writing::Written;
+use writing::{Refusal, room_for};
 
-pub fn write(language_code: u32, name: &[u8], text: &[u8], room: &mut [u8]) -> Written
+pub fn write(
+    language_code: u32,
+    name: &[u8],
+    text: &[u8],
+    room: &mut [u8],
+) -> Result<usize, Refusal>
     ensures { Writes (short_event_written (record {
       language_code = language_code;
       event_name = name.now;
@@ -12,11 +17,9 @@ pub fn write(language_code: u32, name: &[u8], text: &[u8], room: &mut [u8]) -> W
     }))
         room.old result room.new }
 {
-    if room.len() < 257 {
-        return Written::Room;
-    }
+    room_for(room)?;
     if 0xFF_FFFF < language_code {
-        return Written::Field;
+        return Err(Refusal::Field);
     }
     super::two::write(0x4D, 3, language_code, name, text, room)
 }

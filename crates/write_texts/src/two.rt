@@ -7,23 +7,14 @@ ghost use Rattle.write_texts.specs.Texts.{lengthed, two_texts};
 
 use copy::copy_few;
 use forms::put_byte;
-use writing::Written;
 use writing::numbers::put_number;
+use writing::{Refusal, room_for};
 
 // The bytes of a body whose texts have a and b bytes; 256 stands for all that are too many.
 fn size(h: usize, a: usize, b: usize) -> usize
     ensures { result ≡ min (h + (1 + a) + (1 + b)) 256 }
 {
-    if 255 < h {
-        return 256;
-    }
-    if 255 < a {
-        return 256;
-    }
-    if 255 < b {
-        return 256;
-    }
-    if 253 < h + a + b {
+    if 255 < h || 255 < a || 255 < b || 253 < h + a + b {
         return 256;
     }
     h + a + b + 2
@@ -50,18 +41,23 @@ fn put_body(room: &mut [u8], h: usize, head: u32, first: &[u8], second: &[u8])
     put_text(room, 3 + h + first.len(), second);
 }
 
-pub fn write(tag: u8, h: usize, head: u32, first: &[u8], second: &[u8], room: &mut [u8]) -> Written
+pub fn write(
+    tag: u8,
+    h: usize,
+    head: u32,
+    first: &[u8],
+    second: &[u8],
+    room: &mut [u8],
+) -> Result<usize, Refusal>
     ensures { Writes (headed tag (ofNumber h head ++ two_texts first.now second.now))
         room.old result room.new }
 {
-    if room.len() < 257 {
-        return Written::Room;
-    }
+    room_for(room)?;
     let n = size(h, first.len(), second.len());
     if 255 < n {
-        return Written::Long;
+        return Err(Refusal::Long);
     }
     put_number(room, 0, 2, tag as u64 * 256 + n as u64);
     put_body(room, h, head, first, second);
-    Written::Wrote(n + 2)
+    Ok(n + 2)
 }

@@ -2,20 +2,18 @@
 ghost use Rattle.writing.specs.Written.{Writes, headed};
 
 use copy::copy;
-use writing::Written;
 use writing::numbers::put_number;
+use writing::{Refusal, room_for};
 
-pub fn write(tag: u8, bytes: &[u8], room: &mut [u8]) -> Written
+pub fn write(tag: u8, bytes: &[u8], room: &mut [u8]) -> Result<usize, Refusal>
     ensures { Writes (headed tag bytes.now) room.old result room.new }
 {
-    if room.len() < 257 {
-        return Written::Room;
-    }
+    room_for(room)?;
     let n = bytes.len();
     if 255 < n {
-        return Written::Long;
+        return Err(Refusal::Long);
     }
     put_number(room, 0, 2, tag as u64 * 256 + n as u64);
     copy(bytes, 0, n, room, 2);
-    Written::Wrote(n + 2)
+    Ok(n + 2)
 }

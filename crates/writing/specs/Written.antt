@@ -1,10 +1,10 @@
 -- What a writer of descriptors makes and answers: "fields in, tag, length, body out."
 -- "Refusals: 111 room under 257; 112 a field outside its layout; 113 body over 255 bytes; in that order."
-use Rattle.std.specs.Prelude.{ℕ, ◌≡◌, Bool, List, ◌∷◌, ltb, length, if◌then◌else◌}
+use Rattle.std.specs.Prelude.{ℕ, ◌≡◌, Bool, List, ◌∷◌, ltb, length, if◌then◌else◌, Result, Ok, Err}
 use Rattle.wire.specs.Reading.{Reading, value, refused}
 pub use Rattle.forms.specs.Outcome.{Outcome, gives, refuses, Told, wrote, refused_with, answer, roomAfter}
-use Rattle.writing.specs.declared.Written.{Written}
-use Rattle.writing.specs.declared.Written.TheVariants.{Wrote, Room, Field, Long}
+use Rattle.writing.specs.declared.Refusal.{Refusal}
+use Rattle.writing.specs.declared.Refusal.TheVariants.{Room, Field, Long}
 
 -- "112 a field outside its layout": a body, where each field is inside
 abbrev pub inside : Bool → List ℕ → Reading (List ℕ)
@@ -24,12 +24,12 @@ unfoldable pub into : ℕ → Reading (List ℕ) → Outcome
 into n d = if ltb n 257 then refuses 111 0 else outcome d
 
 -- document 02's number for every answer
-abbrev pub told : Written → Told
-told (Wrote n) = wrote n
-told Room = refused_with 111 0
-told Field = refused_with 112 0
-told Long = refused_with 113 0
+abbrev pub told : Result ℕ Refusal → Told
+told (Ok n) = wrote n
+told (Err Room) = refused_with 111 0
+told (Err Field) = refused_with 112 0
+told (Err Long) = refused_with 113 0
 
 -- what a writer of the descriptor d promises of a call with a room o: the answer, and the room after it
-abbrev pub Writes : Reading (List ℕ) → List ℕ → Written → List ℕ → Type 0
+abbrev pub Writes : Reading (List ℕ) → List ℕ → Result ℕ Refusal → List ℕ → Type 0
 Writes d o r o' = (told r ≡ answer (into (length o) d)) × (o' ≡ roomAfter o (into (length o) d))

@@ -22,9 +22,7 @@ pub fn put_number(room: &mut [u8], to: usize, n: usize, x: u64)
     if lacks(room.len(), to, n) {
         return;
     }
-    let mut i = 0;
-    while i < n {
+    for i in 0..n {
         room[to + i] = byte_of(x, n - 1 - i);
-        i += 1;
     }
 }

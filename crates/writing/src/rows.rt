@@ -13,24 +13,9 @@ pub struct Sized {
 pub fn sized_at(numbers: &[i32], at: usize) -> Sized
     ensures { result ≡ sized (get_or numbers.now at (pos 0)) }
 {
-    if at < numbers.len() {
-        let z = numbers[at];
-        if z < 0 {
-            // The least number has no opposite in 32 bits.
-            let size = (0 - z as i64) as u32;
-            return Sized {
-                below_zero: true,
-                size,
-            };
-        }
-        let size = z as u32;
-        return Sized {
-            below_zero: false,
-            size,
-        };
-    }
+    let z = numbers.get(at).copied().unwrap_or(0);
     Sized {
-        below_zero: false,
-        size: 0,
+        below_zero: z < 0,
+        size: z.unsigned_abs(),
     }
 }

@@ -1,6 +1,6 @@
 -- The four lists, one beside the other.
 use Prim.{Unit, tt}
-use Rattle.std.specs.Prelude.{◌≡◌, Bool, true, false, List, [], ◌∷◌, ◌++◌, ℕ, ◌*◌, ◌≤◌, ℤ, pos, length, get_or}
+use Rattle.std.specs.Prelude.{◌≡◌, Bool, true, false, List, [], ◌∷◌, ◌++◌, ℕ, ◌*◌, ◌≤◌, ℤ, pos, length, get_or, Option, Some, None, Result, Ok, Err}
 use Rattle.wire.specs.Reading.{Reading, value, refused, ◌>>=◌}
 use Rattle.layout.specs.Shapes.{joined}
 use Rattle.writing.specs.Number.{ofNumber}
@@ -14,9 +14,8 @@ use Rattle.write_lists.specs.LocalTimeOffset as offsets
 use Rattle.write_lists.specs.declared.kinds.Kind.{Kind}
 use Rattle.write_lists.specs.declared.kinds.Kind.TheVariants.{ServiceList, Content, ParentalRating, LocalTimeOffset}
 use Rattle.write_lists.specs.declared.kinds.Piece.{Piece}
-use Rattle.write_lists.specs.declared.kinds.Piece.TheVariants as answer
-use Rattle.write_lists.specs.declared.rows.Count.{Count}
-use Rattle.write_lists.specs.declared.rows.Count.TheVariants as count
+use Rattle.writing.specs.declared.Refusal.{Refusal}
+use Rattle.writing.specs.declared.Refusal.TheVariants.{Room, Field, Long}
 
 abbrev pub tag_of : Kind → ℕ
 tag_of ServiceList = 0x41
@@ -79,9 +78,9 @@ unfoldable pub item_of : Kind → Reading ℕ → Reading ℕ → Reading (List 
 item_of k high low = high >>= λ h. low >>= λ l. value (ofNumber (high_size k) h ++ ofNumber (low_size k) l)
 
 -- what an answer tells
-abbrev pub told_piece : Kind → Piece → Reading (List ℕ)
-told_piece k (answer.Is high low) = value (ofNumber (high_size k) high ++ ofNumber (low_size k) low)
-told_piece k answer.Outside = refused 112
+abbrev pub told_piece : Kind → Option Piece → Reading (List ℕ)
+told_piece k (Some p) = value (ofNumber (high_size k) p.high ++ ofNumber (low_size k) p.low)
+told_piece k None = refused 112
 
 -- that something is read, or its refusal
 unfoldable pub judged : {A : Type 0} → Reading A → Reading (Unit {0})
@@ -119,7 +118,8 @@ pub record Ready (k : Kind) (zs : List ℤ) (n : ℕ) : Type 0 where
   pub is : list_written k zs ≡ value (list_bytes k n zs)
 
 -- what a count says
-abbrev pub Counted : Kind → List ℤ → Count → Type 0
-Counted k zs (count.Rows n) = Ready k zs n
-Counted k zs count.Outside = list_written k zs ≡ refused 112
-Counted k zs count.Long = list_written k zs ≡ refused 113
+abbrev pub Counted : Kind → List ℤ → Result ℕ Refusal → Type 0
+Counted k zs (Ok n) = Ready k zs n
+Counted k zs (Err Field) = list_written k zs ≡ refused 112
+Counted k zs (Err Long) = list_written k zs ≡ refused 113
+Counted k zs (Err Room) = ⊥

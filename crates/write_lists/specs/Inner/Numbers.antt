@@ -1,22 +1,20 @@
 -- Numbers of some bits, put together.
-use Rattle.std.specs.Prelude.{◌≡◌, ℕ, ◌+◌, ◌*◌, ◌≤◌, ◌<◌}
+use Rattle.std.specs.Prelude.{◌≡◌, ℕ, ◌+◌, ◌*◌, ◌≤◌, ◌<◌, Option, Some, None}
 use Rattle.wire.specs.Reading.{Reading, value, refused, ◌>>=◌}
 use Rattle.wire.specs.Digits.{bcd_show}
-use Rattle.write_lists.specs.declared.numbers.Bits.{Bits}
-use Rattle.write_lists.specs.declared.numbers.Bits.TheVariants.{Are, Outside}
 
 -- what an answer tells
-abbrev pub told_bits : Bits → Reading ℕ
-told_bits (Are n) = value n
-told_bits Outside = refused 112
+abbrev pub told_bits : Option ℕ → Reading ℕ
+told_bits (Some n) = value n
+told_bits None = refused 112
 
 -- its number, or 0
-abbrev pub bits_or : Bits → ℕ
-bits_or (Are n) = n
-bits_or Outside = 0
+abbrev pub bits_or : Option ℕ → ℕ
+bits_or (Some n) = n
+bits_or None = 0
 
 -- an answer tells what is read, and is below a limit
-pub record Within (limit : ℕ) (read : Reading ℕ) (b : Bits) : Type 0 where
+pub record Within (limit : ℕ) (read : Reading ℕ) (b : Option ℕ) : Type 0 where
   pub told : told_bits b ≡ read
   pub small : bits_or b < limit
 
@@ -25,7 +23,7 @@ unfoldable pub joint : Reading ℕ → ℕ → Reading ℕ → Reading ℕ
 joint high values low = high >>= λ h. low >>= λ l. value (h * values + l)
 
 -- an answer is two others, put together
-pub record Joined (high : Bits) (values : ℕ) (low : Bits) (b : Bits) : Type 0 where
+pub record Joined (high : Option ℕ) (values : ℕ) (low : Option ℕ) (b : Option ℕ) : Type 0 where
   pub told : told_bits b ≡ joint (told_bits high) values (told_bits low)
   pub small : bits_or b ≤ bits_or high * values + bits_or low
 

@@ -1,14 +1,15 @@
 -- `write_delivery::satellite::write` meets its contract.
-use mathlib.Core.Path.{sym, ◌∙◌}
+use mathlib.Core.Path.{ap, sym, ◌∙◌}
+use mathlib.Core.Bool.{not}
 use native.Mathlib.Omega.{arith}
 use borrow.Author.Rules.{rules}
-use Rattle.writing.proofs.Answers.{room_short, field-outside}
+use Rattle.writing.proofs.Answers.{room_refused, field-outside}
 use Rattle.writing.proofs.Below.{below_is}
 use Rattle.write_delivery.proofs.SatelliteBody.{satellite_refused, satellite_wrote}
 use Rattle.write_delivery.proofs.satellite.write.Goals as goal
 
-pub returns-then-room-lt257 : goal.returns-then-room-lt257
-returns-then-room-lt257 c = room_short _ _ (omega arith)
+pub returns-in_err-room_for : goal.returns-in_err-room_for
+returns-in_err-room_for c = room_refused _ _ c.in_err-room_for.ensures _ c.from_residual.ensures.1
 
 pub returns-then-not-is_inside : goal.returns-then-not-is_inside
 returns-then-not-is_inside c = field-outside _ _ (omega arith) (search (satellite_refused, rules))
@@ -16,9 +17,11 @@ returns-then-not-is_inside c = field-outside _ _ (omega arith) (search (satellit
 pub rate_bits-last-requires : goal.rate_bits-last-requires
 rate_bits-last-requires c = let i = below_is _ _ (sym c.is_inside.ensures ∙ c.if-not-is_inside.false) in omega arith
 
-pub middle-middle-requires : goal.middle-middle-requires
-middle-middle-requires c =
+pub middle-requires : goal.middle-requires
+middle-requires c =
     let i = below_is _ _ (sym c.is_inside.ensures ∙ c.if-not-is_inside.false) in omega arith
 
 pub returns : goal.returns
-returns c = search (satellite_wrote, rules)
+returns c =
+    satellite_wrote _ c.is_inside.ensures _ _ _ _ _ (ap not c.if-not-is_inside.false) (omega arith) c.put_body.ensures
+    c.to_bcd.ensures c.middle.ensures c.rate_bits-last.ensures

@@ -1,20 +1,23 @@
--- `write_lists::rows::are_items` meets its contract: what is left is judged as all are.
-use mathlib.Core.Path.{refl}
-use borrow.Author.Rules.{rules}
-use Rattle.write_lists.proofs.RowLaws.{row_there, rows_behind, none_left, row_refused, row_passed}
+-- `write_lists::rows::are_items` meets its contract: what the rows that are left come to is what all of them come to.
+use native.Mathlib.Omega.{arith}
+use Rattle.write_lists.proofs.RowLaws.{row_there, all_left, none_left, row_refused, row_passed}
 use Rattle.write_lists.proofs.rows.are_items.Goals as goal
 
-pub loop-left-init : goal.loop-left-init
-loop-left-init c = (refl, search rules)
+pub loop-i-init : goal.loop-i-init
+loop-i-init c = all_left _ _ _ _
+
+pub after-requires : goal.after-requires
+after-requires c = row_there _ _ _ _ c.requires c.loop-i-test.true c.sizes-k.ensures.row.0
 
 pub returns-then-not-is_item : goal.returns-then-not-is_item
-returns-then-not-is_item c = search row_refused
+returns-then-not-is_item c =
+    row_refused _ _ _ _ _ c.loop-i.invariant c.loop-i-test.true c.sizes-k.ensures.row.0 c.after.ensures _ c.is_item.ensures
+    c.if-not-is_item.true
 
-pub after-next-requires : goal.after-next-requires
-after-next-requires c = search row_there
-
-pub loop-left-preserved : goal.loop-left-preserved
-loop-left-preserved c = search (row_passed, rows_behind)
+pub loop-i-preserved : goal.loop-i-preserved
+loop-i-preserved c =
+    row_passed _ _ _ _ _ c.loop-i.invariant c.loop-i-test.true c.sizes-k.ensures.row.0 c.after.ensures _ c.is_item.ensures
+    c.if-not-is_item.false
 
 pub returns : goal.returns
-returns c = search none_left
+returns c = none_left _ _ _ _ c.loop-i.invariant (omega arith)

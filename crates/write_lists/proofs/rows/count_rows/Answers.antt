@@ -82,8 +82,8 @@ module _ (kind : Kind) (zs : List ℤ) {j : ℕ} (e : j ≡ row_size kind) where
                   ∙ ap (λ x. value (tag_of kind ∷ x ∷ joined_rows items)) sized;
             }
 
-pub returns-then-numbers-k-ne0 : goal.returns-then-numbers-k-ne0
-returns-then-numbers-k-ne0 c = search broken
+pub returns-then-numbers-sizes-ne0 : goal.returns-then-numbers-sizes-ne0
+returns-then-numbers-sizes-ne0 c = search broken
 
 pub are_items-requires : goal.are_items-requires
 are_items-requires c = search enough
@@ -91,8 +91,8 @@ are_items-requires c = search enough
 pub returns-then-not-are_items : goal.returns-then-not-are_items
 returns-then-not-are_items c = search unfit
 
-pub returns-then-item_size-n : goal.returns-then-item_size-n
-returns-then-item_size-n c = search too_long
+pub returns-then-sizes-n : goal.returns-then-sizes-n
+returns-then-sizes-n c = search too_long
 
 pub returns : goal.returns
 returns c = search ready

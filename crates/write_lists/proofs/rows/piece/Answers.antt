@@ -1,4 +1,5 @@
 -- `write_lists::rows::piece` meets its contract.
+use Rattle.std.specs.Prelude.{Option}
 use mathlib.Core.Path.{◌≡◌, sym, ap, ap₂, ◌∙◌}
 use mathlib.Core.List.{List}
 use Prim.Native.Nat.{ℕ, ◌^◌}
@@ -10,15 +11,14 @@ use Rattle.write_lists.specs.Inner.Kinds.{piece_of, service_bits, content_bits, 
 use Rattle.write_lists.specs.declared.kinds.Kind.{Kind}
 use Rattle.write_lists.specs.declared.kinds.Kind.TheVariants.{ServiceList, Content, ParentalRating, LocalTimeOffset}
 use Rattle.write_lists.specs.declared.kinds.Piece.{Piece}
-use Rattle.write_lists.specs.declared.numbers.Bits.{Bits}
 use Rattle.write_lists.proofs.ItemBytes.{service_piece, content_piece, rating_piece, offset_piece}
 use Rattle.write_lists.proofs.rows.piece.Goals as goal
 
 -- an answer tells the item of two numbers
-abbrev Item : Piece → Reading ℕ → Reading ℕ → Type 0
+abbrev Item : Option Piece → Reading ℕ → Reading ℕ → Type 0
 Item p high low = (k : Kind) → told_piece k p ≡ item_of k high low
 
-module _ (zs : List ℤ) (kind : Kind) (p : Piece) (b : Bits) where
+module _ (zs : List ℤ) (kind : Kind) (p : Option Piece) (b : Option ℕ) where
   -- an item of one number
   one : (k : Kind) → kind ≡ k → Item p (value 0) (told_bits b) → {low : Reading ℕ} → told_bits b ≡ low
       → piece_of k zs ≡ item_of k (value 0) low
@@ -37,7 +37,7 @@ module _ (zs : List ℤ) (kind : Kind) (p : Piece) (b : Bits) where
       → told_piece kind p ≡ piece_of kind zs
   rating e item w = one ParentalRating e item w.told (rating_piece zs)
 
-  offset : kind ≡ LocalTimeOffset → (a : Bits) → Item p (told_bits a) (told_bits b) → Within (2 ^ 48) (front_bits zs) a
+  offset : kind ≡ LocalTimeOffset → (a : Option ℕ) → Item p (told_bits a) (told_bits b) → Within (2 ^ 48) (front_bits zs) a
       → Within (2 ^ 56) (back_bits zs) b
       → told_piece kind p ≡ piece_of kind zs
   offset e a item front back =

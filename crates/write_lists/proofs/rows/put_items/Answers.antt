@@ -1,21 +1,21 @@
 -- `write_lists::rows::put_items` meets its contract: the items that are left make all that is put.
-use Rattle.write_lists.proofs.RowLaws.{all_ahead, none_ahead, row_ahead, room_for, next_fits, next_ahead}
+use native.Mathlib.Omega.{arith}
+use Rattle.write_lists.proofs.RowLaws.{row_there, all_ahead, none_ahead, item_room, item_put}
 use Rattle.write_lists.proofs.rows.put_items.Goals as goal
 
-pub loop-left-init : goal.loop-left-init
-loop-left-init c = search all_ahead
+pub loop-i-init : goal.loop-i-init
+loop-i-init c = all_ahead _ _ _ _ c.requires
+
+pub after-row-requires : goal.after-row-requires
+after-row-requires c = row_there _ _ _ _ c.requires.0 c.loop-i-test.true c.sizes-sizes.ensures.row.0
 
 pub put_piece-requires : goal.put_piece-requires
-put_piece-requires c = search room_for
+put_piece-requires c = item_room _ _ _ _ c.loop-i.invariant c.loop-i-test.true c.sizes-sizes.ensures.item.0
 
-pub overflow_add-to : goal.overflow_add-to
-overflow_add-to c = search next_fits
-
-pub after-next-requires : goal.after-next-requires
-after-next-requires c = search row_ahead
-
-pub loop-left-preserved : goal.loop-left-preserved
-loop-left-preserved c = search next_ahead
+pub loop-i-preserved : goal.loop-i-preserved
+loop-i-preserved c =
+    item_put _ _ _ _ c.loop-i.invariant c.loop-i-test.true c.sizes-sizes.ensures.item.0 c.sizes-sizes.ensures.row.0
+    c.after-row.ensures c.put_piece.ensures
 
 pub returns : goal.returns
-returns c = search none_ahead
+returns c = none_ahead _ c.loop-i.invariant (omega arith)

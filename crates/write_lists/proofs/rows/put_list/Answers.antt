@@ -57,8 +57,8 @@ module _ (k : Kind) (zs : List ℤ) (n : ℕ) (are : Ready k zs n) {m : ℕ} (e 
 pub overflow_mul-body : goal.overflow_mul-body
 overflow_mul-body c = search body-fits
 
-pub overflow_add-tag : goal.overflow_add-tag
-overflow_add-tag c = search head-fits
+pub overflow_add-sizes : goal.overflow_add-sizes
+overflow_add-sizes c = search head-fits
 
 pub overflow_add-result : goal.overflow_add-result
 overflow_add-result c = search sum_fits

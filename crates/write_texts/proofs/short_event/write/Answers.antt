@@ -1,12 +1,12 @@
 -- `write_texts::short_event::write` meets its contract.
 use native.Mathlib.Omega.{arith}
-use Rattle.writing.proofs.Answers.{room_short, field-outside}
+use Rattle.writing.proofs.Answers.{room_refused, field-outside}
 use Rattle.write_texts.specs.ShortEvent.{short_event_written}
 use Rattle.write_texts.proofs.Numbered.{written_outside, writes_inside}
 use Rattle.write_texts.proofs.short_event.write.Goals as goal
 
-pub returns-then-room-lt257 : goal.returns-then-room-lt257
-returns-then-room-lt257 c = room_short _ _ c.if-room-lt257.true
+pub returns-in_err-room_for : goal.returns-in_err-room_for
+returns-in_err-room_for c = room_refused _ _ c.in_err-room_for.ensures _ c.from_residual.ensures.1
 
 pub returns-then-language_code-gt16777215 : goal.returns-then-language_code-gt16777215
 unfolding short_event_written

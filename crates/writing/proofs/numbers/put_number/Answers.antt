@@ -1,11 +1,10 @@
 -- `writing::numbers::put_number` meets its contract.
-use mathlib.Core.Path.{◌≡◌, refl, sym, ap, ap₂, ◌∙◌}
+use mathlib.Core.Path.{◌≡◌, sym, ap, ap₂, ◌∙◌}
 use mathlib.Core.Bool.{Bool, true, false}
 use mathlib.Core.List.{List, [], ◌∷◌, ◌++◌}
 use Prim.Native.Nat.{ℕ, zero, suc, ◌+◌, ◌-◌, ◌*◌, ◌/◌, ◌%◌, ◌^◌, ◌≤◌, ◌<◌}
 use native.Mathlib.Numerals.{add-one}
 use native.Mathlib.Omega.{arith}
-use borrow.Author.Rules.{rules}
 use borrow.Author.Tests.{ltb-true, ltb-false}
 use lib.Dec.{ltb}
 use lib.ListN.{length, take, get_or, set}
@@ -22,10 +21,10 @@ module _ (o : List ℕ) (to n : ℕ) {lacking : Bool} (e : lacking ≡ ltb (leng
       let short = ltb-true (length o) (to + n) (sym e ∙ y) in
       sym (put_out o to (ofNumber n x) (omega (arith, length_of n x)))
 
-  begins : lacking ≡ false → (0 ≤ n) × (to + n ≤ length o) × (o ≡ put o to []) × (length o ≡ length o)
+  begins : lacking ≡ false → (to + n ≤ length o) × (o ≡ put o to [])
   begins y =
       let room = ltb-false (length o) (to + n) (sym e ∙ y) in
-      (omega arith, room, sym (put_none o to (omega arith)), refl)
+      (room, sym (put_none o to (omega arith)))
 
 -- a byte put next to others is put with them
 put-more : (o : List ℕ) (to : ℕ) (l : List ℕ) (b : ℕ) → to + length l < length o
@@ -70,9 +69,7 @@ loop-i-init c = begins _ _ _ c.lacks.ensures c.if-lacks.false
 
 pub loop-i-preserved : goal.loop-i-preserved
 loop-i-preserved c =
-    let inv = c.loop-i.invariant in
-    let stored = more _ _ _ _ _ inv.1 c.loop-i-test.true inv.2 c.byte_of.ensures in
-    (search rules, inv.1, stored, search rules)
+    let inv = c.loop-i.invariant in (inv.0, more _ _ _ _ _ inv.0 c.loop-i-test.true inv.1 c.byte_of.ensures)
 
 pub returns : goal.returns
-returns c = c.loop-i.invariant.2 ∙ ap (put _ _) (whole _ _ _ c.loop-i-test.false)
+returns c = c.loop-i.invariant.1 ∙ ap (put _ _) (whole _ _ _ c.loop-i-test.false)

@@ -1,6 +1,6 @@
 -- `writing::numbers::put_number` meets its contract.
 use mathlib.Core.Path.{◌≡◌}
-use Prim.Native.Nat.{◌+◌, ◌-◌, ◌≤◌}
+use Prim.Native.Nat.{◌+◌, ◌≤◌}
 use lib.ListN.{length, take}
 use Rattle.forms.specs.Room.{put}
 use Rattle.writing.specs.Number.{ofNumber}
@@ -8,10 +8,5 @@ use Rattle.writing.proofs.numbers.put_number.Given as goal
 
 abbrev pub invariant-loop-i : goal.invariant-loop-i
 invariant-loop-i l =
-    (l.i ≤ l.n)
-    × (l.to + l.n ≤ length l.initial.room)
+    (l.to + l.n ≤ length l.initial.room)
     × (l.room ≡ put l.initial.room l.to (take l.i (ofNumber l.n l.x)))
-    × (length l.room ≡ length l.initial.room)
-
-abbrev pub decreases-loop-i : goal.decreases-loop-i
-decreases-loop-i l = l.n - l.i
