@@ -2,13 +2,12 @@
 use mathlib.Core.Path.{◌≡◌, refl, sym, ap, ◌∙◌}
 use Prim.Native.Nat.{ℕ}
 use lib.Dec.{eqb}
-use Rattle.std.specs.Prelude.{if◌then◌else◌}
+use Rattle.std.specs.Prelude.{Ok, Err, if◌then◌else◌}
 use Rattle.packet.specs.Refusals.{Judged, refuse, bare, has_payload}
-use Rattle.packet.specs.Judgement.{number_of, meant}
+use Rattle.packet.specs.Judgement.{number_of, Judgement, meant}
 use Rattle.packet.specs.declared.Refusal.{Refusal}
 use Rattle.packet.specs.declared.Refusal.TheVariants.{NotAPacket, Room, Unfit, Sync, Error, OtherPid, Scrambled, Adaptation, Pointer}
-use Rattle.packet.specs.declared.Judgement.{Judgement}
-use Rattle.packet.specs.declared.Judgement.TheVariants.{Refuse, Bare, Payload}
+use Rattle.packet.specs.declared.Load.TheVariants.{Bare, Payload}
 
 pub refusal_at : ℕ → Refusal
 refusal_at n =
@@ -35,15 +34,16 @@ refusal_at_lem Adaptation = refl
 refusal_at_lem Pointer = refl
 
 judgement_at : Judged → Judgement
-judgement_at (refuse n) = Refuse (refusal_at n)
-judgement_at (bare splice) = Bare splice
-judgement_at (has_payload from start counter splice) = Payload splice start counter from
+judgement_at (refuse n) = Err (refusal_at n)
+judgement_at (bare splice) = Ok (Bare splice)
+judgement_at (has_payload from start counter splice) =
+    Ok (Payload (record { splice = splice; start = start; counter = counter; from = from }))
 
 judgement_at_lem : (a : Judgement) → judgement_at (meant a) ≡ a
 unfolding judgement_at
-judgement_at_lem (Refuse x) = ap Refuse (refusal_at_lem x)
-judgement_at_lem (Bare splice) = refl
-judgement_at_lem (Payload splice start counter from) = refl
+judgement_at_lem (Err x) = ap Err (refusal_at_lem x)
+judgement_at_lem (Ok (Bare splice)) = refl
+judgement_at_lem (Ok (Payload q)) = refl
 
 pub meant_once : (a b : Judgement) → meant a ≡ meant b → a ≡ b
 meant_once a b e = sym (judgement_at_lem a) ∙ ap judgement_at e ∙ judgement_at_lem b

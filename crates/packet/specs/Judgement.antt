@@ -1,10 +1,10 @@
 -- Document 01's number of each refusal, and what an answer of `judge` says.
-use Rattle.std.specs.Prelude.{ℕ}
+use Rattle.std.specs.Prelude.{ℕ, Result, Ok, Err}
 use Rattle.packet.specs.Refusals.{Judged, refuse, bare, has_payload}
 use Rattle.packet.specs.declared.Refusal.{Refusal}
 use Rattle.packet.specs.declared.Refusal.TheVariants.{NotAPacket, Room, Unfit, Sync, Error, OtherPid, Scrambled, Adaptation, Pointer}
-use Rattle.packet.specs.declared.Judgement.{Judgement}
-use Rattle.packet.specs.declared.Judgement.TheVariants.{Refuse, Bare, Payload}
+use Rattle.packet.specs.declared.Load.{Load}
+use Rattle.packet.specs.declared.Load.TheVariants.{Bare, Payload}
 
 abbrev pub number_of : Refusal → ℕ
 number_of NotAPacket = 41
@@ -17,7 +17,14 @@ number_of Scrambled = 47
 number_of Adaptation = 48
 number_of Pointer = 49
 
+-- what a packet carries, or why it is refused
+abbrev pub Judgement : Type 0
+Judgement = Result Load Refusal
+
+abbrev pub meant_load : Load → Judged
+meant_load (Bare splice) = bare splice
+meant_load (Payload q) = has_payload q.from q.start q.counter q.splice
+
 abbrev pub meant : Judgement → Judged
-meant (Refuse refusal) = refuse (number_of refusal)
-meant (Bare splice) = bare splice
-meant (Payload splice start counter from) = has_payload from start counter splice
+meant (Ok load) = meant_load load
+meant (Err refusal) = refuse (number_of refusal)

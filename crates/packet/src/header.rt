@@ -5,17 +5,14 @@ ghost use Rattle.packet.specs.Refusals.{first_of, judged_by};
 ghost use Rattle.packet.specs.Judgement.{meant};
 ghost use Rattle.packet.specs.Inner.{pointer_refusal, shape_refusals, header_refusals, PayloadAt};
 
-use crate::{Judgement, Refusal};
+use crate::{Judgement, Load, Payload, Refusal};
 
 // "An adaptation field of at least one byte with that bit set": of a packet that has the field.
 fn splice_in(packet: &[u8]) -> bool
     requires { length packet.now ≡ 188 }
     ensures { result ≡ bit_of_field packet.now }
 {
-    if packet[4] == 0 {
-        return false;
-    }
-    128 <= packet[5]
+    packet[4] != 0 && 128 <= packet[5]
 }
 
 // Refusal 49 of a packet that has payload.
@@ -23,24 +20,16 @@ fn aimed(packet: &[u8], from: usize, splice: bool) -> Judgement
     requires { PayloadAt packet.now from splice }
     ensures { meant result ≡ judged_by (first_of (pointer_refusal packet.now)) packet.now }
 {
-    let counter = packet[3] % 16;
-    if packet[1] / 64 % 2 == 1 {
-        if 186 < from + wire::wide(packet[from]) {
-            return Judgement::Refuse(Refusal::Pointer);
-        }
-        return Judgement::Payload {
-            splice,
-            start: true,
-            counter,
-            from,
-        };
+    let start = packet[1] / 64 % 2 == 1;
+    if start && 186 < from + wire::wide(packet[from]) {
+        return Err(Refusal::Pointer);
     }
-    Judgement::Payload {
+    Ok(Load::Payload(Payload {
         splice,
-        start: false,
-        counter,
+        start,
+        counter: packet[3] % 16,
         from,
-    }
+    }))
 }
 
 // Refusals 48 and 49.
@@ -48,25 +37,14 @@ fn shaped(packet: &[u8]) -> Judgement
     requires { length packet.now ≡ 188 }
     ensures { meant result ≡ judged_by (first_of (shape_refusals packet.now)) packet.now }
 {
-    let control = packet[3] / 16 % 4;
-    if control == 1 {
-        return aimed(packet, 4, false);
-    }
-    if control == 0 {
-        return Judgement::Refuse(Refusal::Adaptation);
-    }
     let n = packet[4];
     let splice = splice_in(packet);
-    if control == 2 {
-        if n == 183 {
-            return Judgement::Bare { splice };
-        }
-        return Judgement::Refuse(Refusal::Adaptation);
+    match packet[3] / 16 % 4 {
+        1 => aimed(packet, 4, false),
+        2 if n == 183 => Ok(Load::Bare { splice }),
+        3 if n <= 182 => aimed(packet, 5 + wire::wide(n), splice),
+        _ => Err(Refusal::Adaptation),
     }
-    if 182 < n {
-        return Judgement::Refuse(Refusal::Adaptation);
-    }
-    aimed(packet, 5 + wire::wide(n), splice)
 }
 
 fn pid_of(packet: &[u8]) -> usize
@@ -82,16 +60,16 @@ pub fn addressed(pid: u16, packet: &[u8]) -> Judgement
     ensures { meant result ≡ judged_by (first_of (header_refusals pid packet.now)) packet.now }
 {
     if packet[0] != 0x47 {
-        return Judgement::Refuse(Refusal::Sync);
+        return Err(Refusal::Sync);
     }
     if 128 <= packet[1] {
-        return Judgement::Refuse(Refusal::Error);
+        return Err(Refusal::Error);
     }
     if pid_of(packet) != pid as usize {
-        return Judgement::Refuse(Refusal::OtherPid);
+        return Err(Refusal::OtherPid);
     }
     if packet[3] / 64 != 0 {
-        return Judgement::Refuse(Refusal::Scrambled);
+        return Err(Refusal::Scrambled);
     }
     shaped(packet)
 }

@@ -8,7 +8,7 @@ ghost use Rattle.packet.specs.Refusals.{judged};
 ghost use Rattle.packet.specs.Judgement.{meant};
 
 // Refusals 41 to 49, in document 01's order. 42 and 43 are given by who has the rooms and the record.
-#[derive(Clone, Copy)]
+#[derive(Clone, Copy, PartialEq, Eq)]
 pub enum Refusal {
     NotAPacket,
     Room,
@@ -21,28 +21,32 @@ pub enum Refusal {
     Pointer,
 }
 
-// What a packet is, whether or not it is a repeated one: refused, taken with no payload, or with payload from an index on.
-// splice: discontinuity_indicator is set.
+// A packet with payload: where it begins. splice: discontinuity_indicator is set.
 #[derive(Clone, Copy)]
-pub enum Judgement {
-    Refuse(Refusal),
-    Bare {
-        splice: bool,
-    },
-    Payload {
-        splice: bool,
-        start: bool,
-        counter: u8,
-        from: usize,
-    },
+pub struct Payload {
+    pub splice: bool,
+    pub start: bool,
+    pub counter: u8,
+    pub from: usize,
 }
 
+// What a packet that is not refused carries, whether or not it is a repeated one.
+#[derive(Clone, Copy)]
+pub enum Load {
+    Bare { splice: bool },
+    Payload(Payload),
+}
+
+// What a packet is, or why it is refused.
+pub type Judgement = Result<Load, Refusal>;
+
 // Refusals 41 and 44 to 49 of a packet of this PID.
+#[tactic(auto, unfolding(crate::specs::Refusals::judged))]
 pub fn judge(pid: u16, packet: &[u8]) -> Judgement
     ensures { meant result ≡ judged false false pid packet.now }
 {
     if packet.len() != 188 {
-        return Judgement::Refuse(Refusal::NotAPacket);
+        return Err(Refusal::NotAPacket);
     }
     header::addressed(pid, packet)
 }
