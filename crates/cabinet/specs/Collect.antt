@@ -1,23 +1,22 @@
 -- The collector's record and answer in numbers.
-use Rattle.std.specs.Prelude.{◌≡◌, Bool, true, false, not, ℕ, List, eqb, if◌then◌else◌}
+use Rattle.std.specs.Prelude.{◌≡◌, Bool, true, false, not, ℕ, List, eqb, if◌then◌else◌, None, Some}
 use Rattle.collector.specs.Rules.{Kind, pointer, accepted, rejected, broken, filler, skipped, done}
 use Rattle.collector.specs.Answer.{Reply, refused_with, repeated, taken}
 use Rattle.collector.specs.Answer as collector
 use Rattle.collector.specs.Collected.{bytes_counted, record_with, collected}
-use Rattle.collector.specs.declared.Last.{Last}
-use Rattle.collector.specs.declared.Last.TheVariants.{None, Counter}
+use Rattle.collector.specs.Refusals.{Last}
 use Rattle.collector.specs.declared.Record as of
 use Rattle.cabinet.specs.declared.collect.Record.{Record}
 use Rattle.cabinet.specs.declared.collect.CollectAnswer.{CollectAnswer}
 
 -- "the last counter or none": 255 is none, and any other number is a counter, which 43 refuses above 15
 abbrev pub last_in : ℕ → Last
-last_in n = if eqb n 255 then None else Counter n
+last_in n = if eqb n 255 then None else Some n
 
 -- and the number for each
 abbrev pub last_says : Last → ℕ
 last_says None = 255
-last_says (Counter n) = n
+last_says (Some n) = n
 
 -- ---- the mark: any number but 0 is set
 

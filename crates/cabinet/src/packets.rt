@@ -15,22 +15,15 @@ fn packets_number(a: writer::Answer) -> u32
     ensures { result ≡ (packets_says (told a)).number }
 {
     match a {
-        writer::Answer::Written { packets: _ } => 0,
-        writer::Answer::BadStart => 101,
-        writer::Answer::BadSection => 102,
-        writer::Answer::Room => 103,
+        Ok(_) => 0,
+        Err(refusal) => refusal.number() as u32,
     }
 }
 
 fn packets_told(a: writer::Answer) -> usize
     ensures { result ≡ (packets_says (told a)).packets }
 {
-    match a {
-        writer::Answer::Written { packets } => packets,
-        writer::Answer::BadStart => 0,
-        writer::Answer::BadSection => 0,
-        writer::Answer::Room => 0,
-    }
+    a.unwrap_or(0)
 }
 
 #[unsafe(no_mangle)]

@@ -24,7 +24,7 @@ use Rattle.history.specs.Run as beneath
 use Rattle.history.specs.Run.{cut, handed_by, handed}
 use Rattle.history.specs.Healing as healing
 use Rattle.history.proofs.Judging.{none_rejected_leaves}
-use Rattle.collector.specs.declared.Last.TheVariants.{None, Counter}
+use Rattle.std.specs.Prelude.{None, Some}
 use Rattle.collector.specs.declared.Record as of
 use Rattle.cabinet.specs.Collect.{last_in, last_says, mark_in, mark_says, numbers_with, SameName, record_in, record_after, record_says, collect_says, Outcome, leaves, outcome_says, collecting}
 use Rattle.cabinet.proofs.Outcomes.{last_kept, mark_kept, record_kept}
@@ -71,7 +71,7 @@ mark_told n true = if-case (λ k. mark_in k ≡ true) (eqb n 0) (λ _. refl) (λ
 abbrev pub NumbersTell : of.Record → Type 0
 NumbersTell x = last_in (last_says x.last) ≡ x.last
 
-told_counter : (n : ℕ) → n < 16 → last_in n ≡ Counter n
+told_counter : (n : ℕ) → n < 16 → last_in n ≡ Some n
 told_counter n h = rw (ne_eqb n 255 (λ e. omega arith))
 
 told_after : (x : of.Record) (hold out : List ℕ) (ruled : Ruling) → Small ruled → NumbersTell x

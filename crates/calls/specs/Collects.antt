@@ -1,14 +1,13 @@
 -- Demand 3 for C: "Start a fresh collector, feed it any packets, hand record and hold on untouched." What whole runs of
 -- `lohitunga_collect` come to is what runs of the collector come to, said in numbers.
-use Rattle.std.specs.Prelude.{◌≡◌, true, ◌↔◌, List, [], ◌∷◌, ◌++◌, map, ℕ, take}
+use Rattle.std.specs.Prelude.{◌≡◌, true, ◌↔◌, List, [], ◌∷◌, ◌++◌, map, ℕ, take, None, Some}
 use Rattle.collector.specs.Rules.{Kind}
 use Rattle.collector.specs.Answer.{Reply}
 use Rattle.collector.specs.Answer as Answer
 use Rattle.collector.specs.Collected.{fresh_record}
 use Rattle.history.specs.Run as beneath
 use Rattle.history.specs.Run.{cut}
-use Rattle.collector.specs.declared.Last.{Last}
-use Rattle.collector.specs.declared.Last.TheVariants.{None, Counter}
+use Rattle.collector.specs.Refusals.{Last}
 use Rattle.collector.specs.declared.Record as of
 use Rattle.cabinet.specs.Collect.{last_in, mark_in, SameName, record_in, record_says, collect_says, Outcome, leaves, collecting}
 use Rattle.cabinet.specs.declared.collect.Record.{Record}
@@ -19,7 +18,7 @@ use Rattle.cabinet.specs.declared.collect.CollectAnswer.{CollectAnswer}
 -- "the last counter or none": 255 is none
 pub data LastIs : ℕ → Last → Type 0 where
   none : LastIs 255 None
-  counter : {n : ℕ} → (n ≡ 255 → ⊥) → LastIs n (Counter n)
+  counter : {n : ℕ} → (n ≡ 255 → ⊥) → LastIs n (Some n)
 
 -- the numbers stand for the record
 pub record Stands (r : Record) (x : of.Record) : Type 0 where

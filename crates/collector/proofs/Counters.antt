@@ -6,7 +6,7 @@ use Rattle.collector.specs.Rules.{Kind, pointer, accepted, rejected, broken, by_
 use Rattle.collector.specs.Collected.{bytes_counted, record_with}
 use Rattle.collector.specs.Inner.Stretch.{gain_of, gain_with, Small}
 use Rattle.collector.specs.Inner.Taking.{point_count, added_by}
-use Rattle.collector.specs.declared.Last.{Last}
+use Rattle.collector.specs.Refusals.{Last}
 use Rattle.collector.specs.declared.Record.{Record}
 use Rattle.collector.specs.declared.stretch.Gain.{Gain}
 

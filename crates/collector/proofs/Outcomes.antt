@@ -2,7 +2,7 @@
 -- the payload's story; the outcome is by the judge.
 use Rattle.std.proofs.Common.{◌≡◌, ℕ, ◌+◌, ◌-◌, ◌%◌, ◌^◌, ◌<◌, ◌≤◌, Bool, true, false, List, [], ◌∷◌, ◌++◌, map, length, take, drop, sym, refl, ap, ◌∙◌, subst, map-id, add-zero, zero-add, arith, length-append}
 use mathlib.Core.List.{flatten}
-use Rattle.std.specs.Prelude.{if◌then◌else◌}
+use Rattle.std.specs.Prelude.{if◌then◌else◌, Ok, Some}
 use Rattle.copy.specs.Laid.{over}
 use Rattle.collector.specs.Rules.{Kind, pointer, accepted, rejected, broken, Fate, in-hand, done, Story, sameKind, same_fate, bytes_of, count_of, hand_of, marked, given, broken_off, holding, breaking, kind_of, joined, plain, goesOn, payload}
 use Rattle.section.specs.Reading.{judged}
@@ -14,8 +14,7 @@ use Rattle.collector.specs.Inner.Payload.{Fit}
 use Rattle.collector.specs.Inner.Stretch.{Ends, Small}
 use Rattle.collector.specs.Inner.Taking.{kept_of, point_count, added_by, counted_of}
 use Rattle.collector.specs.declared.Record.{Record}
-use Rattle.collector.specs.declared.Last.TheVariants.{Counter}
-use Rattle.collector.specs.declared.Answer.TheVariants.{Taken}
+use Rattle.collector.specs.declared.Passed.TheVariants.{Taken}
 use Rattle.collector.specs.declared.stretch.Gain.{Gain}
 use Rattle.collector.proofs.Counters.{added_by_lem}
 use Rattle.collector.proofs.MarkLaws.{bytes_of_more, bytes_of_marked, settled_hand, settled_marked}
@@ -136,7 +135,7 @@ module _ (r : Record) (hold out : List ℕ) (counter : ℕ) (start : Bool) (h bs
 
   taken_to : Ends s was hold out 0 hold' out' e → (n : ℕ) (S : Story ℕ) → Beside plain (lost n) [] s S → (r' : Record)
       → r' ≡ counted_of r counter e n start
-      → came r' hold' out' (Taken e.sections e.bytes) ≡ outcome_after r hold out counter S
+      → came r' hold' out' (Ok (Taken e.sections e.bytes)) ≡ outcome_after r hold out counter S
   taken_to x n S b r' w =
       let secs : s.sections ≡ S.sections = sym (more_sections b) in
       let given : delivered_of s ≡ delivered_of S = ap accepted_among secs in
@@ -145,7 +144,7 @@ module _ (r : Record) (hold out : List ℕ) (counter : ℕ) (start : Bool) (h bs
       let added : (k : Kind) → added_by e n start k ≡ count_of (done k) S.marks = adds x n S b in
       let the-record : r' ≡ record_after r counter S =
       w
-      ∙ (λ i. record_with r.pid (Counter counter) false
+      ∙ (λ i. record_with r.pid (Some counter) false
       ((x.rejection ∙ ap (λ (l : List (List ℕ)). last_number was (rejected_among l)) secs) i)
       ((x.in-hand ∙ ap length hand) i)
       (λ k. (bytes_counted (done k) r + added k i) % 2 ^ 32)) in
@@ -169,7 +168,7 @@ module _ (r : Record) (hold out : List ℕ) (counter : ℕ) (start : Bool) (bs :
 
   abbrev Comes : Bool → Type 0
   Comes next =
-      came r' hold' out' (Taken e.sections e.bytes)
+      came r' hold' out' (Ok (Taken e.sections e.bytes))
       ≡ outcome_after r hold out counter (payload by_judge plain start (joined next (holding hand)) bs)
 
   comes_next : Ends (payload by_judge plain start (holding hand) bs) r.rejection hold out 0 hold' out' e

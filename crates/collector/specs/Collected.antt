@@ -1,16 +1,14 @@
 -- What one call of the collector comes to, for every record, hold, out room and packet.
-use Rattle.std.specs.Prelude.{ℕ, ◌+◌, ◌%◌, ◌^◌, Bool, false, List, length, take}
+use Rattle.std.specs.Prelude.{ℕ, ◌+◌, ◌%◌, ◌^◌, Bool, false, List, length, take, None, Some}
 use mathlib.Core.List.{flatten}
 use Rattle.copy.specs.Laid.{over}
 use Rattle.collector.specs.Rules.{Kind, pointer, accepted, rejected, broken, filler, skipped, Fate, in-hand, done, Story, count_of, hand_of, holding, plain, story_after}
 use Rattle.collector.specs.Judged.{by_judge, delivered_of, rejected_of, last_number}
 use Rattle.packet.specs.Ruling.{mark_with, Ruling, refuses, repeated, bare, takes, ruling}
-use Rattle.collector.specs.Refusals.{before_of, cannot_stand, too_small}
+use Rattle.collector.specs.Refusals.{before_of, cannot_stand, too_small, Last}
 use Rattle.collector.specs.Answer as Answer
 use Rattle.collector.specs.Answer.{Reply, Outcome}
 use Rattle.collector.specs.declared.Record.{Record}
-use Rattle.collector.specs.declared.Last.{Last}
-use Rattle.collector.specs.declared.Last.TheVariants.{None, Counter}
 
 -- the bytes that a record counts of each fate
 abbrev pub bytes_counted : Fate → Record → ℕ
@@ -55,7 +53,7 @@ marked_by splice r =
 -- last rejected section
 abbrev pub record_after : Record → ℕ → Story ℕ → Record
 record_after r counter s =
-    record_with r.pid (Counter counter) false (last_number r.rejection (rejected_of s)) (length (hand_of s))
+    record_with r.pid (Some counter) false (last_number r.rejection (rejected_of s)) (length (hand_of s))
     (λ k. (bytes_counted (done k) r + count_of (done k) s.marks) % 2 ^ 32)
 
 -- "Out gets the finished sections end to end", as amended those that are accepted, "the answer their number and bytes. Hold begins with the bytes

@@ -1,15 +1,18 @@
 -- Refusals 42 and 43, which look at what a call is lent besides the packet; and what a record tells of the packets before.
-use Rattle.std.specs.Prelude.{ℕ, Bool, true, false, ◌&&◌, ◌||◌, List, ◌==◌, nat_le, nat_lt, slice_index}
+use Rattle.std.specs.Prelude.{ℕ, Bool, true, false, ◌&&◌, ◌||◌, List, None, Some, ◌==◌, nat_le, nat_lt, slice_index}
+use Rattle.std.specs.Prelude as std
 use Rattle.std.proofs.Math.Option.{Option, none, some}
 use Rattle.wire.specs.Sections.{total_of}
 use Rattle.packet.specs.Ruling.{Before}
-use Rattle.collector.specs.declared.Last.{Last}
-use Rattle.collector.specs.declared.Last.TheVariants.{None, Counter}
 use Rattle.collector.specs.declared.Record.{Record}
+
+-- "the last counter or none", as a record has it
+abbrev pub Last : Type 0
+Last = std.Option ℕ
 
 abbrev pub last_of : Last → Option ℕ
 last_of None = none
-last_of (Counter c) = some c
+last_of (Some c) = some c
 
 -- what a record tells of the packets before
 abbrev pub before_of : Record → Before
@@ -23,11 +26,11 @@ too_small hold out = nat_lt hold 4096 || nat_lt out 4280
 
 abbrev pub is_none : Last → Bool
 is_none None = true
-is_none (Counter c) = false
+is_none (Some c) = false
 
 abbrev pub counter_past : Last → Bool
 counter_past None = false
-counter_past (Counter c) = nat_lt 15 c
+counter_past (Some c) = nat_lt 15 c
 
 -- "bytes in hand but no counter; first held byte 0xFF; 3 or more held whose header declares no more than are held, or over 4,096 in all"
 abbrev pub held_unfit : ℕ → Bool → List ℕ → Bool

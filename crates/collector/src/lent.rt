@@ -2,91 +2,50 @@
 ghost use Rattle.std.specs.Prelude.{◌≡◌, ◌≤◌, length};
 ghost use Rattle.packet.specs.Refusals.{judged};
 ghost use Rattle.packet.specs.Judgement.{meant};
-ghost use Rattle.collector.specs.Refusals.{is_none, counter_past, held_unfit, cannot_stand, too_small};
+ghost use Rattle.collector.specs.Refusals.{held_unfit, cannot_stand, too_small};
 
-use crate::{Last, Record, stretch};
+use crate::{Record, stretch};
 use packet::{Judgement, Refusal};
-
-fn is_none(last: Last) -> bool
-    ensures { result ≡ is_none last }
-{
-    match last {
-        Last::None => true,
-        Last::Counter(_) => false,
-    }
-}
-
-fn counter_past(last: Last) -> bool
-    ensures { result ≡ counter_past last }
-{
-    match last {
-        Last::None => false,
-        Last::Counter(c) => 15 < c,
-    }
-}
 
 // Refusal 43, of n bytes in hand where the record has a counter or none.
 fn held_unfit(n: usize, none: bool, hold: &[u8]) -> bool
     requires { 4096 ≤ length hold.now }
     ensures { result ≡ held_unfit n none hold.now }
 {
-    if n == 0 {
-        return false;
-    }
-    if none {
-        return true;
-    }
-    if hold[0] == 255 {
-        return true;
-    }
     if n < 3 {
-        return false;
+        return n != 0 && (none || hold[0] == 255);
     }
     let total = stretch::total_of(hold[1], hold[2]);
-    if total <= n {
-        return true;
-    }
-    4096 < total
+    none || hold[0] == 255 || total <= n || 4096 < total
 }
 
 // Refusal 43: a record that no run of calls leaves.
+#[tactic(auto, unfolding(crate::specs::Refusals::cannot_stand))]
 fn unfit(rec: Record, hold: &[u8]) -> bool
     requires { 4096 ≤ length hold.now }
     ensures { result ≡ cannot_stand rec hold.now }
 {
-    if 8191 < rec.pid {
-        return true;
-    }
-    let last = rec.last;
-    if counter_past(last) {
-        return true;
-    }
-    if 10 < rec.rejection {
-        return true;
-    }
-    let n = rec.in_hand;
-    if 4095 < n {
-        return true;
-    }
-    held_unfit(n, is_none(last), hold)
+    8191 < rec.pid
+        || rec.last.is_some_and(|counter| 15 < counter)
+        || 10 < rec.rejection
+        || 4095 < rec.in_hand
+        || held_unfit(rec.in_hand, rec.last.is_none(), hold)
 }
 
 // A packet and what it is lent with, by document 01's table: 41, 42 and 43 come before what the packet alone is refused for.
+#[tactic(auto, unfolding(packet::specs::Refusals::judged))]
 pub fn judge(rec: Record, hold: &[u8], room: usize, packet: &[u8]) -> Judgement
     ensures { meant result ≡ judged (too_small (length hold.now) room) (cannot_stand rec hold.now)
         rec.pid packet.now }
 {
     if packet.len() != 188 {
-        return Judgement::Refuse(Refusal::NotAPacket);
+        return Err(Refusal::NotAPacket);
     }
-    if hold.len() < 4096 {
-        return Judgement::Refuse(Refusal::Room);
-    }
-    if room < 4280 {
-        return Judgement::Refuse(Refusal::Room);
+    if hold.len() < 4096 || room < 4280 {
+        return Err(Refusal::Room);
     }
     if unfit(rec, hold) {
-        return Judgement::Refuse(Refusal::Unfit);
+        return Err(Refusal::Unfit);
     }
     packet::judge(rec.pid, packet)
 }

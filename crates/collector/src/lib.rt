@@ -13,14 +13,7 @@ ghost use Rattle.std.specs.Prelude.{◌≡◌};
 ghost use Rattle.collector.specs.Answer.{came};
 ghost use Rattle.collector.specs.Collected.{collected, fresh_record};
 
-use packet::{Judgement, Refusal};
-
-// "the last counter or none"
-#[derive(Clone, Copy)]
-pub enum Last {
-    None,
-    Counter(u8),
-}
+use packet::{Load, Refusal};
 
 // "It has the PID, the last counter or none, the bytes in hand", 32-bit counters, of which "The delivered counter splits into
 // accepted and rejected"; "The record gains a mark."; "A rejected section's number is kept in the record, the last one only".
@@ -28,7 +21,7 @@ pub enum Last {
 #[derive(Clone, Copy)]
 pub struct Record {
     pub pid: u16,
-    pub last: Last,
+    pub last: Option<u8>,
     pub in_hand: usize,
     pub pointer: u32,
     pub accepted: u32,
@@ -40,13 +33,16 @@ pub struct Record {
     pub rejection: u32,
 }
 
-// What a call answers. Taken: "the finished sections end to end, the answer their number and bytes", of the accepted ones.
+// What a packet comes to that is not refused. Taken: "the finished sections end to end, the answer their number and bytes",
+// of the accepted ones.
 #[derive(Clone, Copy)]
-pub enum Answer {
-    Refused(Refusal),
+pub enum Passed {
     Repeated,
     Taken { sections: usize, bytes: usize },
 }
+
+// What a call answers.
+pub type Answer = Result<Passed, Refusal>;
 
 // The record after a packet, and the answer.
 #[derive(Clone, Copy)]
@@ -62,7 +58,7 @@ pub fn fresh(pid: u16) -> Record
 {
     Record {
         pid,
-        last: Last::None,
+        last: None,
         in_hand: 0,
         pointer: 0,
         accepted: 0,
@@ -80,25 +76,19 @@ pub fn step(rec: Record, hold: &mut [u8], out: &mut [u8], packet: &[u8]) -> Step
     ensures { came result.record hold.new out.new result.answer
         ≡ collected rec hold.old out.old packet.now }
 {
-    let v = lent::judge(rec, hold, out.len(), packet);
-    match v {
-        Judgement::Refuse(refusal) => Stepped {
+    match lent::judge(rec, hold, out.len(), packet) {
+        Err(refusal) => Stepped {
             record: rec,
-            answer: Answer::Refused(refusal),
+            answer: Err(refusal),
         },
-        Judgement::Bare { splice } => Stepped {
+        Ok(Load::Bare { splice }) => Stepped {
             record: taking::marked(rec, splice),
-            answer: Answer::Taken {
+            answer: Ok(Passed::Taken {
                 sections: 0,
                 bytes: 0,
-            },
+            }),
         },
-        Judgement::Payload {
-            splice,
-            start,
-            counter,
-            from,
-        } => taking::carried(rec, hold, out, packet, from, start, counter, splice),
+        Ok(Load::Payload(load)) => taking::carried(rec, hold, out, packet, load),
     }
 }
 

@@ -7,6 +7,7 @@ ghost use Rattle.collector.specs.Inner.Payload.{Fit, front_of};
 
 use crate::stretch;
 use crate::stretch::Gain;
+use packet::Payload;
 
 // The stretch that goes to the section in hand: packet[from..from+bytes].
 #[derive(Clone, Copy)]
@@ -32,7 +33,7 @@ fn front_of(packet: &[u8], from: usize, start: bool) -> Front
     }
 }
 
-// The payload is packet[from..], and n bytes are in hand. "Start flag: one pointer byte p. The next p bytes go as above;
+// The payload is packet[load.from..], and n bytes are in hand. "Start flag: one pointer byte p. The next p bytes go as above;
 // a section still unfinished after them is broken off. Then sections follow end to end". The pointer byte itself is not
 // in the answer; was is the number of the section rejected last before this packet.
 // go_on, sections and carry are each called at one place alone, so that the compiler makes them part of their caller.
@@ -40,18 +41,26 @@ pub fn carry(
     hold: &mut [u8],
     n: usize,
     packet: &[u8],
-    from: usize,
-    start: bool,
+    load: Payload,
     out: &mut [u8],
     was: u32,
 ) -> Gain
-    requires { Fit n hold.old out.old packet.now from start }
-    ensures { Ends (payload by_judge plain start (holding (take n hold.old)) (drop from packet.now)) was
+    requires { Fit n hold.old out.old packet.now load.from load.start }
+    ensures { Ends (payload by_judge plain load.start (holding (take n hold.old)) (drop load.from packet.now)) was
         hold.old out.old 0 hold.new out.new result }
 {
-    let front = front_of(packet, from, start);
-    let a = stretch::go_on(hold, n, packet, front.from, front.bytes, out, !start, was);
-    if start {
+    let front = front_of(packet, load.from, load.start);
+    let a = stretch::go_on(
+        hold,
+        n,
+        packet,
+        front.from,
+        front.bytes,
+        out,
+        !load.start,
+        was,
+    );
+    if load.start {
         let at = a.bytes;
         let b = stretch::sections(packet, front.from + front.bytes, hold, out, at, a.rejection);
         return stretch::both(a, b);

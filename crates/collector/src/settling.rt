@@ -1,26 +1,22 @@
 // What becomes of a whole section: the judge is asked, and what it accepts goes to the out room.
 ghost use Rattle.std.specs.Prelude.{◌≡◌, ◌+◌, ◌≤◌, ◌++◌, length, take, drop};
-ghost use Rattle.verdict.specs.Verdict.{number_of};
+ghost use Rattle.verdict.specs.Verdict.{told};
 ghost use Rattle.section.specs.Reading.{judged};
 ghost use Rattle.collector.specs.Inner.Settling.{handedOut, window_at, laid_of};
 
 use crate::bytes;
 use section::judge::judge;
-use verdict::{is_accepted, number};
+use verdict::Verdict;
 
-// The section bytes[from..from+t], judged where it lies, goes to out[at..] if it is accepted. The answer is its rejection's
-// number, 0 where there is none.
-pub fn settle(bytes: &[u8], from: usize, t: usize, out: &mut [u8], at: usize) -> u8
+// The section bytes[from..from+t], judged where it lies, goes to out[at..] if it is accepted.
+pub fn settle(bytes: &[u8], from: usize, t: usize, out: &mut [u8], at: usize) -> Verdict
     requires { (from + t ≤ length bytes.now) × (at + t ≤ length out.old) }
-    ensures value { result ≡ number_of (judged (take t (drop from bytes.now))) }
+    ensures value { told result ≡ judged (take t (drop from bytes.now)) }
     ensures out_after { out.new ≡ handedOut out.old at (take t (drop from bytes.now)) }
 {
-    let verdict = judge(&bytes[from..from + t]);
-    if is_accepted(verdict) {
-        bytes::copy_at(bytes, from, t, out, at);
-        return 0;
-    }
-    number(verdict)
+    judge(&bytes[from..from + t])?;
+    bytes::copy_at(bytes, from, t, out, at);
+    Ok(())
 }
 
 // So many bytes of the hold are put back behind each section that is judged in it, more than a packet has: a copy of a size
@@ -35,11 +31,7 @@ fn window_at(n: usize, size: usize) -> usize
     ensures { result ≡ window_at n size }
 {
     let at = n - n % 32;
-    if at < size - WINDOW {
-        at
-    } else {
-        size - WINDOW
-    }
+    at.min(size - WINDOW)
 }
 
 // How many bytes of the packet are laid behind what is in hand: it has left, of which the first k end the section, and the
@@ -59,10 +51,10 @@ pub fn settle_held(
     from: usize,
     k: usize,
     out: &mut [u8],
-) -> u8
+) -> Verdict
     requires { (4096 ≤ length hold.old) × (n + k ≤ length hold.old) × (from + k ≤ length packet.now)
         × (length packet.now ≤ 188) × (n + k ≤ length out.old) }
-    ensures value { result ≡ number_of (judged (take n hold.old ++ take k (drop from packet.now))) }
+    ensures value { told result ≡ judged (take n hold.old ++ take k (drop from packet.now)) }
     ensures hold_unchanged { hold.new ≡ hold.old }
     ensures out_after { out.new
         ≡ handedOut out.old 0 (take n hold.old ++ take k (drop from packet.now)) }
@@ -72,7 +64,7 @@ pub fn settle_held(
     bytes::copy_at(hold, at, WINDOW, &mut window, 0);
     let laid = laid_of(k, packet.len() - from, at + WINDOW - n);
     bytes::copy_behind(packet, from, laid, hold, n);
-    let number = settle(hold, 0, n + k, out, 0);
+    let verdict = settle(hold, 0, n + k, out, 0);
     bytes::copy_at(&window, 0, WINDOW, hold, at);
-    number
+    verdict
 }

@@ -2,12 +2,14 @@
 ghost use Rattle.std.specs.Prelude.{◌≡◌, ◌+◌, ◌-◌, ◌<◌, ◌≤◌, [], ◌++◌, length, take, drop, slice_index};
 ghost use Rattle.wire.specs.Bytes.{len12};
 ghost use Rattle.wire.specs.Sections.{Unfinished};
+ghost use Rattle.verdict.specs.Verdict.{number_of, told};
 ghost use Rattle.collector.specs.Rules.{holding, joined, goesOn, sections_in, plain};
 ghost use Rattle.collector.specs.Judged.{by_judge};
 ghost use Rattle.collector.specs.Inner.Stretch.{LookSays, sized_as, nothing, Few, with_section, Ends, Small, both_of};
 
 use crate::bytes;
 use crate::settling::{settle, settle_held};
+use verdict::{Verdict, number};
 
 // What stands first in a run of bytes: a section that goes on past them, one that declares too much, or a whole one, of so many bytes.
 #[derive(Clone, Copy)]
@@ -48,20 +50,23 @@ fn none_yet(was: u32) -> Gain
     }
 }
 
-// One whole section of t bytes more, and its rejection's number, 0 where it is accepted.
-fn with_section(g: Gain, t: usize, number: u8) -> Gain
+// One whole section of t bytes more, which is accepted or not.
+fn with_section(g: Gain, t: usize, verdict: Verdict) -> Gain
     requires { Few g t }
-    ensures { result ≡ with_section g t number }
+    ensures { result ≡ with_section g t (number_of (told verdict)) }
 {
-    let mut r = g;
-    if number == 0 {
-        r.sections = g.sections + 1;
-        r.bytes = g.bytes + t;
-        return r;
+    if verdict.is_ok() {
+        return Gain {
+            sections: g.sections + 1,
+            bytes: g.bytes + t,
+            ..g
+        };
     }
-    r.rejected = g.rejected + t;
-    r.rejection = number as u32;
-    r
+    Gain {
+        rejected: g.rejected + t,
+        rejection: number(verdict) as u32,
+        ..g
+    }
 }
 
 // One stretch after another, which began with the number that the first left.
@@ -165,8 +170,8 @@ pub fn sections(
                 return g;
             }
             Look::Whole(t) => {
-                let number = settle(packet, i, t, out, at + g.bytes);
-                g = with_section(g, t, number);
+                let verdict = settle(packet, i, t, out, at + g.bytes);
+                g = with_section(g, t, verdict);
                 i += t;
             }
         }
@@ -214,8 +219,8 @@ pub fn go_on(
             r
         }
         Look::Whole(t) => {
-            let number = settle_held(hold, n, packet, from, t - n, out);
-            r = with_section(r, t, number);
+            let verdict = settle_held(hold, n, packet, from, t - n, out);
+            r = with_section(r, t, verdict);
             r.filling = m - (t - n);
             r
         }

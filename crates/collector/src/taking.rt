@@ -11,58 +11,39 @@ ghost use Rattle.collector.specs.Inner.Payload.{Fit};
 ghost use Rattle.collector.specs.Inner.Taking.{kept_of, point_count, counted_of};
 
 use crate::stretch::Gain;
-use crate::{Answer, Last, Record, Stepped, payload};
+use crate::{Passed, Record, Stepped, payload};
+use packet::Payload;
 
 // The mark, once a packet with this bit has come: it was set, or the bit sets it.
 fn is_set(mark: bool, splice: bool) -> bool
     ensures { result ≡ (mark || splice) }
 {
-    if mark { true } else { splice }
+    mark || splice
 }
 
 // "a counter equal to the last"; behind a mark a packet "is never "repeated""
-fn is_repeat(last: Last, spliced: bool, counter: u8) -> bool
+#[tactic(auto, unfolding(packet::specs::Ruling::repeats))]
+fn is_repeat(last: Option<u8>, spliced: bool, counter: u8) -> bool
     ensures { result ≡ repeats (last_of last) spliced counter }
 {
-    if spliced {
-        return false;
-    }
-    match last {
-        Last::None => false,
-        Last::Counter(c) => counter == c,
-    }
+    !spliced && last.is_some_and(|last| counter == last)
 }
 
 // "the last plus 1 modulo 16", and no mark
-fn is_joined(last: Last, spliced: bool, counter: u8) -> bool
+#[tactic(auto, unfolding(packet::specs::Ruling::joins))]
+fn is_joined(last: Option<u8>, spliced: bool, counter: u8) -> bool
     ensures { result ≡ joins (last_of last) spliced counter }
 {
-    if spliced {
-        return false;
-    }
-    match last {
-        Last::None => true,
-        Last::Counter(c) => wire::wide(counter) == (wire::wide(c) + 1) % 16,
-    }
+    !spliced && last.is_none_or(|last| wire::wide(counter) == (wire::wide(last) + 1) % 16)
 }
 
 // A packet without payload changes the mark alone.
 pub fn marked(rec: Record, splice: bool) -> Record
     ensures { result ≡ marked_by splice rec }
 {
-    let last = rec.last;
     Record {
-        pid: rec.pid,
-        last,
-        in_hand: rec.in_hand,
-        pointer: rec.pointer,
-        accepted: rec.accepted,
-        rejected: rec.rejected,
-        broken: rec.broken,
-        filler: rec.filler,
-        skipped: rec.skipped,
         mark: is_set(rec.mark, splice),
-        rejection: rec.rejection,
+        ..rec
     }
 }
 
@@ -78,24 +59,23 @@ fn counted(rec: Record, counter: u8, e: Gain, broken: usize, start: bool) -> Rec
     requires { Small e × (broken < 4096) }
     ensures { result ≡ counted_of rec counter e broken start }
 {
-    let point = point_count(start);
     let accepted = e.bytes as u32;
     let rejected = e.rejected as u32;
     let lost = (broken + e.breaking) as u32;
     let filler = e.filling as u32;
     let skipped = e.skipping as u32;
     Record {
-        pid: rec.pid,
-        last: Last::Counter(counter),
+        last: Some(counter),
         in_hand: e.in_hand,
-        pointer: std::num::wrapping_add_u32(rec.pointer, point),
-        accepted: std::num::wrapping_add_u32(rec.accepted, accepted),
-        rejected: std::num::wrapping_add_u32(rec.rejected, rejected),
-        broken: std::num::wrapping_add_u32(rec.broken, lost),
-        filler: std::num::wrapping_add_u32(rec.filler, filler),
-        skipped: std::num::wrapping_add_u32(rec.skipped, skipped),
+        pointer: rec.pointer.wrapping_add(point_count(start)),
+        accepted: rec.accepted.wrapping_add(accepted),
+        rejected: rec.rejected.wrapping_add(rejected),
+        broken: rec.broken.wrapping_add(lost),
+        filler: rec.filler.wrapping_add(filler),
+        skipped: rec.skipped.wrapping_add(skipped),
         mark: false,
         rejection: e.rejection,
+        ..rec
     }
 }
 
@@ -106,61 +86,54 @@ fn kept(next: bool, held: usize) -> usize
     if next { held } else { 0 }
 }
 
-// A packet that is taken and has payload, packet[from..]; next says that what is in hand goes on in it.
+// A packet that is taken and has payload; next says that what is in hand goes on in it.
 fn taken(
     rec: Record,
     hold: &mut [u8],
     out: &mut [u8],
     packet: &[u8],
-    from: usize,
-    start: bool,
-    counter: u8,
+    load: Payload,
     next: bool,
 ) -> Stepped
-    requires { Fit rec.in_hand hold.old out.old packet.now from start }
+    requires { Fit rec.in_hand hold.old out.old packet.now load.from load.start }
     ensures { came result.record hold.new out.new result.answer
         ≡ outcome_after rec
-        hold.old out.old counter
-        (payload by_judge plain start (joined next (holding (take rec.in_hand hold.old)))
-        (drop from packet.now)) }
+        hold.old out.old load.counter
+        (payload by_judge plain load.start (joined next (holding (take rec.in_hand hold.old)))
+        (drop load.from packet.now)) }
 {
-    let held = rec.in_hand;
-    let n = kept(next, held);
-    let broken = held - n;
-    let e = payload::carry(hold, n, packet, from, start, out, rec.rejection);
+    let n = kept(next, rec.in_hand);
+    let e = payload::carry(hold, n, packet, load, out, rec.rejection);
     Stepped {
-        record: counted(rec, counter, e, broken, start),
-        answer: Answer::Taken {
+        record: counted(rec, load.counter, e, rec.in_hand - n, load.start),
+        answer: Ok(Passed::Taken {
             sections: e.sections,
             bytes: e.bytes,
-        },
+        }),
     }
 }
 
-// A packet that is not refused and has payload, packet[from..].
+// A packet that is not refused and has payload.
 pub fn carried(
     rec: Record,
     hold: &mut [u8],
     out: &mut [u8],
     packet: &[u8],
-    from: usize,
-    start: bool,
-    counter: u8,
-    splice: bool,
+    load: Payload,
 ) -> Stepped
-    requires { Fit rec.in_hand hold.old out.old packet.now from start }
+    requires { Fit rec.in_hand hold.old out.old packet.now load.from load.start }
     ensures { came result.record hold.new out.new result.answer
         ≡ outcome_of rec hold.old out.old
-        (ruled_on (before_of rec) (load_of (mark_with (before_of rec) splice) packet.now from start counter)) }
+        (ruled_on (before_of rec)
+        (load_of (mark_with (before_of rec) load.splice) packet.now load.from load.start load.counter)) }
 {
-    let last = rec.last;
-    let spliced = is_set(rec.mark, splice);
-    if is_repeat(last, spliced, counter) {
+    let spliced = is_set(rec.mark, load.splice);
+    if is_repeat(rec.last, spliced, load.counter) {
         return Stepped {
             record: rec,
-            answer: Answer::Repeated,
+            answer: Ok(Passed::Repeated),
         };
     }
-    let next = is_joined(last, spliced, counter);
-    taken(rec, hold, out, packet, from, start, counter, next)
+    let next = is_joined(rec.last, spliced, load.counter);
+    taken(rec, hold, out, packet, load, next)
 }

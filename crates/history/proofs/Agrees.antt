@@ -11,7 +11,7 @@ use lib.ListN.{length, take, drop, length-append, length-drop}
 use lib.Seq.{take-append_seam, drop-append_seam}
 use lib.Dec.{ltb}
 use borrow.Author.Tests.{ltb-false}
-use Rattle.std.specs.Prelude.{if◌then◌else◌}
+use Rattle.std.specs.Prelude.{if◌then◌else◌, None, Some}
 use Rattle.wire.specs.Each.{Each}
 use Rattle.wire.specs.Sections.{total_of, WholeSection}
 use Rattle.copy.specs.Laid.{over}
@@ -25,7 +25,6 @@ use Rattle.packet.specs.Ruling as Ruled
 use Rattle.collector.specs.Answer.{Outcome}
 use Rattle.collector.specs.Collected.{bytes_counted, fresh_record, marked_by, record_after, outcome_after, outcome_of}
 use Rattle.collector.specs.declared.Record.{Record}
-use Rattle.collector.specs.declared.Last.TheVariants.{None, Counter}
 use Rattle.collector.proofs.Counters.{counts_with}
 use Rattle.collector.proofs.MarkLaws.{bytes_of_marked}
 use Rattle.collector.proofs.ByteRuns.{total_prefix}
@@ -207,7 +206,7 @@ agrees_left {counter = counter} {h = h} r hold s pid long big small few x =
           ∙ ap (ltb 8191) pid;
       told = record {
         counters_are = λ k.
-            counts_with r.pid (Counter counter) false (last_number r.rejection (rejected_of s)) (length (hand_of s))
+            counts_with r.pid (Some counter) false (last_number r.rejection (rejected_of s)) (length (hand_of s))
             (λ j. (bytes_counted (done j) r + count_of (done j) s.marks) % 2 ^ 32) k
             ∙ x.counts k;
         in_hand_is = ap length x.hand ∙ map_long (hand_of h.story);

@@ -6,7 +6,7 @@ use mathlib.Core.List.{List, [], ◌∷◌, flatten}
 use Prim.Native.Nat.{ℕ, ◌+◌, ◌%◌, ◌^◌}
 use native.Mathlib.Omega.{arith}
 use lib.ListN.{length, drop, get_or, replicate}
-use Rattle.std.specs.Prelude.{if◌then◌else◌}
+use Rattle.std.specs.Prelude.{if◌then◌else◌, None, Some}
 use Rattle.packet.specs.Header.{start_flag, control}
 use Rattle.packet.specs.Ruling.{joins, repeats}
 use Rattle.collector.specs.Rules.{size_of}
@@ -14,11 +14,9 @@ use Rattle.packet.specs.Refusals.{judged}
 use Rattle.tables.specs.Tables.{row_of, cell, first, holds}
 use Rattle.section.specs.Reading.{◌and_then◌, plain, inside, opening, wrong_syntax, length_outside, size_differs, crc_fails, above_last, header, read}
 use Rattle.section.specs.Reading.{judged as verdict}
-use Rattle.collector.specs.Refusals.{cannot_stand}
+use Rattle.collector.specs.Refusals.{cannot_stand, Last}
 use Rattle.collector.specs.Rules.{accepted, by_kind, done}
 use Rattle.collector.specs.Collected.{bytes_counted, collected}
-use Rattle.collector.specs.declared.Last.{Last}
-use Rattle.collector.specs.declared.Last.TheVariants.{None, Counter}
 use Rattle.history.specs.Healing.{Starts, rejected_since, State, IsTaken, IsRepeated}
 use Rattle.history.specs.WrongCollectors.{keeps_first, collected_by}
 use Rattle.history.specs.AtWork as story
@@ -67,7 +65,7 @@ byte_first (s ∷ more) = get_or s.bytes 0 0
 
 abbrev last_is : Last → ℕ
 last_is None = 16
-last_is (Counter c) = c
+last_is (Some c) = c
 
 abbrev counter_first : List State → ℕ
 counter_first [] = 16

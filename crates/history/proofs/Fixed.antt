@@ -14,13 +14,12 @@ use Rattle.copy.specs.Laid.{over}
 use Rattle.packet.specs.Ruling.{Before, noneBefore, Ruling, takes, ruling}
 use Rattle.collector.specs.Rules.{in-hand, done, Story, count_of, hand_of, holding, plain, story_after}
 use Rattle.collector.specs.Judged.{by_judge, delivered_of}
-use Rattle.collector.specs.Refusals.{last_of, before_of, cannot_stand, too_small}
+use Rattle.collector.specs.Refusals.{last_of, before_of, cannot_stand, too_small, Last}
 use Rattle.packet.specs.Ruling as Ruled
 use Rattle.collector.specs.Answer.{Reply, refused_with, repeated, taken, Outcome}
 use Rattle.collector.specs.Collected.{record_with, fresh_record, outcome_of, collected}
 use Rattle.collector.specs.declared.Record.{Record}
-use Rattle.collector.specs.declared.Last.{Last}
-use Rattle.collector.specs.declared.Last.TheVariants.{None, Counter}
+use Rattle.std.specs.Prelude.{None, Some}
 use Rattle.history.specs.History.{value_of, History, history_of}
 use Rattle.history.specs.Run.{Collector, Promised, Call, Input, input_of, Run, no_call, one_call, Fare, fare_of, ruled_fare, Lent, lent_of, ruling_on, before_after, fares_from, ruled_taken, before_from, cut, handed_by, handed, bytes_by, told_by}
 use Rattle.history.specs.Run as R
@@ -64,11 +63,11 @@ fares_by_lem pid size before (k ∷ ks) a b =
 
 abbrev pub last_in : Option ℕ → Last
 last_in none = None
-last_in (some c) = Counter c
+last_in (some c) = Some c
 
 pub last_in_lem : (l : Last) → last_in (last_of l) ≡ l
 last_in_lem None = refl
-last_in_lem (Counter c) = refl
+last_in_lem (Some c) = refl
 
 abbrev record_in : ℕ → Before → History → Record
 record_in pid before h =

@@ -10,14 +10,12 @@ use native.Mathlib.Omega.{arith}
 use lib.ListN.{length, take, drop, get_or, length-append, get_or-append}
 use lib.Dec.{ltb, leb, eqb}
 use borrow.Author.Tests.{ltb-true, ltb-false, leb-true, eqb-false, lt-ltb, le-ltb, lt-leb, ne_eqb}
-use Rattle.std.specs.Prelude.{if◌then◌else◌}
+use Rattle.std.specs.Prelude.{if◌then◌else◌, Some}
 use Rattle.wire.specs.Sections.{total_of, Unfinished}
 use Rattle.packet.specs.Ruling.{joins, Carried}
 use Rattle.collector.specs.Rules.{Kind, Fate, pointer, broken, filler, done, in-hand, Story, same_fate, hand_of, given, broken_off, finished, holding, kind_of, Mode, begin, inside, outside, filling, Next, Size, going, whole, too_long, size_of, plain, begun, grown, resumed, joined, byte_in, stretch, goesOn, sections_in, payload, story_after}
-use Rattle.collector.specs.Refusals.{is_none, counter_past, held_unfit, cannot_stand}
+use Rattle.collector.specs.Refusals.{is_none, counter_past, held_unfit, cannot_stand, Last}
 use Rattle.collector.specs.declared.Record.{Record}
-use Rattle.collector.specs.declared.Last.{Last}
-use Rattle.collector.specs.declared.Last.TheVariants.{Counter}
 use Rattle.collector.proofs.MarkLaws.{bytes_of_more, bytes_of_marked, settled_hand}
 use Rattle.collector.proofs.ByteRuns.{lt_or_ge, total_prefix}
 use Rattle.wire.proofs.TestLaws.{or_none}
@@ -184,7 +182,7 @@ held_ok (b ∷ h) x rest =
         let below : total_of ((b ∷ h) ++ rest) ≤ 4096 = omega (arith, m.0, same) in
         simp (lt-leb _ _ above, le-ltb _ _ below)
 
-pub stands_after : (r : Record) (c : ℕ) → r.last ≡ Counter c → c ≤ 15 → (h : List ℕ) → Standing h
+pub stands_after : (r : Record) (c : ℕ) → r.last ≡ Some c → c ≤ 15 → (h : List ℕ) → Standing h
     → r.in_hand ≡ length h → r.rejection ≤ 10 → (rest : List ℕ) → cannot_stand r (h ++ rest) ≡ ltb 8191 r.pid
 unfolding cannot_stand
 stands_after r c e k h x n m rest =

@@ -4,25 +4,25 @@ use mathlib.Core.Path.{◌≡◌, refl, sym, ap, ◌∙◌}
 use mathlib.Core.List.{List, [], ◌∷◌}
 use Prim.Native.Nat.{ℕ}
 use Rattle.packet.proofs.Unique.{refusal_at, refusal_at_lem}
-use Rattle.collector.specs.Answer.{Reply, refused_with, repeated, taken, told, Outcome, came}
+use Rattle.std.specs.Prelude.{Ok, Err}
+use Rattle.collector.specs.Answer.{Reply, refused_with, repeated, taken, Answer, told, Outcome, came}
 use Rattle.collector.specs.Collected.{collected}
 use Rattle.collector.specs.declared.Record.{Record}
-use Rattle.collector.specs.declared.Answer.{Answer}
-use Rattle.collector.specs.declared.Answer.TheVariants.{Refused, Repeated, Taken}
+use Rattle.collector.specs.declared.Passed.TheVariants.{Repeated, Taken}
 use Rattle.history.specs.Run.{Call, Input, RunOn, no_call, one_call}
 
 -- ---- two answers that tell the same are equal
 
 answerAt : Reply → Answer
-answerAt (refused_with n) = Refused (refusal_at n)
-answerAt repeated = Repeated
-answerAt (taken sections bytes) = Taken sections bytes
+answerAt (refused_with n) = Err (refusal_at n)
+answerAt repeated = Ok Repeated
+answerAt (taken sections bytes) = Ok (Taken sections bytes)
 
 answer_at : (a : Answer) → answerAt (told a) ≡ a
 unfolding answerAt
-answer_at (Refused x) = ap Refused (refusal_at_lem x)
-answer_at Repeated = refl
-answer_at (Taken sections bytes) = refl
+answer_at (Err x) = ap Err (refusal_at_lem x)
+answer_at (Ok Repeated) = refl
+answer_at (Ok (Taken sections bytes)) = refl
 
 pub told_once : (a b : Answer) → told a ≡ told b → a ≡ b
 told_once a b e = sym (answer_at a) ∙ ap answerAt e ∙ answer_at b

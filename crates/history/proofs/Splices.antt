@@ -9,7 +9,7 @@ use lib.ListN.{length, take, get_or}
 use lib.Seq.{length-take-le}
 use lib.Dec.{ltb, leb, eqb}
 use borrow.Author.Tests.{leb-true, le-leb, ltb-false, eq-eqb, ne_eqb, eqb-true, eqb-false}
-use Rattle.std.specs.Prelude.{if◌then◌else◌}
+use Rattle.std.specs.Prelude.{if◌then◌else◌, Some}
 use Rattle.wire.specs.Each.{Each}
 use Rattle.copy.specs.Laid.{over}
 use Rattle.packet.specs.Header.{start_flag, control, counter_of, adaptation, bit_of_field, discontinuity, payload_from, payload_of}
@@ -24,7 +24,6 @@ use Rattle.collector.specs.Answer.{Outcome, repeated, taken}
 use Rattle.collector.specs.Answer as Answer
 use Rattle.collector.specs.Collected.{bytes_counted, record_with, unaltered, marked_by, outcome_after, outcome_of, collected}
 use Rattle.collector.specs.declared.Record.{Record}
-use Rattle.collector.specs.declared.Last.TheVariants.{Counter}
 use Rattle.collector.proofs.Fits.{few_held}
 use Rattle.collector.proofs.Outcomes.{lost, beside_break}
 use Rattle.collector.proofs.Simulation.{Beside}
@@ -231,7 +230,7 @@ module _ (r : Record) (hold out p : List ℕ) (few : r.in_hand ≤ length hold) 
       let others : rejected_of S ≡ rejected_of s = ap rejected_among (more_sections b) in
       λ i. record {
         rec =
-            record_with r.pid (Counter (counter_of p)) false (last_number r.rejection (others i)) (length (hand i))
+            record_with r.pid (Some (counter_of p)) false (last_number r.rejection (others i)) (length (hand i))
             (λ k. the_counts k i);
         hold = over (hand i) hold;
         out = over (flatten (secs i)) out;

@@ -1,12 +1,11 @@
 -- The collector at work: packets one after another, what is answered to each, and the record that they leave. That each
 -- story goes so is computed.
-use Rattle.std.specs.Prelude.{◌≡◌, Bool, true, false, ℕ, ◌+◌, ◌-◌, length, replicate}
+use Rattle.std.specs.Prelude.{◌≡◌, Bool, true, false, ℕ, ◌+◌, ◌-◌, length, replicate, None, Some}
 use mathlib.Core.List.{List, [], ◌∷◌, ◌++◌, map, flatten}
 use Rattle.collector.specs.Answer.{Reply, refused_with, repeated, taken}
 use Rattle.collector.specs.Collected.{fresh_record, unaltered, collected}
 use Rattle.collector.specs.declared.Record.{Record}
-use Rattle.collector.specs.declared.Last.{Last}
-use Rattle.collector.specs.declared.Last.TheVariants.{None, Counter}
+use Rattle.collector.specs.Refusals.{Last}
 use Rattle.history.specs.Run.{bytes_by}
 use Rattle.history.specs.WrongCollectors.{worked, hold₀, out₀}
 
@@ -153,14 +152,14 @@ unchanged r hold out steps = record { from = r; hold = hold; out = out; steps = 
 -- ---- document 01's packet
 
 abbrev pub the_worked_packet : Story
-the_worked_packet = from_fresh 20 (record_of 20 (Counter 0) 0 1 8 0 0 175 0) (worked 0 hands (tdt ∷ []) ∷ [])
+the_worked_packet = from_fresh 20 (record_of 20 (Some 0) 0 1 8 0 0 175 0) (worked 0 hands (tdt ∷ []) ∷ [])
 
 -- ---- refusals
 
 -- packets to which all of 44 to 49 apply, and one fewer each time
 abbrev pub in_this_order : Story
 in_this_order =
-    from_fresh 20 (record_of 20 (Counter 0) 0 0 0 0 0 0 184)
+    from_fresh 20 (record_of 20 (Some 0) 0 0 0 0 0 0 184)
     (filled (0x46 ∷ 0xC0 ∷ 0x15 ∷ 0x40 ∷ []) gives refused_with 44
     ∷ filled (0x47 ∷ 0xC0 ∷ 0x15 ∷ 0x40 ∷ []) gives refused_with 45
     ∷ filled (0x47 ∷ 0x40 ∷ 0x15 ∷ 0x40 ∷ []) gives refused_with 46
@@ -189,12 +188,12 @@ unfit pid last in-hand held =
 -- one that can stand
 abbrev pub fit : ℕ → List ℕ → Story
 fit in-hand held =
-    unchanged (record_of 20 (Counter 15) in-hand 0 0 0 0 0 0) (held ++ hold₀) out₀ (goesOn 15 (0 ∷ []) gives repeated ∷ [])
+    unchanged (record_of 20 (Some 15) in-hand 0 0 0 0 0 0) (held ++ hold₀) out₀ (goesOn 15 (0 ∷ []) gives repeated ∷ [])
 
 -- "another PID": all thirteen bits of it, and transport_priority is none of them
 abbrev pub all_bits_of_the_pid : Story
 all_bits_of_the_pid =
-    from_fresh 8191 (record_of 8191 (Counter 1) 0 2 0 0 0 366 0)
+    from_fresh 8191 (record_of 8191 (Some 1) 0 2 0 0 0 366 0)
     (filled (0x47 ∷ 0x5F ∷ 0xFF ∷ 0x10 ∷ 0x00 ∷ []) gives taken 0 0
     ∷ filled (0x47 ∷ 0x7F ∷ 0xFF ∷ 0x11 ∷ 0x00 ∷ []) gives taken 0 0
     ∷ filled (0x47 ∷ 0x4F ∷ 0xFF ∷ 0x12 ∷ 0x00 ∷ []) gives refused_with 46
@@ -205,7 +204,7 @@ all_bits_of_the_pid =
 -- length other than 183"
 abbrev pub each_control : Story
 each_control =
-    from_fresh 20 (record_of 20 (Counter 0) 0 0 0 0 0 0 1)
+    from_fresh 20 (record_of 20 (Some 0) 0 0 0 0 0 0 1)
     (filled (0x47 ∷ 0x80 ∷ 0x14 ∷ 0x10 ∷ []) gives refused_with 45
     ∷ filled (0x47 ∷ 0x00 ∷ 0x14 ∷ 0x50 ∷ []) gives refused_with 47
     ∷ filled (0x47 ∷ 0x00 ∷ 0x14 ∷ 0x90 ∷ []) gives refused_with 47
@@ -219,7 +218,7 @@ each_control =
 -- "pointer above payload length minus 2 (a payload of 1: always)": at the limit, one above it, and a payload of 1
 abbrev pub pointer_at_its_limit : Story
 pointer_at_its_limit =
-    from_fresh 20 (record_of 20 (Counter 0) 0 1 0 0 0 1 2)
+    from_fresh 20 (record_of 20 (Some 0) 0 1 0 0 0 1 2)
     (starts 0 (2 ∷ 1 ∷ 2 ∷ 0xFF ∷ []) gives taken 0 0
     ∷ starts 1 (3 ∷ 1 ∷ 2 ∷ 0xFF ∷ []) gives refused_with 49
     ∷ starts 1 (0 ∷ []) gives refused_with 49
@@ -230,7 +229,7 @@ pointer_at_its_limit =
 -- "the last plus 1 modulo 16": 0 after 15 is no break, and the section goes on; "after its end, filler", whatever it is
 abbrev pub zero_after_fifteen : Story
 zero_after_fifteen =
-    from_fresh 20 (record_of 20 (Counter 0) 0 1 8 0 0 1 0)
+    from_fresh 20 (record_of 20 (Some 0) 0 1 8 0 0 1 0)
     (starts 15 (0 ∷ 0x70 ∷ 0x70 ∷ 0x05 ∷ 0xC0 ∷ []) gives taken 0 0
     ∷ goesOn 0 (0x79 ∷ 0x12 ∷ 0x45 ∷ 0x00 ∷ 0x70 ∷ []) hands (tdt ∷ [])
     ∷ [])
@@ -238,7 +237,7 @@ zero_after_fifteen =
 -- 14 after 13 is no break, 0 after 14 is one: "what is in hand is broken off", and "Nothing in hand: skipped."
 abbrev pub a_break : Story
 a_break =
-    from_fresh 20 (record_of 20 (Counter 0) 0 1 0 0 3 0 2)
+    from_fresh 20 (record_of 20 (Some 0) 0 1 0 0 3 0 2)
     (starts 13 (0 ∷ 0x70 ∷ 0x70 ∷ []) gives taken 0 0
     ∷ goesOn 14 (0x05 ∷ []) gives taken 0 0
     ∷ goesOn 0 (0xC0 ∷ 0x79 ∷ []) gives taken 0 0
@@ -248,7 +247,7 @@ a_break =
 -- no mark is set
 abbrev pub nothing_changes : Story
 nothing_changes =
-    from_fresh 20 (record_of 20 (Counter 5) 3 1 0 0 0 0 0)
+    from_fresh 20 (record_of 20 (Some 5) 3 1 0 0 0 0 0)
     (starts 4 (0 ∷ 0x70 ∷ 0x70 ∷ []) gives taken 0 0
     ∷ filled (0x47 ∷ 0x00 ∷ 0x14 ∷ 0x29 ∷ 183 ∷ 0x7F ∷ []) gives taken 0 0
     ∷ filled (0x47 ∷ 0x00 ∷ 0x14 ∷ 0x24 ∷ 183 ∷ 0x00 ∷ []) gives taken 0 0
@@ -260,7 +259,7 @@ nothing_changes =
 -- until 0xFF stands where one would begin (the rest is filler)"
 abbrev pub the_pointer_followed : Story
 the_pointer_followed =
-    from_fresh 20 (record_of 20 (Counter 1) 0 2 16 0 5 2 0)
+    from_fresh 20 (record_of 20 (Some 1) 0 2 16 0 5 2 0)
     (starts 0 (0 ∷ 0x70 ∷ 0x70 ∷ 0x05 ∷ []) gives taken 0 0
     ∷ starts 1 (2 ∷ 0xC0 ∷ 0x79 ∷ tdt ++ (other_tdt ++ (0xFF ∷ 0x70 ∷ []))) hands (tdt ∷ other_tdt ∷ [])
     ∷ [])
@@ -268,7 +267,7 @@ the_pointer_followed =
 -- the section in hand ends before the target: what is between is filler, and a new one stays in hand
 abbrev pub ended_before_the_target : Story
 ended_before_the_target =
-    from_fresh 20 (record_of 20 (Counter 1) 2 2 8 0 0 1 0)
+    from_fresh 20 (record_of 20 (Some 1) 2 2 8 0 0 1 0)
     (starts 0 (0 ∷ 0x70 ∷ []) gives taken 0 0
     ∷ starts 1 (8 ∷ 0x70 ∷ 0x05 ∷ 0xC0 ∷ 0x79 ∷ 0x12 ∷ 0x45 ∷ 0x00 ∷ 0x00 ∷ 0x70 ∷ 0x70 ∷ []) hands (tdt ∷ [])
     ∷ [])
@@ -277,12 +276,12 @@ ended_before_the_target =
 -- target or payload end) are broken off."
 abbrev pub section-length-4093 : Story
 section-length-4093 =
-    from_fresh 20 (record_of 20 (Counter 0) 4 1 0 0 0 0 0)
+    from_fresh 20 (record_of 20 (Some 0) 4 1 0 0 0 0 0)
     (starts 0 (0 ∷ 0x70 ∷ 0xFF ∷ 0xFD ∷ 0x01 ∷ []) gives taken 0 0 ∷ [])
 
 abbrev pub section-length-4094 : Story
 section-length-4094 =
-    from_fresh 20 (record_of 20 (Counter 1) 0 2 8 0 8 0 0)
+    from_fresh 20 (record_of 20 (Some 1) 0 2 8 0 8 0 0)
     (starts 0 (0 ∷ 0x70 ∷ 0xFF ∷ []) gives taken 0 0
     ∷ starts 1 (2 ∷ 0xFE ∷ 0x01 ∷ tdt ++ (0x70 ∷ 0x7F ∷ 0xFE ∷ 0x01 ∷ [])) hands (tdt ∷ [])
     ∷ [])
@@ -290,12 +289,12 @@ section-length-4094 =
 -- six "32-bit counters that run round past 4,294,967,295 to 0"
 abbrev pub counters_run_round : Story
 counters_run_round = record {
-  from = record_of 20 (Counter 3) 2 4294967295 4294967288 4294967293 4294967294 4294967295 4294967294;
+  from = record_of 20 (Some 3) 2 4294967295 4294967288 4294967293 4294967294 4294967295 4294967294;
   hold = 0x70 ∷ 0x70 ∷ hold₀;
   out = out₀;
   steps =
       starts 5 (2 ∷ 0 ∷ 0 ∷ tdt ++ (rejected-4 ++ (0xFF ∷ []))) hands (tdt ∷ []) ∷ [];
-  left = numbered_of 4 20 (Counter 5) 0 0 0 0 0 0 0;
+  left = numbered_of 4 20 (Some 5) 0 0 0 0 0 0 0;
 }
 
 -- ---- the judge: request (viii)
@@ -304,18 +303,18 @@ counters_run_round = record {
 -- the greater or the less
 abbrev pub two_rejected : Story
 two_rejected =
-    from_fresh 20 (numbered_of 4 20 (Counter 0) 0 1 0 6 0 1 0)
+    from_fresh 20 (numbered_of 4 20 (Some 0) 0 1 0 6 0 1 0)
     (starts 0 (0 ∷ rejected-2 ++ (rejected-4 ++ (0xFF ∷ []))) gives taken 0 0 ∷ [])
 
 abbrev pub two_rejected_turned : Story
 two_rejected_turned =
-    from_fresh 20 (numbered_of 3 20 (Counter 0) 0 1 0 6 0 1 0)
+    from_fresh 20 (numbered_of 3 20 (Some 0) 0 1 0 6 0 1 0)
     (starts 0 (0 ∷ rejected-4 ++ (rejected-3 ++ (0xFF ∷ []))) gives taken 0 0 ∷ [])
 
 -- an acceptance leaves it, behind the rejected section and in the packet after
 abbrev pub rejected_then_accepted : Story
 rejected_then_accepted =
-    from_fresh 20 (numbered_of 2 20 (Counter 1) 0 2 24 3 0 2 0)
+    from_fresh 20 (numbered_of 2 20 (Some 1) 0 2 24 3 0 2 0)
     (starts 0 (0 ∷ tdt ++ (rejected-2 ++ (other_tdt ++ (0xFF ∷ [])))) hands (tdt ∷ other_tdt ∷ [])
     ∷ starts 1 (0 ∷ tdt ++ (0xFF ∷ [])) hands (tdt ∷ [])
     ∷ [])
@@ -323,7 +322,7 @@ rejected_then_accepted =
 -- rejected before the pointer's target, accepted behind it
 abbrev pub rejected_before_the_target : Story
 rejected_before_the_target =
-    from_fresh 20 (numbered_of 4 20 (Counter 1) 0 2 8 3 0 1 0)
+    from_fresh 20 (numbered_of 4 20 (Some 1) 0 2 8 3 0 1 0)
     (starts 0 (0 ∷ 0x70 ∷ 0x70 ∷ []) gives taken 0 0
     ∷ starts 1 (1 ∷ 0x00 ∷ tdt ++ (0xFF ∷ [])) hands (tdt ∷ [])
     ∷ [])
@@ -331,7 +330,7 @@ rejected_before_the_target =
 -- and the other way round
 abbrev pub rejected_behind_the_target : Story
 rejected_behind_the_target =
-    from_fresh 20 (numbered_of 2 20 (Counter 1) 0 2 8 3 0 1 0)
+    from_fresh 20 (numbered_of 2 20 (Some 1) 0 2 8 3 0 1 0)
     (starts 0 (0 ∷ 0x70 ∷ 0x70 ∷ 0x05 ∷ 0xC0 ∷ []) gives taken 0 0
     ∷ starts 1 (4 ∷ 0x79 ∷ 0x12 ∷ 0x45 ∷ 0x00 ∷ rejected-2 ++ (0xFF ∷ [])) hands (tdt ∷ [])
     ∷ [])
@@ -346,7 +345,7 @@ the_number_stays = record {
       starts 0 (0 ∷ 0x70 ∷ 0x70 ∷ []) gives taken 0 0
       ∷ filled (0x47 ∷ 0x00 ∷ 0x14 ∷ 0x29 ∷ 183 ∷ 0x00 ∷ []) gives taken 0 0
       ∷ [];
-  left = numbered_of 7 20 (Counter 0) 2 1 0 0 0 0 0;
+  left = numbered_of 7 20 (Some 0) 2 1 0 0 0 0 0;
 }
 
 -- "any number but 0 to 10 there is refused with 43", and 10 is not
@@ -356,7 +355,7 @@ unfit_number n =
 
 abbrev pub fit_number : ℕ → Story
 fit_number n =
-    unchanged (numbered_of n 20 (Counter 15) 0 0 0 0 0 0 0) hold₀ out₀ (goesOn 15 (0 ∷ []) gives repeated ∷ [])
+    unchanged (numbered_of n 20 (Some 15) 0 0 0 0 0 0 0) hold₀ out₀ (goesOn 15 (0 ∷ []) gives repeated ∷ [])
 
 -- "Bytes of either beyond that stay": a section of which a packet brings the end and which is rejected leaves every byte of
 -- both rooms as it was
@@ -364,8 +363,8 @@ abbrev pub RejectedLeavesRooms : Type 0
 RejectedLeavesRooms =
     let hold : List ℕ = 0x70 ∷ 0x70 ∷ replicate 4094 0xEE in
     let out : List ℕ = replicate 4280 0xEE in
-    collected (record_of 20 (Counter 0) 2 1 0 0 0 0 0) hold out (goesOn 1 (0x01 ∷ 0x55 ∷ 0xFF ∷ []))
-    ≡ unaltered (numbered_of 4 20 (Counter 1) 0 1 0 4 0 1 0) hold out (taken 0 0)
+    collected (record_of 20 (Some 0) 2 1 0 0 0 0 0) hold out (goesOn 1 (0x01 ∷ 0x55 ∷ 0xFF ∷ []))
+    ≡ unaltered (numbered_of 4 20 (Some 1) 0 1 0 4 0 1 0) hold out (taken 0 0)
 
 -- ---- splices: request (ix)
 
@@ -379,7 +378,7 @@ second_part = 0x79 ∷ 0x12 ∷ 0x45 ∷ 0x00 ∷ []
 -- between them a packet without payload, with every flag but discontinuity_indicator: it is delivered
 abbrev pub no_splice_between : Story
 no_splice_between =
-    from_fresh 20 (record_of 20 (Counter 1) 0 1 8 0 0 0 0)
+    from_fresh 20 (record_of 20 (Some 1) 0 1 8 0 0 0 0)
     (first_part gives taken 0 0
     ∷ bare_with 0x7F gives taken 0 0
     ∷ goesOn 1 second_part hands (tdt ∷ [])
@@ -388,7 +387,7 @@ no_splice_between =
 -- with that bit: nothing is delivered, and the first bytes are broken off
 abbrev pub a_splice_between : Story
 a_splice_between =
-    from_fresh 20 (record_of 20 (Counter 1) 0 1 0 0 4 0 4)
+    from_fresh 20 (record_of 20 (Some 1) 0 1 0 0 4 0 4)
     (first_part gives taken 0 0
     ∷ bare_with 0x80 gives taken 0 0
     ∷ goesOn 1 second_part gives taken 0 0
@@ -397,7 +396,7 @@ a_splice_between =
 -- "sometimes the counter matches": the second packet again is repeated, and with the bit it is taken, each time it comes
 abbrev pub an_equal_counter : Story
 an_equal_counter =
-    from_fresh 20 (record_of 20 (Counter 1) 0 1 8 0 0 0 8)
+    from_fresh 20 (record_of 20 (Some 1) 0 1 8 0 0 0 8)
     (first_part gives taken 0 0
     ∷ goesOn 1 second_part hands (tdt ∷ [])
     ∷ goesOn 1 second_part gives repeated
@@ -409,7 +408,7 @@ an_equal_counter =
 -- "the marked one itself if it has any .. breaks off what is in hand", though its counter follows; behind it the mark is clear
 abbrev pub its_own_bit : Story
 its_own_bit =
-    from_fresh 20 (record_of 20 (Counter 3) 0 2 8 0 4 0 4)
+    from_fresh 20 (record_of 20 (Some 3) 0 2 8 0 4 0 4)
     (first_part gives taken 0 0
     ∷ spliced 1 second_part gives taken 0 0
     ∷ starts 2 (0 ∷ 0x70 ∷ 0x70 ∷ 0x05 ∷ 0xC0 ∷ []) gives taken 0 0
@@ -420,7 +419,7 @@ its_own_bit =
 -- the bit; with no counter, and with bytes in hand
 abbrev pub the_mark_stands : Story
 the_mark_stands =
-    from_fresh 20 (marked_of true 0 20 (Counter 5) 4 1 0 0 0 0 0)
+    from_fresh 20 (marked_of true 0 20 (Some 5) 4 1 0 0 0 0 0)
     (bare_with 0x80 gives taken 0 0
     ∷ starts 5 (0 ∷ 0x70 ∷ 0x70 ∷ 0x05 ∷ 0xC0 ∷ []) gives taken 0 0
     ∷ bare_with 0xC0 gives taken 0 0
@@ -440,7 +439,7 @@ refused_sets_nothing =
 -- "An adaptation field of at least one byte": none, an empty one, one of one byte without the bit, and with it
 abbrev pub at_least_one_byte : Story
 at_least_one_byte = record {
-  from = record_of 20 (Counter 1) 0 0 0 0 0 0 0;
+  from = record_of 20 (Some 1) 0 0 0 0 0 0 0;
   hold = hold₀;
   out = out₀;
   steps =
@@ -449,7 +448,7 @@ at_least_one_byte = record {
       ∷ filled (0x47 ∷ 0x00 ∷ 0x14 ∷ 0x31 ∷ 1 ∷ 0x7F ∷ []) gives repeated
       ∷ filled (0x47 ∷ 0x00 ∷ 0x14 ∷ 0x31 ∷ 1 ∷ 0x80 ∷ []) gives taken 0 0
       ∷ [];
-  left = record_of 20 (Counter 1) 0 0 0 0 0 0 182;
+  left = record_of 20 (Some 1) 0 0 0 0 0 0 182;
 }
 
 abbrev pub stories : List Story
@@ -458,13 +457,13 @@ stories =
     ∷ in_this_order
     ∷ a_small_hold
     ∷ a_small_out
-    ∷ unfit 8192 (Counter 0) 0 []
-    ∷ unfit 20 (Counter 16) 0 []
-    ∷ unfit 20 (Counter 0) 4096 (0x70 ∷ 0x7F ∷ 0xFF ∷ [])
+    ∷ unfit 8192 (Some 0) 0 []
+    ∷ unfit 20 (Some 16) 0 []
+    ∷ unfit 20 (Some 0) 4096 (0x70 ∷ 0x7F ∷ 0xFF ∷ [])
     ∷ unfit 20 None 1 (0x70 ∷ [])
-    ∷ unfit 20 (Counter 0) 1 (0xFF ∷ [])
-    ∷ unfit 20 (Counter 0) 3 (0x70 ∷ 0x70 ∷ 0x00 ∷ [])
-    ∷ unfit 20 (Counter 0) 3 (0x70 ∷ 0x7F ∷ 0xFE ∷ [])
+    ∷ unfit 20 (Some 0) 1 (0xFF ∷ [])
+    ∷ unfit 20 (Some 0) 3 (0x70 ∷ 0x70 ∷ 0x00 ∷ [])
+    ∷ unfit 20 (Some 0) 3 (0x70 ∷ 0x7F ∷ 0xFE ∷ [])
     ∷ fit 0 (0xFF ∷ [])
     ∷ fit 1 (0x70 ∷ [])
     ∷ fit 2 (0x70 ∷ 0xFF ∷ 0xFF ∷ [])

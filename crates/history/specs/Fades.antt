@@ -1,16 +1,14 @@
 -- Request (xii) at work: histories in pairs, computed. They show that its premises can be met; that what it leaves open does differ, and that each of
 -- its premises is needed, for what would be stronger is false; and that each statement shuts out a wrong collector.
-use Rattle.std.specs.Prelude.{◌≡◌, refl, Bool, true, false, ◌||◌, List, [], ◌∷◌, ◌++◌, map, ℕ, length, take, drop, replicate, ltb, if◌then◌else◌}
+use Rattle.std.specs.Prelude.{◌≡◌, refl, Bool, true, false, ◌||◌, List, [], ◌∷◌, ◌++◌, map, ℕ, length, take, drop, replicate, ltb, if◌then◌else◌, None, Some}
 use Rattle.packet.specs.Ruling.{joins, Ruling, refuses, repeated, bare, takes, ruling}
 use Rattle.collector.specs.Rules.{Kind, pointer, done, Story, given, holding, plain, joined, goesOn, sections_in}
 use Rattle.collector.specs.Judged.{by_judge}
-use Rattle.collector.specs.Refusals.{before_of, cannot_stand, too_small}
+use Rattle.collector.specs.Refusals.{before_of, cannot_stand, too_small, Last}
 use Rattle.collector.specs.Answer.{Reply, refused_with, taken, Outcome}
 use Rattle.collector.specs.Answer as Answer
 use Rattle.collector.specs.Collected.{bytes_counted, record_with, fresh_record, outcome_after, outcome_of, collected}
 use Rattle.collector.specs.declared.Record.{Record}
-use Rattle.collector.specs.declared.Last.{Last}
-use Rattle.collector.specs.declared.Last.TheVariants.{None, Counter}
 use Rattle.history.specs.Run.{Collector, Promised, Call, Run, no_call, one_call, Fare, fare_of, handed}
 use Rattle.history.specs.Run as R
 use Rattle.history.specs.Healing.{HasPayload, HasFlag, Starts, Following, fares_behind, delivered_since, rejected_since, Took, IsTaken, IsRepeated, followed, handed_now, OverPairs, SameNow, SameFromThenOn, SameState, GrownAlike, SameNumber}
@@ -126,7 +124,7 @@ busy =
 
 -- none, but a record made by hand, whose counters are about to run round, and a larger hold
 abbrev pub byHand : Found
-byHand = record { rec = record_with 20 (Counter 4) true 7 2 (λ k. 4294967295); hold = 0x70 ∷ 0x70 ∷ hold₀ }
+byHand = record { rec = record_with 20 (Some 4) true 7 2 (λ k. 4294967295); hold = 0x70 ∷ 0x70 ∷ hold₀ }
 
 -- ---- the premises can be met, by histories of each kind, any two of which make a pair
 
@@ -247,7 +245,7 @@ with_record r o = record { rec = r; hold = o.hold; out = o.out; said = o.said }
 -- one that keeps the first counter that it had
 abbrev pub first_last : Last → Last → Last
 first_last None now = now
-first_last (Counter c) now = Counter c
+first_last (Some c) now = Some c
 
 abbrev pub counter_stays : Making
 counter_stays r hold out packet =

@@ -10,12 +10,11 @@ use Rattle.packet.specs.Header.{start_flag, pid_of, control, counter_of, discont
 use Rattle.packet.specs.Ruling.{Before, mark_with, joins, Carried}
 use Rattle.collector.specs.Rules.{Kind, pointer, in-hand, done, Story, count_of, hand_of, given, holding, broken_off, plain, joined, goesOn, sections_in}
 use Rattle.collector.specs.Judged.{by_judge, delivered_of, rejected_of, last_number}
-use Rattle.collector.specs.Refusals.{before_of}
+use Rattle.collector.specs.Refusals.{before_of, Last}
 use Rattle.collector.specs.Answer.{Outcome}
 use Rattle.collector.specs.Answer as Answer
 use Rattle.collector.specs.Collected.{bytes_counted, fresh_record}
 use Rattle.collector.specs.declared.Record.{Record}
-use Rattle.collector.specs.declared.Last.{Last}
 use Rattle.history.specs.History.{Byte, value_of, numbered, History, history_from, payloads_from}
 use Rattle.history.specs.Run.{Collector, Call, input_of, Run, no_call, one_call, Fare, repeated, taken, fare_of, Lent, fares_from, ruled_taken, before_from, handed_by, handed, bytes_by, told_by}
 use Rattle.history.specs.Demand3.{delivered_in, rejected_in}

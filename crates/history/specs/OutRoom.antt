@@ -1,13 +1,12 @@
 -- Why an out room of 4,280 bytes suffices: one call hands out 4,278 bytes at most. At most 4,095 are in hand, and of a
 -- payload of 184 bytes one is the pointer; without the start flag at most one section ends, and no section has more
 -- than 4,096.
-use Rattle.std.specs.Prelude.{◌≡◌, false, ℕ, ◌%◌, ◌^◌, ◌≤◌, replicate}
+use Rattle.std.specs.Prelude.{◌≡◌, false, ℕ, ◌%◌, ◌^◌, ◌≤◌, replicate, Some}
 use mathlib.Core.List.{List, ◌∷◌, ◌++◌, flatten}
 use Rattle.crc.specs.Crc.{crc, bytes_of}
 use Rattle.collector.specs.Answer.{Outcome}
 use Rattle.collector.specs.Collected.{record_with, collected}
 use Rattle.collector.specs.declared.Record.{Record}
-use Rattle.collector.specs.declared.Last.TheVariants.{Counter}
 use Rattle.history.specs.Run.{Collector, told_by}
 
 -- of a call with any record, hold, out room and packet
@@ -17,7 +16,7 @@ AtMost n C = (r : Record) (hold out packet : List ℕ) (o : Outcome) → C r hol
 -- a call that hands out so many: a section of 4,096 bytes, of which 4,095 are in hand, ends in front of the pointer's
 -- target, and one of 182 bytes fills the rest. Each is an EIT of one event, whose descriptors fill it, with its CRC_32.
 abbrev pub before : Record
-before = record_with 20 (Counter 0) false 0 4095 (λ k. 0)
+before = record_with 20 (Some 0) false 0 4095 (λ k. 0)
 
 abbrev pub closed : List ℕ → List ℕ
 closed s = s ++ bytes_of (crc s)

@@ -1,7 +1,7 @@
 -- Request (ix) of one call, as statements about any collector, with any record, hold, out room and packet: "The record gains
 -- a mark. An adaptation field of at least one byte with that bit set, in a packet not refused, sets it; the next packet with
 -- payload, the marked one itself if it has any, is never "repeated", breaks off what is in hand and clears it."
-use Rattle.std.specs.Prelude.{◌≡◌, Bool, true, false, List, ◌∷◌, ◌⊎◌, ◌↔◌, ℕ, ◌+◌, ◌/◌, ◌%◌, ◌^◌, ◌≤◌, length, get_or, if◌then◌else◌}
+use Rattle.std.specs.Prelude.{◌≡◌, Bool, true, false, List, ◌∷◌, ◌⊎◌, ◌↔◌, ℕ, ◌+◌, ◌/◌, ◌%◌, ◌^◌, ◌≤◌, length, get_or, if◌then◌else◌, None, Some}
 use Rattle.wire.specs.Each.{Each}
 use Rattle.packet.specs.Refusals.{refusals}
 use Rattle.collector.specs.Refusals.{cannot_stand, too_small}
@@ -9,7 +9,6 @@ use Rattle.collector.specs.Rules.{broken, done, sameKind}
 use Rattle.collector.specs.Answer.{Outcome, repeated, taken}
 use Rattle.collector.specs.Collected.{bytes_counted, record_with, unaltered}
 use Rattle.collector.specs.declared.Record.{Record}
-use Rattle.collector.specs.declared.Last.TheVariants.{None, Counter}
 use Rattle.history.specs.Run.{Collector, fare_of}
 use Rattle.history.specs.Run as R
 use Rattle.history.specs.WrongCollectors.{hold₀, out₀, next_on, spliced_on, bare_splice}
@@ -91,7 +90,7 @@ module _ (C : Collector) where
 
 -- a record with a section's first byte in hand
 abbrev pub held_one : ℕ → Bool → Record
-held_one last mark = record_with 20 (Counter last) mark 0 1 (λ k. 0)
+held_one last mark = record_with 20 (Some last) mark 0 1 (λ k. 0)
 
 abbrev pub hold₁ : List ℕ
 hold₁ = 0x70 ∷ hold₀

@@ -1,6 +1,6 @@
 -- The wrong collectors that document 01's last chapter names, four more, four that take no notice of the judge or of what it says last, and the
 -- packets on which each shows itself.
-use Rattle.std.specs.Prelude.{◌≡◌, false, ◌&&◌, ℕ, ◌+◌, ◌%◌, ◌^◌, length, take, drop, get_or, replicate, eqb, if◌then◌else◌}
+use Rattle.std.specs.Prelude.{◌≡◌, false, ◌&&◌, ℕ, ◌+◌, ◌%◌, ◌^◌, length, take, drop, get_or, replicate, eqb, if◌then◌else◌, None, Some}
 use mathlib.Core.List.{List, [], ◌∷◌, ◌++◌, flatten}
 use Rattle.packet.specs.Header.{control, counter_of, discontinuity}
 use Rattle.packet.specs.Ruling.{Ruling, ruling}
@@ -10,12 +10,10 @@ use Rattle.section.specs.Reading.{judged}
 use Rattle.copy.specs.Laid.{over}
 use Rattle.collector.specs.Rules.{Kind, accepted, rejected, filler, done, sameKind, Story, count_of, hand_of, holding, plain, story_after}
 use Rattle.collector.specs.Judged.{by_judge, accepted_among, rejected_among, last_number}
-use Rattle.collector.specs.Refusals.{before_of, cannot_stand, too_small}
+use Rattle.collector.specs.Refusals.{before_of, cannot_stand, too_small, Last}
 use Rattle.collector.specs.Answer.{Outcome, refused_with, repeated, taken}
 use Rattle.collector.specs.Collected.{bytes_counted, record_with, unaltered, marked_by, collected}
 use Rattle.collector.specs.declared.Record.{Record}
-use Rattle.collector.specs.declared.Last.{Last}
-use Rattle.collector.specs.declared.Last.TheVariants.{None, Counter}
 use Rattle.history.specs.Run.{Collector}
 
 -- "one that refuses every packet"
@@ -34,7 +32,7 @@ DoesNothing r hold out packet o = o ≡ unaltered r hold out (taken 0 0)
 -- is
 abbrev pub pretended : Last → Record → List ℕ → List ℕ → List ℕ → Outcome
 pretended None r hold out packet = collected r hold out packet
-pretended (Counter c) r hold out packet = unaltered r hold out (taken 0 0)
+pretended (Some c) r hold out packet = unaltered r hold out (taken 0 0)
 
 abbrev pub Pretends : Collector
 Pretends r hold out packet o = o ≡ pretended r.last r hold out packet
@@ -65,7 +63,7 @@ HandsOutOther r hold out packet o = o ≡ record {
 -- one that takes no notice of a break: each packet is taken as if it followed the one before
 abbrev pub followed : Record → List ℕ → Record
 followed r packet =
-    record_with r.pid (Counter ((counter_of packet + 15) % 16)) r.mark r.rejection r.in_hand (λ k. bytes_counted (done k) r)
+    record_with r.pid (Some ((counter_of packet + 15) % 16)) r.mark r.rejection r.in_hand (λ k. bytes_counted (done k) r)
 
 abbrev pub JoinsOverBreaks : Collector
 JoinsOverBreaks r hold out packet o = o ≡ collected (followed r packet) hold out packet
@@ -92,7 +90,7 @@ pub record Way : Type 0 where
 
 abbrev pub after_by : Way → Record → List ℕ → List ℕ → ℕ → Story ℕ → Outcome
 after_by way r hold out counter s = record {
-  rec = record_with r.pid (Counter counter) false (way.number r.rejection s.sections) (length (hand_of s))
+  rec = record_with r.pid (Some counter) false (way.number r.rejection s.sections) (length (hand_of s))
       (λ k. (bytes_counted (done k) r + count_of (done k) s.marks) % 2 ^ 32);
   hold = over (hand_of s) hold;
   out = over (flatten (way.gives s.sections)) out;

@@ -5,12 +5,12 @@ mod header;
 
 ghost use Rattle.std.specs.Prelude.{◌≡◌, false};
 ghost use Rattle.packet.specs.Refusals.{judged};
-ghost use Rattle.packet.specs.Judgement.{meant};
+ghost use Rattle.packet.specs.Judgement.{number_of, meant};
 
 // Refusals 41 to 49, in document 01's order. 42 and 43 are given by who has the rooms and the record.
 #[derive(Clone, Copy, PartialEq, Eq)]
 pub enum Refusal {
-    NotAPacket,
+    NotAPacket = 41,
     Room,
     Unfit,
     Sync,
@@ -22,6 +22,15 @@ pub enum Refusal {
 }
 
 type Packet = [u8; 188];
+
+impl Refusal {
+    // Document 01's number.
+    pub fn number(self) -> u8
+        ensures { result ≡ number_of self }
+    {
+        self as u8
+    }
+}
 
 // A packet with payload: where it begins. splice: discontinuity_indicator is set.
 #[derive(Clone, Copy)]

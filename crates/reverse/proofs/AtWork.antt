@@ -14,7 +14,7 @@ use Rattle.collector.specs.Refusals.{cannot_stand}
 use Rattle.collector.specs.Rules.{Kind, done}
 use Rattle.collector.specs.Collected.{bytes_counted, fresh_record}
 use Rattle.collector.specs.declared.Record.{Record}
-use Rattle.collector.specs.declared.Last.TheVariants.{None, Counter}
+use Rattle.std.specs.Prelude.{None, Some}
 use Rattle.collector.proofs.Counters.{counts_with}
 use Rattle.history.specs.WrongCollectors.{hold₀}
 use Rattle.wire.proofs.TestLaws.{or_none}
@@ -88,21 +88,21 @@ records_ready = record {
     pid_is = refl;
     none_in_hand = refl;
     next = refl;
-    counters = small unmarked 5 (omega arith) (counts_with 20 (Counter 15) false 0 0 (λ k. 5));
+    counters = small unmarked 5 (omega arith) (counts_with 20 (Some 15) false 0 0 (λ k. 5));
   };
   with_mark_lem = record {
     stands = refl;
     pid_is = refl;
     none_in_hand = refl;
     next = refl;
-    counters = small marked 4294967295 (omega arith) (counts_with 20 (Counter 15) true 0 0 (λ k. 4294967295));
+    counters = small marked 4294967295 (omega arith) (counts_with 20 (Some 15) true 0 0 (λ k. 4294967295));
   };
   with_number = λ n few. record {
     stands = stand_by n ∙ le-ltb 10 n few;
     pid_is = refl;
     none_in_hand = refl;
     next = refl;
-    counters = small (numbered n) 5 (omega arith) (counts_with 20 (Counter 15) false n 0 (λ k. 5));
+    counters = small (numbered n) 5 (omega arith) (counts_with 20 (Some 15) false n 0 (λ k. 5));
   };
   no_other_number = λ n many x. false≢true (sym x.stands ∙ stand_by n ∙ lt-ltb 10 n many);
 }

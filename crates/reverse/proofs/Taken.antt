@@ -11,7 +11,7 @@ use lib.ListN.{length, take, drop, get_or, length-append, length-drop}
 use lib.Seq.{take-append_seam}
 use lib.Dec.{ltb, eqb}
 use borrow.Author.Tests.{ltb-false, eqb-true, le-ltb, eq-eqb, ne_eqb}
-use Rattle.std.specs.Prelude.{if◌then◌else◌}
+use Rattle.std.specs.Prelude.{if◌then◌else◌, Some}
 use Rattle.wire.specs.Each.{Each}
 use Rattle.wire.specs.Sections.{WholeSection}
 use Rattle.copy.specs.Laid.{over}
@@ -25,7 +25,6 @@ use Rattle.collector.specs.Judged.{by_judge, accepted_among, rejected_among, del
 use Rattle.collector.specs.Answer.{Outcome}
 use Rattle.collector.specs.Collected.{bytes_counted, record_after, outcome_after, outcome_of, collected}
 use Rattle.collector.specs.declared.Record.{Record}
-use Rattle.collector.specs.declared.Last.TheVariants.{Counter}
 use Rattle.collector.proofs.Counters.{counts_with}
 use Rattle.collector.proofs.Invariants.{ByEnd}
 use Rattle.collector.proofs.StoryLaws.{Kept, ended_in, sections_each}
@@ -185,7 +184,7 @@ module _ {pid counter : ℕ} {h : List ℕ} {r : Record} {hold : List ℕ} (x : 
     counts : (k : Kind) → bytes_counted (done k) (record_after r counter s)
         ≡ (bytes_counted (done k) r + count_of (done k) s.marks) % 2 ^ 32
     counts =
-        counts_with r.pid (Counter counter) false (last_number r.rejection (rejected_of s)) (length (hand_of s))
+        counts_with r.pid (Some counter) false (last_number r.rejection (rejected_of s)) (length (hand_of s))
         (λ k. (bytes_counted (done k) r + count_of (done k) s.marks) % 2 ^ 32)
 
     left_of : (l : List ℕ) → Kept by_judge plain l s → Leaves sections r (record_after r counter s)

@@ -10,10 +10,9 @@ use contract.Lifetimes.{Lfts}
 use denote.Triple.Entry.{Args, Res}
 use denote.Triple.Clauses.{Lasts, at_exit}
 use lib.Dec.{eqb}
-use Rattle.std.specs.Prelude.{if◌then◌else◌}
-use Rattle.writer.specs.Answer.{Reply, wrote, refused_with, told, came}
-use Rattle.writer.specs.declared.Answer.{Answer}
-use Rattle.writer.specs.declared.Answer.TheVariants.{Written, BadStart, BadSection, Room}
+use Rattle.std.specs.Prelude.{Ok, Err, if◌then◌else◌}
+use Rattle.writer.specs.Answer.{Reply, wrote, refused_with, Answer, told, came}
+use Rattle.writer.specs.declared.Refusal.TheVariants.{BadStart, BadSection, Room}
 use Rattle.reverse.specs.Writer.{Promised}
 use Rattle.writer.specs.contracts.write as write
 
@@ -27,15 +26,15 @@ module _ {M : Type 1} {𝓤 : Ura M} (𝓛 : Logic 𝓤) (at_mem : Memory → SP
   write_promises κs a r ws = refl
 
 answerAt : Reply → Answer
-answerAt (wrote n) = Written n
-answerAt (refused_with n) = if eqb n 101 then BadStart else (if eqb n 102 then BadSection else Room)
+answerAt (wrote n) = Ok n
+answerAt (refused_with n) = Err (if eqb n 101 then BadStart else (if eqb n 102 then BadSection else Room))
 
 answer_at : (a : Answer) → answerAt (told a) ≡ a
 unfolding answerAt
-answer_at (Written n) = refl
-answer_at BadStart = refl
-answer_at BadSection = refl
-answer_at Room = refl
+answer_at (Ok n) = refl
+answer_at (Err BadStart) = refl
+answer_at (Err BadSection) = refl
+answer_at (Err Room) = refl
 
 pub told_once : (a b : Answer) → told a ≡ told b → a ≡ b
 told_once a b e = sym (answer_at a) ∙ ap answerAt e ∙ answer_at b

@@ -1,13 +1,12 @@
 -- The writer at work: sizes and the packets that they take, the bytes of packets, and calls; and what the judge makes of sections that are sent.
 -- That each goes so is computed.
-use Rattle.std.specs.Prelude.{◌≡◌, true, false, List, [], ◌∷◌, ◌++◌, map, ℕ, ◌≤◌, ◌<◌, length, take, replicate}
+use Rattle.std.specs.Prelude.{◌≡◌, true, false, List, [], ◌∷◌, ◌++◌, map, ℕ, ◌≤◌, ◌<◌, length, take, replicate, Some}
 use Rattle.wire.specs.Each.{Each}
 use Rattle.verdict.specs.Verdict.{accepted, number_of}
 use Rattle.section.specs.Reading.{judged}
 use Rattle.collector.specs.Judged.{accepted_among, rejected_among, last_number}
 use Rattle.collector.specs.Collected.{fresh_record, record_with}
 use Rattle.collector.specs.declared.Record.{Record}
-use Rattle.collector.specs.declared.Last.TheVariants.{Counter}
 use Rattle.history.specs.Run.{Promised, Call, Run, handed}
 use Rattle.history.specs.AtWork.{tdt}
 use Rattle.history.specs.WrongCollectors.{worked, hold₀}
@@ -92,13 +91,13 @@ pub record CallsAtWork : Type 0 where
 -- ---- records from which the packets go on: a fresh one; one with the counter before; one with a mark; one with a rejection's number
 
 abbrev pub unmarked : Record
-unmarked = record_with 20 (Counter 15) false 0 0 (λ k. 5)
+unmarked = record_with 20 (Some 15) false 0 0 (λ k. 5)
 
 abbrev pub marked : Record
-marked = record_with 20 (Counter 15) true 0 0 (λ k. 4294967295)
+marked = record_with 20 (Some 15) true 0 0 (λ k. 4294967295)
 
 abbrev pub numbered : ℕ → Record
-numbered n = record_with 20 (Counter 15) false n 0 (λ k. 5)
+numbered n = record_with 20 (Some 15) false n 0 (λ k. 5)
 
 pub record RecordsReady : Type 0 where
   pub fresh : (counter : ℕ) → Ready 20 counter (fresh_record 20) hold₀

@@ -6,10 +6,9 @@ use mathlib.Core.List.{List, [], ◌∷◌, ◌++◌, map, flatten}
 use Prim.Native.Nat.{ℕ, ◌+◌, ◌≤◌, ◌<◌}
 use native.Mathlib.Omega.{arith}
 use lib.ListN.{length, take, drop, get_or, length-drop, take-append-drop}
-use lib.Seq.{length-take-le, get_or-take, get_or-drop}
+use lib.Seq.{length-take-le}
 use lib.Dec.{leb, eqb}
-use borrow.Author.Tests.{leb-true, eqb-true, le-leb, lt-leb, eq-eqb, ne_eqb}
-use Rattle.wire.specs.Bytes.{len12}
+use borrow.Author.Tests.{leb-true, eqb-true, le-leb, lt-leb, eq-eqb}
 use Rattle.wire.specs.Sections.{total_of}
 use Rattle.writer.specs.Cut.{sendable, cut_by, fit}
 use Rattle.writer.specs.Layout.{sum}
@@ -17,35 +16,9 @@ use Rattle.writer.specs.Inner.{Few}
 
 -- ---- one section
 
-pub short_stays : (s : List ℕ) → length s < 3 → sendable s ≡ false
-short_stays s k = simp (lt-leb 3 (length s) k)
-
-pub other_length_stays : (s : List ℕ) → 3 ≤ length s → (length s ≡ total_of s → ⊥) → sendable s ≡ false
-other_length_stays s k e = simp (le-leb 3 (length s) k, ne_eqb (length s) (total_of s) e)
-
-pub over_stays : (s : List ℕ) → 3 ≤ length s → length s ≡ total_of s → 4096 < length s → sendable s ≡ false
-over_stays s k e w = simp (le-leb 3 (length s) k, eq-eqb (length s) (total_of s) e, lt-leb (length s) 4096 w)
-
 pub by_first : (s : List ℕ) → 3 ≤ length s → length s ≡ total_of s → length s ≤ 4096
     → sendable s ≡ not (eqb (get_or s 0 0) 255)
 by_first s k e w = simp (le-leb 3 (length s) k, eq-eqb (length s) (total_of s) e, le-leb (length s) 4096 w)
-
--- ---- a section in the bytes
-
-module _ (bytes : List ℕ) (at size : ℕ) (k : at + size ≤ length bytes) where
-  abbrev pub cut : List ℕ
-  cut = take size (drop at bytes)
-
-  pub cut_long : length cut ≡ size
-  cut_long = length-take-le size (drop at bytes) (omega (arith, length-drop at bytes))
-
-  pub cut_at : (i : ℕ) → i < size → get_or cut i 0 ≡ get_or bytes (at + i) 0
-  cut_at i w = get_or-take size (drop at bytes) i 0 w ∙ get_or-drop at bytes i 0
-
-  pub cut_total : 3 ≤ size → total_of cut ≡ 3 + len12 (get_or bytes (at + 1) 0) (get_or bytes (at + 2) 0)
-  cut_total w =
-      ap (λ (h : ℕ). 3 + len12 h (get_or cut 2 0)) (cut_at 1 (omega arith))
-      ∙ ap (λ (l : ℕ). 3 + len12 (get_or bytes (at + 1) 0) l) (cut_at 2 (omega arith))
 
 -- ---- one more
 

@@ -1,18 +1,18 @@
 -- What a call comes to, by its three tests.
-use mathlib.Core.Path.{◌≡◌, refl, sym, ap, ◌∙◌}
+use mathlib.Core.Path.{◌≡◌, sym, ap, ◌∙◌}
 use mathlib.Core.Bool.{Bool, true, false, not, ◌||◌}
 use mathlib.Core.List.{List, [], ◌∷◌, flatten}
-use Prim.Native.Nat.{ℕ, ◌*◌, ◌/◌, ◌≤◌, ◌<◌}
+use Prim.Native.Nat.{ℕ, ◌*◌, ◌/◌, ◌≤◌}
 use native.Mathlib.Omega.{arith}
 use lib.ListN.{length}
 use lib.Dec.{ltb}
-use borrow.Author.Tests.{lt-ltb, le-ltb}
+use borrow.Author.Tests.{le-ltb}
 use Rattle.copy.specs.Laid.{over}
 use Rattle.packet.specs.Refusals.{◌when◌, first_of}
 use Rattle.writer.specs.Cut.{fit, cut_by}
 use Rattle.writer.specs.Layout.{unbegun, turns_from, laid_out}
 use Rattle.writer.specs.Packets.{packets_from, packets_of}
-use Rattle.writer.specs.Answer.{Outcome, Reply, wrote, refused_with}
+use Rattle.writer.specs.Answer.{Outcome, Reply, wrote}
 use Rattle.writer.specs.Written.{packet_count, outcome_by, written}
 use Rattle.writer.proofs.CutLaws.{cut_sizes, cut_bytes}
 
@@ -27,25 +27,9 @@ module _ (pid counter : ℕ) (bytes sizes room : List ℕ) where
       → ltb (length room) (packet_count sizes * 188) ≡ r → written pid counter bytes sizes room ≡ by p c (not f) r
   written_by p c f r e₁ e₂ e₃ e₄ = λ i. by (e₁ i) (e₂ i) (not (e₃ i)) (e₄ i)
 
-  pub bad_pid : 8191 < pid → outcome room (refused_with 101) ≡ written pid counter bytes sizes room
-  bad_pid k = sym (written_by true _ _ _ (lt-ltb 8191 pid k) refl refl refl)
-
   module _ (pid-ok : pid ≤ 8191) where
-    pub bad_counter : 15 < counter → outcome room (refused_with 101) ≡ written pid counter bytes sizes room
-    bad_counter k = sym (written_by false true _ _ (le-ltb 8191 pid pid-ok) (lt-ltb 15 counter k) refl refl)
-
     module _ (counter-ok : counter ≤ 15) where
-      pub bad_section : fit sizes bytes ≡ false → outcome room (refused_with 102) ≡ written pid counter bytes sizes room
-      bad_section e =
-          sym (written_by false false false _ (le-ltb 8191 pid pid-ok) (le-ltb 15 counter counter-ok) e refl)
-
       module _ (fits : fit sizes bytes ≡ true) (n : ℕ) (e : n ≡ packet_count sizes) where
-        pub room_short : length room / 188 < n → outcome room (refused_with 103) ≡ written pid counter bytes sizes room
-        room_short k =
-            let short : length room < packet_count sizes * 188 = omega (arith, e) in
-            sym (written_by false false true true (le-ltb 8191 pid pid-ok) (le-ltb 15 counter counter-ok) fits
-            (lt-ltb (length room) (packet_count sizes * 188) short))
-
         pub room_enough : n ≤ length room / 188 → packet_count sizes * 188 ≤ length room
         room_enough k = omega (arith, e)
 

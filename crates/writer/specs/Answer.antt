@@ -1,18 +1,25 @@
 -- What an answer says, and all that a call leaves behind.
-use Rattle.std.specs.Prelude.{List, ℕ}
-use Rattle.writer.specs.declared.Answer.{Answer}
-use Rattle.writer.specs.declared.Answer.TheVariants.{Written, BadStart, BadSection, Room}
+use Rattle.std.specs.Prelude.{List, ℕ, Result, Ok, Err}
+use Rattle.writer.specs.declared.Refusal.{Refusal}
+use Rattle.writer.specs.declared.Refusal.TheVariants.{BadStart, BadSection, Room}
 
 -- how many packets there are, or a refusal's number
 pub data Reply : Type 0 where
   wrote : ℕ → Reply
   refused_with : ℕ → Reply
 
+abbrev pub number_of : Refusal → ℕ
+number_of BadStart = 101
+number_of BadSection = 102
+number_of Room = 103
+
+-- how many packets, or why none
+abbrev pub Answer : Type 0
+Answer = Result ℕ Refusal
+
 abbrev pub told : Answer → Reply
-told (Written packets) = wrote packets
-told BadStart = refused_with 101
-told BadSection = refused_with 102
-told Room = refused_with 103
+told (Ok packets) = wrote packets
+told (Err refusal) = refused_with (number_of refusal)
 
 -- a call's outcome: every byte of the room, and what the answer says
 pub record Outcome : Type 0 where

@@ -1,6 +1,6 @@
 // Where each packet begins, by the sizes of the sections alone.
 ghost use Rattle.std.specs.Prelude.{◌≡◌, ◌&&◌, ◌≤◌, ◌<◌, ltb, length, drop};
-ghost use Rattle.writer.specs.Layout.{sum, bytes_ahead, opened, least, turn_with, unbegun, turns_from};
+ghost use Rattle.writer.specs.Layout.{sum, bytes_ahead, opened, turn_with, unbegun, turns_from};
 ghost use Rattle.writer.specs.Inner.{ahead_of, turn_said, Few, Leaps};
 
 // The bytes left of the section begun, and the index of the first section that waits.
@@ -18,20 +18,11 @@ pub struct Turn {
     pub bytes: usize,
 }
 
-fn least_of(m: usize, n: usize) -> usize
-    ensures { result ≡ least m n }
-{
-    if m <= n { m } else { n }
-}
-
 // A section is begun in a packet where one waits and fewer than 183 bytes are left of the one before.
 fn begins_one(waits: bool, left: usize) -> bool
     ensures { result ≡ (waits && ltb left 183) }
 {
-    if waits {
-        return left < 183;
-    }
-    false
+    waits && left < 183
 }
 
 // "The start flag stands only where a section begins"; without it the packet has no byte of a section that waits. all: the
@@ -43,13 +34,13 @@ pub fn next_turn(waits: bool, left: usize, all: usize) -> Turn
         return Turn {
             start: true,
             left,
-            bytes: least_of(183, all),
+            bytes: all.min(183),
         };
     }
     Turn {
         start: false,
         left,
-        bytes: least_of(184, left),
+        bytes: left.min(184),
     }
 }
 
@@ -61,23 +52,14 @@ pub fn open_next(n: usize, a: Ahead, sizes: &[usize]) -> Ahead
 {
     let mut left = a.left;
     let mut next = a.next;
-    while next < sizes.len() {
-        if n <= left {
-            return Ahead {
-                left: left - n,
-                next,
-            };
-        }
+    while next < sizes.len() && left < n {
         left += sizes[next];
         next += 1;
     }
-    if n <= left {
-        return Ahead {
-            left: left - n,
-            next,
-        };
+    Ahead {
+        left: left.saturating_sub(n),
+        next,
     }
-    Ahead { left: 0, next }
 }
 
 // Some packets more: how many, the bytes of sections in them, and what is then ahead.

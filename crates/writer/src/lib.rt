@@ -6,40 +6,46 @@ mod layout;
 mod packets;
 
 ghost use Rattle.std.specs.Prelude.{◌≡◌};
-ghost use Rattle.writer.specs.Answer.{came};
+ghost use Rattle.writer.specs.Answer.{number_of, came};
 ghost use Rattle.writer.specs.Written.{written};
 
-// What a call answers.
-#[derive(Clone, Copy)]
-pub enum Answer {
-    // How many packets stand at the room's start.
-    Written { packets: usize },
+#[derive(Clone, Copy, PartialEq, Eq)]
+pub enum Refusal {
     // 101: PID above 8,191 or counter above 15.
-    BadStart,
+    BadStart = 101,
     // 102: a section whose length is not its header's, is over 4,096, or begins 0xFF.
     BadSection,
     // 103: room too small.
     Room,
 }
 
+impl Refusal {
+    // Its number.
+    pub fn number(self) -> u8
+        ensures { result ≡ number_of self }
+    {
+        self as u8
+    }
+}
+
+// How many packets stand at the room's start, or why none.
+pub type Answer = Result<usize, Refusal>;
+
 // The sections stand end to end, and sizes has the size of each. Nothing is written before 103 is decided.
 pub fn write(pid: u16, counter: u8, sections: &[u8], sizes: &[usize], room: &mut [u8]) -> Answer
     ensures { came room.new result
         ≡ written pid counter sections.now sizes.now room.old }
 {
-    if 8191 < pid {
-        return Answer::BadStart;
-    }
-    if 15 < counter {
-        return Answer::BadStart;
+    if 8191 < pid || 15 < counter {
+        return Err(Refusal::BadStart);
     }
     if !cut::fits(sections, sizes) {
-        return Answer::BadSection;
+        return Err(Refusal::BadSection);
     }
     let n = layout::count(sections.len(), sizes);
     if room.len() / 188 < n {
-        return Answer::Room;
+        return Err(Refusal::Room);
     }
     packets::put_all(pid, counter, sections, sizes, room);
-    Answer::Written { packets: n }
+    Ok(n)
 }

@@ -33,11 +33,7 @@ fn fill(room: &mut [u8], from: usize, to: usize)
     requires { (from ≤ to) × (to ≤ length room.old) }
     ensures { room.new ≡ laid room.old from (replicate (to - from) 0xFF) }
 {
-    let mut i = from;
-    while i < to {
-        room[i] = 0xFF;
-        i += 1;
-    }
+    room[from..to].fill(0xFF);
 }
 
 // The pointer at room[from], where there is one; it tells where the sections' bytes then begin.

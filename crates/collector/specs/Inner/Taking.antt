@@ -1,9 +1,8 @@
 -- What the functions of taking.rt say of their arguments and answers.
-use Rattle.std.specs.Prelude.{ℕ, ◌+◌, ◌%◌, ◌^◌, Bool, true, false, if◌then◌else◌}
+use Rattle.std.specs.Prelude.{ℕ, ◌+◌, ◌%◌, ◌^◌, Bool, true, false, if◌then◌else◌, Some}
 use Rattle.collector.specs.Rules.{Kind, pointer, accepted, rejected, done, sameKind, filling, skipping, breaking, kind_of}
 use Rattle.collector.specs.Collected.{bytes_counted, record_with}
 use Rattle.collector.specs.declared.Record.{Record}
-use Rattle.collector.specs.declared.Last.TheVariants.{Counter}
 use Rattle.collector.specs.declared.stretch.Gain.{Gain}
 
 -- what is left of n bytes in hand, which go on in the packet or are broken off
@@ -27,5 +26,5 @@ added_by e lost start k =
 
 abbrev pub counted_of : Record → ℕ → Gain → ℕ → Bool → Record
 counted_of r counter e lost start =
-    record_with r.pid (Counter counter) false e.rejection e.in_hand
+    record_with r.pid (Some counter) false e.rejection e.in_hand
     (λ k. (bytes_counted (done k) r + added_by e lost start k) % 2 ^ 32)

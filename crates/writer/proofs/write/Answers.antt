@@ -4,7 +4,7 @@ use mathlib.Core.Bool.{true}
 use Prim.Native.Nat.{◌≤◌}
 use Rattle.writer.specs.Cut.{fit}
 use Rattle.writer.proofs.CutLaws.{fit_sum, fit_few}
-use Rattle.writer.proofs.Outcomes.{bad_pid, bad_counter, bad_section, room_short, room_enough, all_written}
+use Rattle.writer.proofs.Outcomes.{room_enough, all_written}
 use Rattle.writer.proofs.write.Goals as goal
 use Rattle.writer.proofs.write.Goals.{Else-not-fits}
 
@@ -19,29 +19,10 @@ module _ (b : Else-not-fits) where
   fits : fit b.args.sizes.now b.args.sections.now ≡ true
   fits = sym b.fits.ensures ∙ b.if-not-fits.false
 
-pub returns-then-pid-gt8191 : goal.returns-then-pid-gt8191
-returns-then-pid-gt8191 c =
-    let a = c.args in
-    bad_pid a.pid a.counter a.sections.now a.sizes.now a.room.now c.if-pid-gt8191.true
-
-pub returns-then-counter-gt15 : goal.returns-then-counter-gt15
-returns-then-counter-gt15 c = bad_counter _ _ _ _ _ c.if-pid-gt8191.false c.if-counter-gt15.true
-
-pub returns-then-not-fits : goal.returns-then-not-fits
-returns-then-not-fits c =
-    bad_section _ _ _ _ _ c.if-pid-gt8191.false c.if-counter-gt15.false
-    (sym c.fits.ensures ∙ c.if-not-fits.true)
-
 pub count-n-requires : goal.count-n-requires
 count-n-requires c =
     let else_not_fits = (goal.at.count-n-requires c).Else-not-fits in
     (fit_sum _ _ (fits else_not_fits), fit_few _ _ (fits else_not_fits))
-
-pub returns-then-room-n : goal.returns-then-room-n
-returns-then-room-n c =
-    let else_not_fits = (goal.at.returns-then-room-n c).Else-not-fits in
-    room_short _ _ _ _ _ (pid_small else_not_fits) (counter_small else_not_fits) (fits else_not_fits) c.count-n.result c.count-n.ensures
-    c.if-room-n.true
 
 pub put_all-requires : goal.put_all-requires
 put_all-requires c =

@@ -20,8 +20,8 @@ module _ (k : After-front_of-front) where
   abbrev l₂ : List ℕ
   l₂ = drop (front.from + front.bytes) k.args.packet.now
 
-  inside : (k.args.from ≤ front.from) × (front.from + front.bytes ≤ length k.args.packet.now)
-  inside = front_in k.args.start k.requires front k.front_of-front.ensures
+  inside : (k.args.load.from ≤ front.from) × (front.from + front.bytes ≤ length k.args.packet.now)
+  inside = front_in k.args.load.start k.requires front k.front_of-front.ensures
 
   h_long : length h ≡ k.args.n
   h_long = length-take-le k.args.n k.args.hold.now (omega arith)
@@ -46,28 +46,28 @@ sections-b-requires c =
       omega (arith, inside k),
       omega arith,
       omega arith,
-      omega (arith, inside k, c.go_on-a.ensures.bytes, gone_bytes (not c.args.start) (h k) (l k), h_long k, l_long k),
+      omega (arith, inside k, c.go_on-a.ensures.bytes, gone_bytes (not c.args.load.start) (h k) (l k), h_long k, l_long k),
     )
 
 pub both-requires : goal.both-requires
 both-requires c =
     let k = (goal.at.both-requires c).After-front_of-front in (
-      small_of _ _ (kept_gone by_judge (not c.args.start) (h k) (l k))
+      small_of _ _ (kept_gone by_judge (not c.args.load.start) (h k) (l k))
           (omega (arith, inside k, length-append (h k) (l k), h_long k, l_long k)) c.go_on-a.ensures,
       small_of _ _ (kept_back by_judge (l₂ k))
           (omega (arith, length-drop ((front k).from + (front k).bytes) c.args.packet.now)) c.sections-b.ensures,
     )
 
-pub returns-then-start : goal.returns-then-start
-returns-then-start c =
-    let k = (goal.at.returns-then-start c).After-front_of-front in
+pub returns-then-load : goal.returns-then-load
+returns-then-load c =
+    let k = (goal.at.returns-then-load c).After-front_of-front in
     let a = c.args in
-    carry-start a.hold.now a.out.now a.packet.now a.n a.from a.was a.start c.if-start.true c.requires.from_within (front k)
+    carry-start a.hold.now a.out.now a.packet.now a.n a.load.from a.was a.load.start c.if-load.true c.requires.from_within (front k)
     c.front_of-front.ensures _ _ _ _ _ _ c.go_on-a.ensures c.sections-b.ensures _ c.both.ensures
 
 pub returns : goal.returns
 returns c =
     let k = (goal.at.returns c).After-front_of-front in
     let a = c.args in
-    carry_on a.hold.now a.out.now a.packet.now a.n a.from a.was a.start c.if-start.false (front k)
+    carry_on a.hold.now a.out.now a.packet.now a.n a.load.from a.was a.load.start c.if-load.false (front k)
     c.front_of-front.ensures _ _ _ c.go_on-a.ensures

@@ -3,7 +3,6 @@
 use Rattle.std.proofs.Common.{◌≡◌, ℕ, ◌+◌, ◌-◌, ◌≤◌, leb, List, ◌++◌, length, take, drop, replicate, sym, ap, ◌∙◌, arith, length-drop, length-take, length-take-le, take_all, take_at, leb-true}
 use Rattle.wire.proofs.IfLaws.{if-case}
 use lib.Seq.{paste}
-use Rattle.verdict.specs.Verdict.{number_of}
 use Rattle.section.specs.Reading.{judged}
 use Rattle.copy.proofs.LaidLaws.{pasted_front, window_back}
 use Rattle.collector.specs.Inner.Settling.{handedOut, laid_of}
@@ -88,7 +87,7 @@ returns c =
     let p = placed (goal.at.returns c).After-laid_of-laid in
     let held = now_held p _ c.copy_behind.ensures in
     record {
-      value = c.settle-number.ensures.value ∙ ap (λ (l : List ℕ). number_of (judged l)) held;
+      value = c.settle-verdict.ensures.value ∙ ap judged held;
       hold_unchanged = c.copy_at-2.ensures ∙ as_it_was p _ _ c.copy_behind.ensures c.copy_at.ensures;
-      out_after = c.settle-number.ensures.out_after ∙ ap (handedOut a.out.now 0) held;
+      out_after = c.settle-verdict.ensures.out_after ∙ ap (handedOut a.out.now 0) held;
     }

@@ -1,6 +1,7 @@
 -- `collector::stretch::go_on` meets its contract: each way out is a law of `StretchInHand`.
 use Rattle.std.proofs.Common.{ℕ, ◌+◌, ◌<◌, ◌≤◌, List, length, take, ap, arith}
 use Rattle.wire.specs.Sections.{Unfinished}
+use Rattle.verdict.specs.Verdict.{number_of}
 use Rattle.collector.specs.declared.stretch.Gain.{Gain}
 use Rattle.collector.proofs.StretchInHand.{Given, end_none, going_in, end_kept, end_dropped, end_over, whole_in, end_whole}
 use Rattle.collector.proofs.stretch.go_on.Goals as goal
@@ -41,9 +42,9 @@ returns-then-keep c =
 pub overflow_sub-t : goal.overflow_sub-t
 overflow_sub-t c = omega (arith, there (goal.at.overflow_sub-t c).In-Whole)
 
-pub settle_held-number-requires : goal.settle_held-number-requires
-settle_held-number-requires c =
-    let f = there (goal.at.settle_held-number-requires c).In-Whole in
+pub settle_held-verdict-requires : goal.settle_held-verdict-requires
+settle_held-verdict-requires c =
+    let f = there (goal.at.settle_held-verdict-requires c).In-Whole in
     (omega arith, omega (arith, f), omega (arith, f), omega arith, omega (arith, f))
 
 pub with_section-r-requires : goal.with_section-r-requires
@@ -79,5 +80,6 @@ returns-in-Whole c =
     let a = c.args in
     end_whole (given a.hold.now a.packet.now a.n a.from a.m (omega arith) (omega arith) c.requires.unfinished) a.out.now a.keep
     a.was _ c.none_yet-r.ensures c.if-n-eq0.false c.looked-look.result c.looked-look.ensures c.in-Whole.t c.in-Whole.is _
-    c.settle_held-number.ensures.value _ c.settle_held-number.ensures.hold_unchanged _ c.settle_held-number.ensures.out_after _
+    (ap number_of c.settle_held-verdict.ensures.value) _ c.settle_held-verdict.ensures.hold_unchanged _
+    c.settle_held-verdict.ensures.out_after _
     c.with_section-r.ensures

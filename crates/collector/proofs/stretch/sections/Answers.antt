@@ -1,6 +1,7 @@
 -- `collector::stretch::sections` meets its contract: the invariant is `Reached`, and each way out of a turn is a law of
 -- `SectionLoop`.
-use Rattle.std.proofs.Common.{ℕ, ◌-◌, ◌≤◌, length, arith}
+use Rattle.std.proofs.Common.{ℕ, ◌-◌, ◌≤◌, length, ap, arith}
+use Rattle.verdict.specs.Verdict.{number_of}
 use Rattle.collector.proofs.SectionLoop.{none_yet, end_all, end_filler, end_going, end_over, whole_in, again}
 use Rattle.collector.proofs.stretch.sections.Goals as goal
 use Rattle.collector.proofs.stretch.sections.Goals.{In-Whole}
@@ -40,9 +41,9 @@ pub overflow_add-at : goal.overflow_add-at
 overflow_add-at c =
     omega (arith, there (goal.at.overflow_add-at c).In-Whole, c.loop-i.invariant.fits, c.well_formed)
 
-pub settle-number-requires : goal.settle-number-requires
-settle-number-requires c =
-    let in_whole = (goal.at.settle-number-requires c).In-Whole in
+pub settle-verdict-requires : goal.settle-verdict-requires
+settle-verdict-requires c =
+    let in_whole = (goal.at.settle-verdict-requires c).In-Whole in
     let x = c.loop-i.invariant in
     (omega (arith, there in_whole), omega (arith, there in_whole, x.fits, x.long))
 
@@ -67,7 +68,8 @@ pub loop-i-preserved : goal.loop-i-preserved
 loop-i-preserved c =
     again c.loop-i.invariant (omega arith) c.if-packet-i.false c.looked-look.result c.looked-look.ensures
     (long (goal.at.loop-i-preserved c).In-Whole)
-    c.in-Whole.is (omega arith) _ c.settle-number.ensures.value _ c.with_section-g.ensures _ c.settle-number.ensures.out_after
+    c.in-Whole.is (omega arith) _ (ap number_of c.settle-verdict.ensures.value) _ c.with_section-g.ensures _
+    c.settle-verdict.ensures.out_after
 
 pub returns : goal.returns
 returns c = end_all c.loop-i.invariant (omega arith)

@@ -14,7 +14,7 @@ module _ (s : Start) where
   -- is the mark set, by a packet before or by this one
 
   abbrev spliced : Bool
-  spliced = mark_with (before_of s.args.rec) s.args.splice
+  spliced = mark_with (before_of s.args.rec) s.args.load.splice
 
   -- the outcome, as the packet is a repeated one or not
 
@@ -22,23 +22,23 @@ module _ (s : Start) where
   ruled again =
       outcome_of s.args.rec s.args.hold.now s.args.out.now
       (if again then repeated else
-      takes (load_of spliced s.args.packet.now s.args.from s.args.start s.args.counter))
+      takes (load_of spliced s.args.packet.now s.args.load.from s.args.load.start s.args.load.counter))
 
   -- and as it is joined to the last one or not
 
   abbrev outcome : Bool → Outcome
   outcome next =
-      outcome_after s.args.rec s.args.hold.now s.args.out.now s.args.counter
-      (payload by_judge plain s.args.start
+      outcome_after s.args.rec s.args.hold.now s.args.out.now s.args.load.counter
+      (payload by_judge plain s.args.load.start
       (joined next (holding (take s.args.rec.in_hand s.args.hold.now)))
-      (drop s.args.from s.args.packet.now))
+      (drop s.args.load.from s.args.packet.now))
 
 -- the test for a repeated packet, by what the record and the packet say
 again-is : (r : After-is_repeat)
-    → r.is_repeat.result ≡ repeats (before_of r.args.rec).last (mark_with (before_of r.args.rec) r.args.splice) r.args.counter
+    → r.is_repeat.result ≡ repeats (before_of r.args.rec).last (mark_with (before_of r.args.rec) r.args.load.splice) r.args.load.counter
 again-is r =
     r.is_repeat.ensures
-    ∙ ap (λ (t : Bool). repeats (before_of r.args.rec).last t r.args.counter)
+    ∙ ap (λ (t : Bool). repeats (before_of r.args.rec).last t r.args.load.counter)
     r.is_set-spliced.ensures
 
 pub returns-then-is_repeat : goal.returns-then-is_repeat
@@ -50,6 +50,6 @@ pub returns : goal.returns
 returns c =
     let start = (goal.at.returns c).Start in
     let next = c.is_joined-next.ensures
-    ∙ ap (λ (m : Bool). joins (before_of c.args.rec).last m c.args.counter) c.is_set-spliced.ensures in
+    ∙ ap (λ (m : Bool). joins (before_of c.args.rec).last m c.args.load.counter) c.is_set-spliced.ensures in
     c.taken.ensures ∙ ap (outcome start) next
     ∙ ap (ruled start) (sym c.if-is_repeat.false ∙ again-is (goal.at.returns c).After-is_repeat)

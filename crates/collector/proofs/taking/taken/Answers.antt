@@ -9,19 +9,19 @@ module _ (s : Start) where
   hand = take s.args.rec.in_hand s.args.hold.now
 
   abbrev bytes : List ℕ
-  bytes = drop s.args.from s.args.packet.now
+  bytes = drop s.args.load.from s.args.packet.now
 
   hand_long : s.args.rec.in_hand ≡ length hand
   hand_long = sym (length-take-le s.args.rec.in_hand s.args.hold.now (omega (arith, s.requires.few, s.requires.hold_big)))
 
   bytes_long : (0 < length bytes) × (length bytes ≤ 188)
   bytes_long = (
-    omega (arith, s.requires.from_within, length-drop s.args.from s.args.packet.now),
-    omega (arith, s.requires.long, length-drop s.args.from s.args.packet.now),
+    omega (arith, s.requires.from_within, length-drop s.args.load.from s.args.packet.now),
+    omega (arith, s.requires.long, length-drop s.args.load.from s.args.packet.now),
   )
 
-pub overflow_sub-broken : goal.overflow_sub-broken
-overflow_sub-broken c =
+pub overflow_sub-rec : goal.overflow_sub-rec
+overflow_sub-rec c =
     let a = c.args in
     omega (arith, c.kept-n.ensures, kept_most a.next a.rec.in_hand)
 
@@ -33,7 +33,7 @@ pub counted-requires : goal.counted-requires
 counted-requires c =
     let start = (goal.at.counted-requires c).Start in
     let n = c.kept-n.result in (
-      small c.args.rec c.args.hold.now c.args.out.now c.args.counter c.args.start
+      small c.args.rec c.args.hold.now c.args.out.now c.args.load.counter c.args.load.start
           (take n c.args.hold.now) (bytes start) (bytes_long start).0 c.carry-e.result _ _ c.carry-e.ensures
           (omega (
             arith,
@@ -49,6 +49,6 @@ counted-requires c =
 pub returns : goal.returns
 returns c =
     let start = (goal.at.returns c).Start in
-    outcome_is c.args.rec c.args.hold.now c.args.out.now c.args.counter c.args.start (bytes start)
+    outcome_is c.args.rec c.args.hold.now c.args.out.now c.args.load.counter c.args.load.start (bytes start)
     (bytes_long start).0 c.carry-e.result _ _ _ c.args.next c.kept-n.result c.kept-n.ensures (hand_long start)
     c.carry-e.ensures c.counted.ensures
