@@ -5,13 +5,13 @@
 ghost use Rattle.std.specs.Prelude.{◌≡◌};
 ghost use Rattle.head.specs.Head.{extension_in, version_in, is_current, number_in, last_in, has_no_sub_table};
 
-use tables::{is_numbered, row_of};
+use tables::{is_numbered, table_of};
 use wire::numbers::{byte_at, number16_at};
 
 pub mod sub_tables;
 
 // "A sub-table is table_id and extension, for SDT also original_network_id, for EIT also both transport ids."
-#[derive(Clone, Copy)]
+#[derive(Clone, Copy, PartialEq, Eq)]
 pub struct SubTable {
     pub table_id: u8,
     pub extension: u16,
@@ -28,12 +28,14 @@ pub fn extension_of(section: &[u8]) -> u16
 }
 
 // version_number stands in five bits, above current_next_indicator.
+#[tactic(auto, unfolding(crate::specs::Head::version_in))]
 pub fn version_of(section: &[u8]) -> u8
     ensures { result ≡ version_in section.now }
 {
     byte_at(section, 5) / 2 % 32
 }
 
+#[tactic(auto, unfolding(crate::specs::Head::is_current))]
 pub fn is_current(section: &[u8]) -> bool
     ensures { result ≡ is_current section.now }
 {
@@ -55,8 +57,9 @@ pub fn last_of(section: &[u8]) -> u8
 }
 
 // TDT and TOT, or a table that is not known.
+#[tactic(auto, unfolding(crate::specs::Head::has_no_sub_table))]
 pub fn has_no_sub_table(section: &[u8]) -> bool
     ensures { result ≡ has_no_sub_table section.now }
 {
-    !is_numbered(row_of(byte_at(section, 0)))
+    !is_numbered(table_of(byte_at(section, 0)))
 }

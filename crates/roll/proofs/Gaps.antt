@@ -9,12 +9,10 @@ use native.Mathlib.Omega.{arith}
 use lib.Dec.{eqb, ltb}
 use lib.ListN.{get_or}
 use borrow.Author.Tests.{ltb-true, ltb-false}
-use Rattle.std.specs.Prelude.{if◌then◌else◌}
+use Rattle.std.specs.Prelude.{Option, None, Some, if◌then◌else◌}
 use Rattle.wire.proofs.IfLaws.{if-case}
 use Rattle.roll.specs.Gaps.{up_to, wanted_of, all_came, first_gap, gap_among}
 use Rattle.roll.specs.Segments.{counting}
-use Rattle.roll.specs.declared.End.{End}
-use Rattle.roll.specs.declared.End.TheVariants.{Unknown, At}
 
 -- ---- the loop of first_gap
 
@@ -36,9 +34,9 @@ module _ (came : List Bool) (count i : ℕ) where
   pub gap_here : i < count → get_or came i false ≡ false → first_gap came (count - i) i ≡ i
   gap_here h q = turn h ∙ rw q
 
-  pub gap-end : count ≤ i → first_gap came (count - i) i ≡ 8
+  pub gap_past : count ≤ i → first_gap came (count - i) i ≡ 8
   unfolding first_gap
-  gap-end h =
+  gap_past h =
       let e : count - i ≡ 0 = omega arith in
       rw e
 
@@ -48,13 +46,15 @@ pub all_start : (came : List Bool) → true ≡ all_came came 0
 unfolding all_came
 all_start came = refl
 
-pub all_more : (came : List Bool) (i : ℕ) → get_or came i false ≡ true → all_came came (i + 1) ≡ all_came came i
+pub all_next : (came : List Bool) (i : ℕ) → all_came came (i + 1) ≡ (all_came came i && get_or came i false)
 unfolding all_came
-all_more came i h = rw (add-one i, h)
-
-pub all_less : (came : List Bool) (i : ℕ) → get_or came i false ≡ false → all_came came (i + 1) ≡ false
-unfolding all_came
-all_less came i h = rw (add-one i, h)
+all_next came i = rw (add-one i) (go (get_or came i false) (all_came came i))
+  where
+    go : (a b : Bool) → (a && b) ≡ (b && a)
+    go true true = refl
+    go true false = refl
+    go false true = refl
+    go false false = refl
 
 pub all_each : (came : List Bool) (k : ℕ) → all_came came k ≡ true → (i : ℕ) → i < k → get_or came i false ≡ true
 unfolding all_came
@@ -140,11 +140,11 @@ gap_known came zero h = absurd (h refl)
 gap_known came (suc k) h = refl
 
 -- at most eight must come
-pub wanted_few : (schedule : Bool) (last k : ℕ) (end : End) → wanted_of schedule last k end ≤ 8
+pub wanted_few : (schedule : Bool) (last k : ℕ) (end : Option ℕ) → wanted_of schedule last k end ≤ 8
 unfolding wanted_of up_to
 wanted_few true last k end = go (counting last k end)
   where
-    go : (x : End) → up_to x ≤ 8
-    go Unknown = omega arith
-    go (At e) = omega arith
+    go : (x : Option ℕ) → up_to x ≤ 8
+    go None = omega arith
+    go (Some e) = omega arith
 wanted_few false last k end = if-case (λ n. n ≤ 8) (eqb (last / 8) k) (λ _. omega arith) (λ _. omega arith)

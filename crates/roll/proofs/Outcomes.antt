@@ -6,30 +6,29 @@ use mathlib.Core.List.{List}
 use native.Mathlib.Omega.{arith}
 use lib.Dec.{eqb}
 use lib.ListN.{length, get_or, set, length-set}
+use Rattle.std.specs.Prelude.{Option, None, Some}
 use Rattle.wire.proofs.IfLaws.{if-case}
 use Rattle.verdict.specs.Verdict.{is_accepted}
 use Rattle.section.specs.Reading.{judged}
 use Rattle.head.specs.Head.{number_in, is_current, has_no_sub_table}
-use Rattle.roll.specs.Answer.{Says, refusing, told_answer}
+use Rattle.roll.specs.Answer.{Says, refusing, told_progress}
 use Rattle.roll.specs.Marks.{blank, segment_at, has, with_mark, marked, smallest, smallest_missing}
 use Rattle.roll.specs.Segments.{is_schedule, come_or_left_out, smallest_in_segments, ending_by, ending_at, marked_until}
 use Rattle.roll.specs.Roll.{another_for, another, starts_afresh, segment_end_in, end_unfit, segment_after, marked_by, begun_with, continued, roll_after}
 use Rattle.roll.specs.Roll.{Outcome, answering, answered, asked}
 use Rattle.roll.specs.Roll.{taking_current, taking_accepted, taking, Goes, refuses, takes, course_if_current, course_if_accepted, course_of}
-use Rattle.roll.specs.declared.Answer.{Answer}
+use Rattle.roll.specs.declared.Progress.{Progress}
 use Rattle.roll.specs.declared.Marks.{Marks}
 use Rattle.roll.specs.declared.Segment.{Segment}
 use Rattle.roll.specs.declared.Roll.{Roll}
-use Rattle.roll.specs.declared.End.{End}
-use Rattle.roll.specs.declared.End.TheVariants.{Unknown, At}
 use Rattle.head.specs.declared.SubTable.{SubTable}
 
 abbrev pub outcome : Roll → Says → Outcome
 outcome r x = record { roll = r; says = x }
 
 -- a step that answers as the roll does that it gives
-pub told_and_asked : (r : Roll) (a : Answer) → told_answer a ≡ asked r → outcome r (told_answer a) ≡ answering r
-told_and_asked r a h = ap (outcome r) h
+pub told_and_asked : (r : Roll) (p : Progress) → told_progress p ≡ asked r → outcome r (told_progress p) ≡ answering r
+told_and_asked r p h = ap (outcome r) h
 
 -- one segment put in the place of another
 marked_by_put : (m : Marks) (s : List ℕ)
@@ -141,10 +140,10 @@ asked_no_refusal r k p e =
 
 -- ---- a segment keeps its eight marks
 
-ending_long : (e : End) (g : Segment) (n : ℕ) → length g.came ≡ 8 → length (ending_by e g n).came ≡ 8
+ending_long : (e : Option ℕ) (g : Segment) (n : ℕ) → length g.came ≡ 8 → length (ending_by e g n).came ≡ 8
 unfolding ending_by blank
-ending_long Unknown g n h = refl
-ending_long (At f) g n h = if-case (λ (x : Segment). length x.came ≡ 8) (eqb f n) (λ _. h) (λ _. refl)
+ending_long None g n h = refl
+ending_long (Some f) g n h = if-case (λ (x : Segment). length x.came ≡ 8) (eqb f n) (λ _. h) (λ _. refl)
 
 pub segment_after_long : (g : Segment) (s : List ℕ) → length g.came ≡ 8 → length (segment_after g s).came ≡ 8
 unfolding segment_after with_mark

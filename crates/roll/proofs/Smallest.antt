@@ -27,9 +27,9 @@ module _ (came : ℕ → Bool) (last n : ℕ) where
   pub smallest_here : n ≤ last → came n ≡ false → smallest came (last + 1 - n) n ≡ missing n
   smallest_here h q = turn h ∙ rw q
 
-  pub smallest-end : last + 1 ≤ n → smallest came (last + 1 - n) n ≡ complete
+  pub smallest_end : last + 1 ≤ n → smallest came (last + 1 - n) n ≡ complete
   unfolding smallest
-  smallest-end h =
+  smallest_end h =
       let e : last + 1 - n ≡ 0 = omega arith in
       rw e
 
@@ -41,7 +41,7 @@ module _ (came : ℕ → Bool) (last : ℕ) where
       go : (b : Bool) → ltb last n ≡ b → smallest came (last + 1 - n) n ≡ smallest came (last + 1 - (n + 1)) (n + 1)
       go true e =
           let above = ltb-true last n e in
-          smallest-end came last n (omega arith) ∙ sym (smallest-end came last (n + 1) (omega arith))
+          smallest_end came last n (omega arith) ∙ sym (smallest_end came last (n + 1) (omega arith))
       go false e = on came last n (ltb-false last n e) (h (ltb-false last n e))
 
   -- and so are j of them

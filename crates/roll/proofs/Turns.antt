@@ -8,7 +8,7 @@ use native.Mathlib.Omega.{arith}
 use lib.Dec.{eqb, ltb}
 use lib.ListN.{get_or}
 use borrow.Author.Tests.{eqb-true, eqb-false, ltb-true, ltb-false, lt-ltb, le-ltb}
-use Rattle.std.specs.Prelude.{if◌then◌else◌}
+use Rattle.std.specs.Prelude.{Option, None, Some, if◌then◌else◌}
 use Rattle.wire.proofs.TestLaws.{or_none, or_exactly}
 use Rattle.roll.specs.Answer.{Says, missing}
 use Rattle.roll.specs.Marks.{segment_of, segment_at, has, smallest, smallest_missing}
@@ -19,8 +19,6 @@ use Rattle.roll.proofs.Smallest.{smallest_here, smallest_over}
 use Rattle.roll.proofs.Gaps.{Gap, gap_is, wanted_few}
 use Rattle.roll.proofs.Ends.{counting_counts}
 use Rattle.roll.specs.declared.Marks.{Marks}
-use Rattle.roll.specs.declared.End.{End}
-use Rattle.roll.specs.declared.End.TheVariants.{Unknown, At}
 
 -- what is asked of a number: whether it has come; of a schedule, whether it has come or was left out
 abbrev pub counted : Bool → Marks → ℕ → ℕ → Bool
@@ -72,8 +70,8 @@ module _ (m : Marks) (last k : ℕ) (reached : k * 8 ≤ last) where
       at : (i : ℕ) → i < 8 → segment_of (k * 8 + i) ≡ k
       at i h = omega arith
 
-      go : (x : End) → counting last k (segment_at m k).end ≡ x → Turn true m last k (up_to x)
-      go Unknown e =
+      go : (x : Option ℕ) → counting last k (segment_at m k).end ≡ x → Turn true m last k (up_to x)
+      go None e =
           let first : segment_of (k * 8) ≡ k = omega arith in
           record {
             few = (omega arith, omega arith);
@@ -81,7 +79,7 @@ module _ (m : Marks) (last k : ℕ) (reached : k * 8 ≤ last) where
             rest = λ z i h g r. absurd (omega arith);
             unknown = λ z. rw (first, e);
           }
-      go (At end) e =
+      go (Some end) e =
           let c = counting_counts last k _ end e in
           let inside = c.inside in
           let within = c.within in

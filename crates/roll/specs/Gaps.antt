@@ -1,18 +1,16 @@
 -- One segment: how many of its numbers must come, and the first of them that has not.
-use Rattle.std.specs.Prelude.{ℕ, zero, suc, ◌+◌, ◌/◌, ◌%◌, List, Bool, true, false, ◌&&◌, eqb, get_or, if◌then◌else◌}
+use Rattle.std.specs.Prelude.{ℕ, zero, suc, ◌+◌, ◌/◌, ◌%◌, List, Bool, true, false, ◌&&◌, eqb, get_or, Option, None, Some, if◌then◌else◌}
 use Rattle.roll.specs.Segments.{counting}
 use Rattle.roll.specs.declared.Segment.{Segment}
-use Rattle.roll.specs.declared.End.{End}
-use Rattle.roll.specs.declared.End.TheVariants.{Unknown, At}
 
 -- how many numbers a segment with this end has, from its first on; none where the end is unknown
-unfoldable pub up_to : End → ℕ
-up_to Unknown = 0
-up_to (At e) = e % 8 + 1
+unfoldable pub up_to : Option ℕ → ℕ
+up_to None = 0
+up_to (Some e) = e % 8 + 1
 
 -- how many numbers of segment k must come: of a schedule those up to its end; else those up to the last number, where it
 -- stands in this segment, and all eight where it does not
-unfoldable pub wanted_of : Bool → ℕ → ℕ → End → ℕ
+unfoldable pub wanted_of : Bool → ℕ → ℕ → Option ℕ → ℕ
 wanted_of schedule last k end =
     if schedule then up_to (counting last k end)
     else if eqb (last / 8) k then last % 8 + 1
@@ -27,6 +25,11 @@ all_came came (suc k) = get_or came k false && all_came came k
 unfoldable pub first_gap : List Bool → ℕ → ℕ → ℕ
 first_gap came zero i = 8
 first_gap came (suc k) i = if get_or came i false then first_gap came k (i + 1) else i
+
+-- the number told for a gap; 8 where there is none
+abbrev pub told_gap : Option ℕ → ℕ
+told_gap None = 8
+told_gap (Some g) = g
 
 -- the first missing of so many; where none is known to be there, it is the first of all
 unfoldable pub gap_among : List Bool → ℕ → ℕ

@@ -1,23 +1,21 @@
 -- The marks: which numbers have come, "in thirty-two segments of eight sections". Whatever is said of a roll elsewhere goes
 -- by `has` and by a segment's end, and by laws of these definitions, and never looks inside.
-use Rattle.std.specs.Prelude.{ℕ, zero, suc, ◌+◌, ◌/◌, ◌%◌, ◌<◌, ◌≡◌, [], Bool, true, false, length, get_or, set, replicate, if◌then◌else◌}
+use Rattle.std.specs.Prelude.{ℕ, zero, suc, ◌+◌, ◌/◌, ◌%◌, ◌<◌, ◌≡◌, [], Bool, true, false, length, get_or, set, replicate, Option, None, if◌then◌else◌}
 use Rattle.roll.specs.Answer.{Says, missing, complete}
 use Rattle.roll.specs.declared.Marks.{Marks}
 use Rattle.roll.specs.declared.Segment.{Segment}
-use Rattle.roll.specs.declared.End.{End}
-use Rattle.roll.specs.declared.End.TheVariants.{Unknown}
 
 -- the segment that a number stands in
 abbrev pub segment_of : ℕ → ℕ
 segment_of n = n / 8
 
 -- a segment with this end, of which nothing has come
-unfoldable pub blank : End → Segment
+unfoldable pub blank : Option ℕ → Segment
 blank e = record { end = e; came = replicate 8 false }
 
 -- the segment of this index; behind the last there is none, and nothing of it has come
 unfoldable pub segment_at : Marks → ℕ → Segment
-segment_at m k = get_or m.segments k (record { end = Unknown; came = [] })
+segment_at m k = get_or m.segments k (record { end = None; came = [] })
 
 -- the number has come
 unfoldable pub has : Marks → ℕ → Bool
@@ -25,7 +23,7 @@ has m n = get_or (segment_at m (segment_of n)).came (n % 8) false
 
 -- no number has come, and no end is known
 unfoldable pub unmarked : Marks
-unmarked = record { segments = replicate 32 (blank Unknown) }
+unmarked = record { segments = replicate 32 (blank None) }
 
 -- the segment in which this number has come too
 unfoldable pub with_mark : Segment → ℕ → Segment

@@ -1,17 +1,16 @@
 -- A roll and a section: document 01, "The roll", and document 02, request (i).
-use Rattle.std.specs.Prelude.{ℕ, List, Bool, true, false, not, ◌&&◌, ◌||◌, eqb, ltb, get_or, if◌then◌else◌}
+use Rattle.std.specs.Prelude.{ℕ, List, Bool, true, false, not, ◌&&◌, ◌||◌, eqb, ltb, get_or, Result, Ok, Err, if◌then◌else◌}
 use Rattle.verdict.specs.Verdict.{is_accepted, number_of, place_of}
 use Rattle.section.specs.Reading.{judged}
 use Rattle.head.specs.Head.{version_in, is_current, number_in, last_in, has_no_sub_table}
 use Rattle.head.specs.SubTable.{sub_table_of, compared, same_ids}
-use Rattle.roll.specs.Answer.{Says, missing, refusing, told_answer}
+use Rattle.roll.specs.Answer.{Says, missing, refusing, told_refusal, told_answer}
 use Rattle.roll.specs.Marks.{segment_of, unmarked, with_mark, marked, smallest_missing}
 use Rattle.roll.specs.Segments.{is_schedule, ending_at, marked_until, smallest_in_segments}
 use Rattle.head.specs.declared.SubTable.{SubTable}
-use Rattle.roll.specs.declared.Course.{Course}
-use Rattle.roll.specs.declared.Course.TheVariants.{Refused, Taken}
 use Rattle.roll.specs.declared.Marks.{Marks}
 use Rattle.roll.specs.declared.Segment.{Segment}
+use Rattle.roll.specs.declared.Refusal.{Refusal}
 use Rattle.roll.specs.declared.Roll.{Roll}
 use Rattle.roll.specs.declared.Step.{Step}
 
@@ -125,9 +124,9 @@ pub data Goes : Type 0 where
   takes : Bool → Goes
 
 -- document 01's and 02's number and values for every case
-abbrev pub told_course : Course → Goes
-told_course (Refused a) = refuses (told_answer a)
-told_course (Taken on) = takes on
+abbrev pub told_course : Result Bool Refusal → Goes
+told_course (Ok on) = takes on
+told_course (Err r) = refuses (told_refusal r)
 
 -- "84, after 81"
 unfoldable pub course_if_current : Bool → ℕ → ℕ → List ℕ → Goes

@@ -1,12 +1,10 @@
 -- Schedules: document 02, request (i), "for table_id 0x50 to 0x6F the numbers stand in thirty-two segments of eight
 -- sections, and a segment may end early".
-use Rattle.std.specs.Prelude.{ℕ, ◌+◌, Bool, false, ◌&&◌, ◌||◌, eqb, leb, ltb, set, if◌then◌else◌}
+use Rattle.std.specs.Prelude.{ℕ, ◌+◌, Bool, false, ◌&&◌, ◌||◌, eqb, leb, ltb, set, Option, None, Some, if◌then◌else◌}
 use Rattle.roll.specs.Answer.{Says}
 use Rattle.roll.specs.Marks.{segment_of, blank, segment_at, has, with_mark, smallest}
 use Rattle.roll.specs.declared.Marks.{Marks}
 use Rattle.roll.specs.declared.Segment.{Segment}
-use Rattle.roll.specs.declared.End.{End}
-use Rattle.roll.specs.declared.End.TheVariants.{Unknown, At}
 
 -- "for table_id 0x50 to 0x6F"
 unfoldable pub is_schedule : ℕ → Bool
@@ -15,23 +13,23 @@ is_schedule id = leb 0x50 id && leb id 0x6F
 -- ---- what counts
 
 -- "one kept in a roll but outside its segment or above the last number counts as unknown"
-unfoldable pub counting : ℕ → ℕ → End → End
-counting last k Unknown = Unknown
-counting last k (At e) = if eqb (segment_of e) k && leb e last then At e else Unknown
+unfoldable pub counting : ℕ → ℕ → Option ℕ → Option ℕ
+counting last k None = None
+counting last k (Some e) = if eqb (segment_of e) k && leb e last then Some e else None
 
 -- the end that counts of segment k
-unfoldable pub end_at : Marks → ℕ → ℕ → End
+unfoldable pub end_at : Marks → ℕ → ℕ → Option ℕ
 end_at m last k = counting last k (segment_at m k).end
 
 -- "counts as unknown, its marks as unset": of a segment whose end is unknown no number has come, whatever its marks
-unfoldable pub came_by : End → Bool → Bool
-came_by Unknown mark = false
-came_by (At e) mark = mark
+unfoldable pub came_by : Option ℕ → Bool → Bool
+came_by None mark = false
+came_by (Some e) mark = mark
 
 -- "numbers that a known segment has left out": those above its own end, also the last number
-unfoldable pub left_out_by : End → ℕ → Bool
-left_out_by Unknown n = false
-left_out_by (At e) n = ltb e n
+unfoldable pub left_out_by : Option ℕ → ℕ → Bool
+left_out_by None n = false
+left_out_by (Some e) n = ltb e n
 
 -- the number has come, or its segment has left it out
 unfoldable pub come_or_left_out : Marks → ℕ → ℕ → Bool
@@ -44,9 +42,9 @@ smallest_in_segments m last = smallest (come_or_left_out m last) (last + 1) 0
 -- ---- a section comes
 
 -- "A segment end that changes within one version empties that segment", and so does one that was not known
-unfoldable pub ending_by : End → Segment → ℕ → Segment
-ending_by Unknown s e = blank (At e)
-ending_by (At kept) s e = if eqb kept e then s else blank (At e)
+unfoldable pub ending_by : Option ℕ → Segment → ℕ → Segment
+ending_by None s e = blank (Some e)
+ending_by (Some kept) s e = if eqb kept e then s else blank (Some e)
 
 -- the segment with this end
 abbrev pub ending_at : Segment → ℕ → Segment

@@ -2,28 +2,22 @@
 #![tactic(auto)]
 
 ghost use Rattle.std.specs.Prelude.{◌≡◌};
-ghost use Rattle.roll.specs.Answer.{told_answer};
+ghost use Rattle.roll.specs.Answer.{told_progress};
+ghost use Rattle.roll.specs.declared.Refusal.TheVariants.{Judge};
 ghost use Rattle.roll.specs.Roll.{empty_roll, asked, taking, heard};
 
 use head::SubTable;
-use verdict::Verdict;
 
 mod marking;
 pub mod segments;
 pub mod stepping;
 
-// segment_last_section_number of a segment. 255 is the end of the last one, so that "unknown" is a case of its own.
-#[derive(Clone, Copy)]
-pub enum End {
-    Unknown,
-    At(u8),
-}
-
 // Eight section numbers: which of them have come, and where a schedule's segment ends.
 #[derive(Clone, Copy)]
 pub struct Segment {
-    // Of tables other than schedules it means nothing.
-    pub end: End,
+    // segment_last_section_number, where it is known: 255 is the end of the last segment. Of tables other than schedules it
+    // means nothing.
+    pub end: Option<u8>,
     pub came: [bool; 8],
 }
 
@@ -45,14 +39,19 @@ pub struct Roll {
     pub marks: Marks,
 }
 
-#[derive(Clone, Copy)]
-pub enum Answer {
+// What has come, of a roll that refuses nothing.
+#[derive(Clone, Copy, PartialEq, Eq)]
+pub enum Progress {
     // The smallest number that has not come.
     Missing(u8),
     // All numbers from 0 to the last have come; of a schedule, all up to the end of each segment.
     Complete,
-    // 1 to 10: the judge's refusal.
-    Refused(Verdict),
+}
+
+#[derive(Clone, Copy, PartialEq, Eq)]
+pub enum Refusal {
+    // 1 to 10.
+    Judge(verdict::Refusal),
     // 81: current_next_indicator 0.
     NotCurrent,
     // 82: another sub-table.
@@ -63,12 +62,26 @@ pub enum Answer {
     SegmentEnd,
 }
 
-// What a section does to a roll: a refusal, or it is taken.
+impl From<verdict::Refusal> for Refusal {
+    ghost from_gives = { λ judges refusal. refusal ≡ Judge judges };
+
+    fn from(refusal: verdict::Refusal) -> Refusal {
+        Refusal::Judge(refusal)
+    }
+}
+
+pub type Answer = Result<Progress, Refusal>;
+
+// What a section does to a roll that takes it: true where the roll goes on with what has come, false where it starts afresh.
+pub type Course = Result<bool, Refusal>;
+
+// What a roll keeps beside its marks.
 #[derive(Clone, Copy)]
-pub enum Course {
-    Refused(Answer),
-    // Whether it goes on with what has come, or starts afresh.
-    Taken(bool),
+pub struct Kept {
+    pub begun: bool,
+    pub sub_table: SubTable,
+    pub version: u8,
+    pub last: u8,
 }
 
 // The roll after a section, and its answer.
@@ -78,50 +91,53 @@ pub struct Step {
     pub answer: Answer,
 }
 
+#[tactic(auto, unfolding(crate::specs::Roll::empty_roll))]
 pub fn empty() -> Roll
     ensures { result ≡ empty_roll }
 {
-    let sub_table = SubTable {
-        table_id: 0,
-        extension: 0,
-        transport_stream_id: 0,
-        original_network_id: 0,
-    };
-    let marks = marking::no_marks();
     Roll {
         begun: false,
-        sub_table,
+        sub_table: SubTable {
+            table_id: 0,
+            extension: 0,
+            transport_stream_id: 0,
+            original_network_id: 0,
+        },
         version: 0,
         last: 0,
-        marks,
+        marks: marking::no_marks(),
     }
 }
 
 // The answer without a section.
-pub fn ask(roll: Roll) -> Answer
-    ensures { told_answer result ≡ asked roll }
+#[tactic(auto, unfolding(crate::specs::Roll::asked))]
+pub fn ask(roll: Roll) -> Progress
+    ensures { told_progress result ≡ asked roll }
 {
     if roll.begun {
-        let marks = roll.marks;
         let schedule = segments::is_schedule(roll.sub_table.table_id);
-        return segments::missing(marks, roll.last, schedule);
+        return segments::missing(roll.marks, roll.last, schedule);
     }
-    Answer::Missing(0)
+    Progress::Missing(0)
 }
 
 // "It takes a section; refuses 1 to 10, then 83 .., 82 .., 81 .., itself unchanged"; "84, after 81".
+#[tactic(auto, using(crate::proofs::Outcomes::taking_by))]
 pub fn take(roll: Roll, section: &[u8]) -> Step
     ensures { heard result ≡ taking roll section.now }
 {
-    let sub_table = roll.sub_table;
-    let course = stepping::course_of(roll.begun, sub_table, roll.version, roll.last, section);
-    match course {
-        Course::Refused(answer) => Step { roll, answer },
-        Course::Taken(on) => {
-            if on {
-                return stepping::answered_by(stepping::with_section(roll, section));
-            }
-            stepping::answered_by(stepping::begun_with(section))
-        }
+    let kept = Kept {
+        begun: roll.begun,
+        sub_table: roll.sub_table,
+        version: roll.version,
+        last: roll.last,
+    };
+    match kept.course_of(section) {
+        Err(refusal) => Step {
+            roll,
+            answer: Err(refusal),
+        },
+        Ok(true) => stepping::answered_by(stepping::with_section(roll, section)),
+        Ok(false) => stepping::answered_by(stepping::begun_with(section)),
     }
 }

@@ -5,31 +5,11 @@ ghost use Rattle.roll.specs.Roll.{begun_with, continued, answering, heard, told_
 
 use crate::marking::{ending_at, no_marks, with_mark};
 use crate::segments::is_schedule;
-use crate::{Answer, Course, Marks, Roll, Segment, Step};
+use crate::{Course, Kept, Marks, Refusal, Roll, Segment, Step};
 use head::sub_tables::{as_compared, same_ids, sub_table_of};
-use head::{SubTable, has_no_sub_table, is_current, last_of, number_of, version_of};
+use head::{has_no_sub_table, is_current, last_of, number_of, version_of};
+use section::judge::judge;
 use wire::numbers::byte_at;
-
-fn is_another(begun: bool, kept: SubTable, section: &[u8]) -> bool
-    ensures { result ≡ another_for begun kept section.now }
-{
-    if begun {
-        return !same_ids(as_compared(kept), sub_table_of(section));
-    }
-    false
-}
-
-fn starts_afresh(begun: bool, version: u8, last: u8, section: &[u8]) -> bool
-    ensures { result ≡ afresh_for begun version last section.now }
-{
-    if begun {
-        if version != version_of(section) {
-            return true;
-        }
-        return last != last_of(section);
-    }
-    true
-}
 
 // segment_last_section_number: byte 12 of EIT.
 fn segment_end_of(section: &[u8]) -> u8
@@ -39,61 +19,72 @@ fn segment_end_of(section: &[u8]) -> u8
 }
 
 // "when segment_last_section_number lies below section_number, above last_section_number or in another segment"
+#[tactic(auto, unfolding(crate::specs::Roll::end_unfit))]
 fn end_unfit(section: &[u8]) -> bool
     ensures { result ≡ end_unfit section.now }
 {
-    if is_schedule(byte_at(section, 0)) {
-        let end = segment_end_of(section);
-        let number = number_of(section);
-        if end < number {
-            return true;
+    let end = segment_end_of(section);
+    let number = number_of(section);
+    is_schedule(byte_at(section, 0))
+        && (end < number || last_of(section) < end || end / 8 != number / 8)
+}
+
+impl Kept {
+    fn is_another(self, section: &[u8]) -> bool
+        ensures { result ≡ another_for self.begun self.sub_table section.now }
+    {
+        self.begun && !same_ids(as_compared(self.sub_table), sub_table_of(section))
+    }
+
+    fn starts_afresh(self, section: &[u8]) -> bool
+        ensures { result ≡ afresh_for self.begun self.version self.last section.now }
+    {
+        !self.begun || self.version != version_of(section) || self.last != last_of(section)
+    }
+
+    // What a section that none of 83, 82 and 81 refuses does to the roll.
+    #[tactic(auto, unfolding(crate::specs::Roll::course_if_current))]
+    fn course_if_current(self, section: &[u8]) -> Course
+        ensures { told_course result
+            ≡ course_if_current self.begun self.version self.last section.now }
+    {
+        if end_unfit(section) {
+            return Err(Refusal::SegmentEnd);
         }
-        if last_of(section) < end {
-            return true;
+        Ok(!self.starts_afresh(section))
+    }
+
+    // What a section that the judge accepts does to the roll.
+    #[tactic(auto, unfolding(crate::specs::Roll::course_if_accepted))]
+    fn course_if_accepted(self, section: &[u8]) -> Course
+        ensures { told_course result
+            ≡ course_if_accepted self.begun self.sub_table self.version self.last section.now }
+    {
+        if has_no_sub_table(section) {
+            return Err(Refusal::NoSubTable);
         }
-        return end / 8 != number / 8;
+        if self.is_another(section) {
+            return Err(Refusal::AnotherSubTable);
+        }
+        if !is_current(section) {
+            return Err(Refusal::NotCurrent);
+        }
+        self.course_if_current(section)
     }
-    false
-}
 
-// What a section that none of 83, 82 and 81 refuses does to a roll with these fields.
-fn course_if_current(begun: bool, version: u8, last: u8, section: &[u8]) -> Course
-    ensures { told_course result ≡ course_if_current begun version last section.now }
-{
-    if end_unfit(section) {
-        return Course::Refused(Answer::SegmentEnd);
+    // What a section does to the roll. It looks at no mark.
+    #[tactic(auto, unfolding(crate::specs::Roll::course_of))]
+    pub fn course_of(self, section: &[u8]) -> Course
+        ensures { told_course result
+            ≡ course_of self.begun self.sub_table self.version self.last section.now }
+    {
+        judge(section)?;
+        self.course_if_accepted(section)
     }
-    Course::Taken(!starts_afresh(begun, version, last, section))
-}
-
-// What a section that the judge accepts does to a roll with these fields.
-fn course_if_accepted(begun: bool, kept: SubTable, version: u8, last: u8, section: &[u8]) -> Course
-    ensures { told_course result ≡ course_if_accepted begun kept version last section.now }
-{
-    if has_no_sub_table(section) {
-        return Course::Refused(Answer::NoSubTable);
-    }
-    if is_another(begun, kept, section) {
-        return Course::Refused(Answer::AnotherSubTable);
-    }
-    if is_current(section) {
-        return course_if_current(begun, version, last, section);
-    }
-    Course::Refused(Answer::NotCurrent)
-}
-
-// What a section does to a roll with these fields. It looks at no mark.
-pub fn course_of(begun: bool, kept: SubTable, version: u8, last: u8, section: &[u8]) -> Course
-    ensures { told_course result ≡ course_of begun kept version last section.now }
-{
-    let verdict = section::judge::judge(section);
-    if verdict::is_accepted(verdict) {
-        return course_if_accepted(begun, kept, version, last, section);
-    }
-    Course::Refused(Answer::Refused(verdict))
 }
 
 // The segment that a section stands in, after it.
+#[tactic(auto, unfolding(crate::specs::Roll::segment_after))]
 pub fn segment_after(segment: Segment, section: &[u8]) -> Segment
     ensures { result ≡ segment_after segment section.now }
 {
@@ -105,47 +96,38 @@ pub fn segment_after(segment: Segment, section: &[u8]) -> Segment
 }
 
 // The marks after a section.
+#[tactic(auto, using(crate::proofs::Outcomes::marked_by_segment), unfolding(crate::specs::Marks::segment_at))]
 fn marked_by(marks: Marks, section: &[u8]) -> Marks
     ensures { result ≡ marked_by marks section.now }
 {
     let at = (number_of(section) / 8) as usize;
-    let segments = marks.segments;
-    let kept = segments[at];
     let mut after = marks;
-    after.segments[at] = segment_after(kept, section);
+    after.segments[at] = segment_after(marks.segments[at], section);
     after
 }
 
 // The roll in which this section alone has come.
+#[tactic(auto, unfolding(crate::specs::Roll::begun_with))]
 pub fn begun_with(section: &[u8]) -> Roll
     ensures { result ≡ begun_with section.now }
 {
-    let sub_table = sub_table_of(section);
-    let version = version_of(section);
-    let last = last_of(section);
-    let marks = marked_by(no_marks(), section);
     Roll {
         begun: true,
-        sub_table,
-        version,
-        last,
-        marks,
+        sub_table: sub_table_of(section),
+        version: version_of(section),
+        last: last_of(section),
+        marks: marked_by(no_marks(), section),
     }
 }
 
 // The roll in which this section has come too.
+#[tactic(auto, unfolding(crate::specs::Roll::continued))]
 pub fn with_section(roll: Roll, section: &[u8]) -> Roll
     ensures { result ≡ continued roll section.now }
 {
-    let kept = roll.marks;
-    let marks = marked_by(kept, section);
-    let sub_table = roll.sub_table;
     Roll {
-        begun: roll.begun,
-        sub_table,
-        version: roll.version,
-        last: roll.last,
-        marks,
+        marks: marked_by(roll.marks, section),
+        ..roll
     }
 }
 
@@ -153,6 +135,8 @@ pub fn with_section(roll: Roll, section: &[u8]) -> Roll
 pub fn answered_by(roll: Roll) -> Step
     ensures { heard result ≡ answering roll }
 {
-    let answer = crate::ask(roll);
-    Step { roll, answer }
+    Step {
+        roll,
+        answer: Ok(crate::ask(roll)),
+    }
 }

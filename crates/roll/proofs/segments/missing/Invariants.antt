@@ -1,15 +1,11 @@
 -- `roll::segments::missing` meets its contract: the smallest from segment `k` on is the smallest of all, while nothing of
 -- the segments before is missing.
-use Prim.Native.Nat.{◌+◌, ◌-◌, ◌*◌, ◌≤◌}
+use Prim.Native.Nat.{◌+◌, ◌-◌, ◌*◌}
 use mathlib.Core.Path.{◌≡◌}
 use Rattle.roll.specs.Marks.{smallest}
 use Rattle.roll.proofs.Turns.{counted}
 use Rattle.roll.proofs.segments.missing.Given as goal
 
 abbrev pub invariant-loop-k : goal.invariant-loop-k
-invariant-loop-k l = (l.k ≤ 32)
-    × (smallest (counted l.schedule (record { segments = l.segments }) l.last) (l.last + 1 - l.k * 8) (l.k * 8)
-    ≡ smallest (counted l.schedule (record { segments = l.segments }) l.last) (l.last + 1) 0)
-
-abbrev pub decreases-loop-k : goal.decreases-loop-k
-decreases-loop-k l = 32 - l.k
+invariant-loop-k l = smallest (counted l.schedule l.marks l.last) (l.last + 1 - l.k * 8) (l.k * 8)
+    ≡ smallest (counted l.schedule l.marks l.last) (l.last + 1) 0
