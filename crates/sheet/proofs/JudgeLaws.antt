@@ -9,11 +9,15 @@ use borrow.Author.Tests.{lt-ltb, le-ltb, le-leb}
 use lib.ListN.{length, get_or, drop, length-drop}
 use lib.Seq.{drop-length}
 use lib.Dec.{ltb}
-use Rattle.std.specs.Prelude.{if◌then◌else◌}
+use Rattle.std.specs.Prelude.{if◌then◌else◌, Option, Some, None, Result, Ok, Err, ok_or}
+use Rattle.std.specs.Result.{IsErrAnd}
+use Rattle.std.proofs.lemmas.Result.{err_from_is_err_and}
 use Rattle.wire.specs.Bytes.{Bytes}
 use Rattle.wire.specs.Number.{number_at}
 use Rattle.wire.specs.Reading.{Reading, value, refused, ◌>>=◌}
-use Rattle.tables.specs.Tables.{cell, row_of, row_at}
+use Rattle.tables.specs.Tables.{cell, row_of, row_at, place, place_or_unknown}
+use Rattle.tables.specs.declared.Table.{Table}
+use Rattle.tables.specs.declared.Table.TheVariants.{Nit, Sdt, Bat, Eit, Tdt, Tot}
 use Rattle.forms.specs.Form.{Form, raw_read, raw, such_read}
 use Rattle.forms.specs.Room.{sum}
 use Rattle.forms.specs.Fields.{Field, sheet_field}
@@ -23,11 +27,15 @@ use Rattle.forms.proofs.Puts.{sum_fits, sum_past}
 use Rattle.sheet.specs.Content.{Content}
 use Rattle.sheet.specs.Sheet.{behind_for, behind_id, sheet_read, read_for, sheet_of}
 use Rattle.sheet.specs.Section.{section_length, read_sheet, read_sheet_for}
-use Rattle.sheet.specs.Reads.{judged_for, judged_sheet}
-use Rattle.sheet.specs.Inner.Places.{Ends, Known}
+use Rattle.sheet.specs.Reads.{Judged, told, told_refusal, judged_for, judged_sheet}
+use Rattle.sheet.specs.Inner.Places.{Ends, Known, Reached, Follows, number_of}
 use Rattle.sheet.specs.Inner.Lengths.{cut, gain, count_at, spare, length_by, judged_length}
 use Rattle.sheet.proofs.SheetLaws.{sheet_lawful}
 use Rattle.sheet.proofs.Sizes.{section_spare}
+use Rattle.sheet.proofs.ReadLaws.{told_so}
+use Rattle.sheet.specs.declared.Fault.{Fault}
+use Rattle.sheet.specs.declared.Refusal.{Refusal}
+use Rattle.sheet.specs.declared.Refusal.TheVariants.{Unknown}
 
 -- ---- the table_id
 
@@ -167,29 +175,64 @@ module _ (a : ℕ) (t : List ℕ) (known : row_of a < 6) (bytes : Bytes (a ∷ t
 
 -- ---- as the judge knows it
 
-module _ (row : ℕ) where
-  pub judged_refused : (s : List ℕ) (k : ℕ) → Known s row → (behind_id row).read (drop 1 s) ≡ refused k
+place_known : (t : Table) → place t < 6
+place_known Nit = omega arith
+place_known Sdt = omega arith
+place_known Bat = omega arith
+place_known Eit = omega arith
+place_known Tdt = omega arith
+place_known Tot = omega arith
+
+module _ (t : Table) where
+  refused_at : (s : List ℕ) (k : ℕ) → Known s (place t) → (behind_id (place t)).read (drop 1 s) ≡ refused k
       → judged_sheet s ≡ refused k
-  judged_refused [] k h e = let l = h.there in absurd (omega arith)
-  judged_refused (a ∷ t) k h e =
+  refused_at [] k h e = let l = h.there in absurd (omega arith)
+  refused_at (a ∷ s) k h e =
       let i = h.has in
-      let j = h.known in
-      refused_behind a t (omega arith) k (subst (λ n. (behind_id n).read t ≡ refused k) (sym i) e)
+      refused_behind a s (omega (arith, place_known t)) k (subst (λ n. (behind_id n).read s ≡ refused k) (sym i) e)
 
-  pub judged_after : (s : List ℕ) {e : ℕ} → Known s row → Ends (behind_id row) s 1 e → e < length s
-      → judged_sheet s ≡ refused 25
-  judged_after [] h p g = let l = h.there in absurd (omega arith)
-  judged_after (a ∷ t) {e} h p g =
-      let i = h.has in
-      let j = h.known in
-      read_after a t (omega arith) e (subst (λ n. Ends (behind_id n) (a ∷ t) 1 e) (sym i) p) g
+  pub judged_refused : (s : List ℕ) {x : Reached} {f : Fault} → Known s (place t) → x ≡ Err f → Follows (behind_id (place t)) s 1 x
+      → (r : Judged) → IsErrAnd r (λ e. told_refusal e ≡ refused (number_of f)) → told r ≡ judged_sheet s
+  judged_refused s {f = f} h e p r g =
+      let w = err_from_is_err_and r g in
+      ap told w.1 ∙ w.2 ∙ sym (refused_at s (number_of f) h ((told_so e p).onward h.there))
 
-  pub judged_whole : (s : List ℕ) {e : ℕ} → Known s row → Ends (behind_id row) s 1 e → length s ≤ e
-      → judged_sheet s ≡ judged_length (row_at row).most (length_by row s)
-  judged_whole [] h p g = let l = h.there in absurd (omega arith)
-  judged_whole (a ∷ t) {e} h p g =
+  pub judged_after : (s : List ℕ) {x : Reached} {e : ℕ} → Known s (place t) → x ≡ Ok e → Follows (behind_id (place t)) s 1 x
+      → e < length s → judged_sheet s ≡ refused 25
+  judged_after [] h q p g = let l = h.there in absurd (omega arith)
+  judged_after (a ∷ s) {e = e} h q p g =
       let i = h.has in
-      let j = h.known in
-      let w = p.within in
-      whole_sheet a t (omega arith) h.bytes e (subst (λ n. Ends (behind_id n) (a ∷ t) 1 e) (sym i) p) (omega arith)
-      ∙ ap (λ n. judged_length (row_at n).most (length_by n (a ∷ t))) i
+      read_after a s (omega (arith, place_known t)) e
+      (subst (λ n. Ends (behind_id n) (a ∷ s) 1 e) (sym i) ((told_so q p).onward h.there)) g
+
+  pub judged_whole : (s : List ℕ) {x : Reached} {e : ℕ} → Known s (place t) → Bytes s → x ≡ Ok e
+      → Follows (behind_id (place t)) s 1 x → length s ≤ e
+      → judged_sheet s ≡ judged_length (row_at (place t)).most (length_by (place t) s)
+  judged_whole [] h b q p g = let l = h.there in absurd (omega arith)
+  judged_whole (a ∷ s) {e = e} h b q p g =
+      let i = h.has in
+      let j : Ends (behind_id (place t)) (a ∷ s) 1 e = (told_so q p).onward h.there in
+      let w = j.within in
+      whole_sheet a s (omega (arith, place_known t)) b e (subst (λ n. Ends (behind_id n) (a ∷ s) 1 e) (sym i) j) (omega arith)
+      ∙ ap (λ n. judged_length (row_at n).most (length_by n (a ∷ s))) i
+
+-- ---- by what its table_id is
+
+known_row : (o : Option Table) {t : Table} → ok_or o Unknown ≡ Ok t → place_or_unknown o ≡ place t
+known_row None e = absurd (cc)
+known_row (Some u) e = cc
+
+unknown_row : (o : Option Table) {e : Refusal} → ok_or o Unknown ≡ Err e → (place_or_unknown o ≡ 6) × (told_refusal e ≡ refused 23)
+unknown_row None e = (refl, cc)
+unknown_row (Some u) e = absurd (cc)
+
+module _ (s : List ℕ) (o : Option Table) (there : length s ≡ 0 → ⊥) (is : place_or_unknown o ≡ row_of (get_or s 0 0)) where
+  pub judged_unlisted : {x : Result Table Refusal} {e : Refusal} → x ≡ ok_or o Unknown → x ≡ Err e
+      → (r : Judged) → IsErrAnd r (λ k. k ≡ e) → told r ≡ judged_sheet s
+  judged_unlisted p q r h =
+      let w = err_from_is_err_and r h in
+      let u = unknown_row o (sym p ∙ q) in
+      ap told w.1 ∙ ap told_refusal w.2 ∙ u.1 ∙ sym (judged_unknown sheet_field s (omega arith) (omega arith))
+
+  pub listed : {x : Result Table Refusal} {t : Table} → x ≡ ok_or o Unknown → x ≡ Ok t → Known s (place t)
+  listed p q = record { there = omega arith; has = sym is ∙ known_row o (sym p ∙ q) }

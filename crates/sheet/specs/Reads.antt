@@ -1,20 +1,28 @@
 -- What the judge of sheets says.
-use Rattle.std.specs.Prelude.{ℕ, List}
+use Rattle.std.specs.Prelude.{ℕ, List, Result, Ok, Err}
 use Rattle.wire.specs.Reading.{Reading, value, refused, ◌>>=◌}
 use Rattle.forms.specs.Form.{Form}
 use Rattle.forms.specs.Fields.{Field, sheet_field}
 use Rattle.sheet.specs.Section.{section_length, read_sheet_for}
-use Rattle.sheet.specs.declared.Judged.{Judged}
-use Rattle.sheet.specs.declared.Judged.TheVariants.{Fits, Early, Unknown, Wide, After, Long}
+use Rattle.sheet.specs.declared.Refusal.{Refusal}
+use Rattle.sheet.specs.declared.Refusal.TheVariants.{Early, Unknown, Wide, After, Long}
 
--- document 01's number for every answer; of a sheet that is accepted, the section_length that its section has
+-- the section_length that a sheet's section has, or why it is none
+abbrev pub Judged : Type 0
+Judged = Result ℕ Refusal
+
+-- document 01's number for every refusal
+abbrev pub told_refusal : Refusal → Reading ℕ
+told_refusal Early = refused 22
+told_refusal Unknown = refused 23
+told_refusal Wide = refused 24
+told_refusal After = refused 25
+told_refusal Long = refused 26
+
+-- and for every answer; of a sheet that is accepted, the section_length that its section has
 abbrev pub told : Judged → Reading ℕ
-told (Fits n) = value n
-told Early = refused 22
-told Unknown = refused 23
-told Wide = refused 24
-told After = refused 25
-told Long = refused 26
+told (Ok n) = value n
+told (Err r) = told_refusal r
 
 -- "22 to 24 as read left to right, 25, 26"
 unfoldable pub judged_for : (Field → Form ℕ) → List ℕ → Reading ℕ

@@ -2,18 +2,20 @@
 #![tactic(auto)]
 
 ghost use Rattle.std.specs.Prelude.{◌≡◌};
-ghost use Rattle.sheet.specs.Reads.{told, judged_sheet};
-ghost use Rattle.sheet.specs.Inner.Places.{Known};
+ghost use Rattle.wire.specs.Reading.{refused};
+ghost use Rattle.tables.specs.Tables.{place};
+ghost use Rattle.sheet.specs.Reads.{told, told_refusal, judged_sheet};
+ghost use Rattle.sheet.specs.Inner.Places.{Known, number_of};
 ghost use Rattle.sheet.specs.Inner.Lengths.{judged_length};
+
+use tables::{Table, table_of};
 
 mod read;
 mod size;
 
-// What is said of a sheet.
-#[derive(Clone, Copy)]
-pub enum Judged {
-    // The section_length of its section.
-    Fits(usize),
+// Why bytes are no sheet.
+#[derive(Clone, Copy, PartialEq, Eq, Debug)]
+pub enum Refusal {
     // 22: the sheet ends early.
     Early,
     // 23: table_id unknown.
@@ -26,52 +28,55 @@ pub enum Judged {
     Long,
 }
 
-// How a reading from a place of a sheet ended: the place behind what was read, 22 or 24.
+// Of a sheet the section_length of its section.
+pub type Judged = Result<usize, Refusal>;
+
+// Why reading from left to right stopped: 22 or 24.
 #[derive(Clone, Copy)]
-enum End {
-    At(usize),
+enum Fault {
     EndsEarly,
     TooWide,
+}
+
+impl From<Fault> for Refusal {
+    ghost from_gives = { λ fault refusal. told_refusal refusal ≡ refused (number_of fault) };
+
+    fn from(fault: Fault) -> Refusal {
+        match fault {
+            Fault::EndsEarly => Refusal::Early,
+            Fault::TooWide => Refusal::Wide,
+        }
+    }
 }
 
 fn judge_length(most: usize, n: usize) -> Judged
     ensures { told result ≡ judged_length most n }
 {
     if most < n {
-        return Judged::Long;
+        return Err(Refusal::Long);
     }
-    Judged::Fits(n)
+    Ok(n)
 }
 
 // A sheet whose table_id is in the table.
-fn judge_known(sheet: &[u8], row: usize) -> Judged
-    requires { Known sheet.now row }
+fn judge_known(sheet: &[u8], table: Table) -> Judged
+    requires { Known sheet.now (place table) }
     ensures { told result ≡ judged_sheet sheet.now }
 {
-    let table = tables::row_at(row);
-    let end = read::behind_id(sheet, End::At(1), row, table.top);
-    match end {
-        End::At(e) => {
-            if e < sheet.len() {
-                return Judged::After;
-            }
-            judge_length(table.most, size::section_length(sheet, row))
-        }
-        End::EndsEarly => Judged::Early,
-        End::TooWide => Judged::Wide,
+    let end = read::behind_id(sheet, 1, table)?;
+    if end < sheet.len() {
+        return Err(Refusal::After);
     }
+    judge_length(table.row().most, size::section_length(sheet, table))
 }
 
 // "22 to 24 as read left to right, 25, 26"
 pub fn judge(sheet: &[u8]) -> Judged
     ensures { told result ≡ judged_sheet sheet.now }
 {
-    if sheet.len() == 0 {
-        return Judged::Early;
+    if sheet.is_empty() {
+        return Err(Refusal::Early);
     }
-    let row = tables::row_of(sheet[0]);
-    if tables::UNKNOWN <= row {
-        return Judged::Unknown;
-    }
-    judge_known(sheet, row)
+    let table = table_of(sheet[0]).ok_or(Refusal::Unknown)?;
+    judge_known(sheet, table)
 }

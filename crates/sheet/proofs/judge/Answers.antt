@@ -1,27 +1,18 @@
 -- `sheet::judge` meets its contract.
-use native.Mathlib.Omega.{arith}
-use mathlib.Core.Path.{sym, subst}
-use Prim.Native.Nat.{◌≤◌}
-use Rattle.forms.specs.Fields.{sheet_field}
-use Rattle.sheet.proofs.JudgeLaws.{judged_empty, judged_unknown}
+use mathlib.Core.Path.{sym, ◌∙◌}
+use borrow.Author.Tests.{eqb-true, eqb-false}
+use Rattle.sheet.proofs.JudgeLaws.{judged_empty, judged_unlisted, listed}
 use Rattle.sheet.proofs.judge.Goals as goal
 
-pub returns-then-sheet-eq0 : goal.returns-then-sheet-eq0
-returns-then-sheet-eq0 c = sym (judged_empty c.args.sheet.now c.if-sheet-eq0.true)
+pub returns-then-is_empty : goal.returns-then-is_empty
+returns-then-is_empty c = sym (judged_empty c.args.sheet.now (eqb-true _ _ (sym c.is_empty.ensures ∙ c.if-is_empty.true)))
 
-pub returns-then-row-ge-UNKNOWN : goal.returns-then-row-ge-UNKNOWN
-returns-then-row-ge-UNKNOWN c =
-    sym (judged_unknown sheet_field c.args.sheet.now
-    (omega (arith, c.if-sheet-eq0)) (subst (λ n. 6 ≤ n) c.row_of-row.ensures c.if-row-ge-UNKNOWN.true))
+pub returns-in_err-table : goal.returns-in_err-table
+returns-in_err-table c =
+    judged_unlisted c.args.sheet.now c.table_of.result (eqb-false _ _ (sym c.is_empty.ensures ∙ c.if-is_empty.false)) c.table_of.ensures
+    c.ok_or.ensures.value c.in_err-table.was _ c.from_residual.ensures.1
 
 pub judge_known-requires : goal.judge_known-requires
 judge_known-requires c =
-    record {
-      there = omega (arith, c.if-sheet-eq0);
-      has = sym c.row_of-row.ensures;
-      known = omega (arith, c.if-row-ge-UNKNOWN);
-      bytes = λ i. omega (arith, c.shared_slice_known-1.given i);
-    }
-
-pub returns : goal.returns
-returns c = c.judge_known.ensures
+    listed c.args.sheet.now c.table_of.result (eqb-false _ _ (sym c.is_empty.ensures ∙ c.if-is_empty.false)) c.table_of.ensures
+    c.ok_or.ensures.value c.in_ok-table.was

@@ -1,14 +1,17 @@
 -- `sheet::read::descriptors` meets its contract.
-use Rattle.forms.specs.Lists.{counted}
+use native.Mathlib.Omega.{arith}
 use Rattle.sheet.specs.Sheet.{descriptor}
-use Rattle.sheet.proofs.ReadLaws.{follows_on, still_early, still_wide}
+use Rattle.sheet.proofs.ReadLaws.{follows_counted, follows_early}
 use Rattle.sheet.proofs.read.descriptors.Goals as goal
 
-pub returns-in-At : goal.returns-in-At
-returns-in-At c = follows_on (counted descriptor) c.in-At.is c.descriptors_at.ensures
+pub returns-then-less-lt2 : goal.returns-then-less-lt2
+returns-then-less-lt2 c =
+    let args = c.args in
+    follows_early descriptor args.s.now args.at (omega (arith, c.less.ensures))
 
-pub returns-in-EndsEarly : goal.returns-in-EndsEarly
-returns-in-EndsEarly c = still_early (counted descriptor) c.in-EndsEarly.is
-
-pub returns-in-TooWide : goal.returns-in-TooWide
-returns-in-TooWide c = still_wide (counted descriptor) c.in-TooWide.is
+pub returns : goal.returns
+returns c =
+    let less = c.less in
+    let args = c.args in
+    follows_counted descriptor args.s.now args.at (omega (arith, less.ensures))
+    c.number16_at-count.ensures c.descriptors_times.ensures

@@ -1,26 +1,16 @@
 -- `sheet::read::descriptors_times` meets its contract.
-use native.Mathlib.Omega.{arith}
-use Rattle.sheet.specs.Sheet.{descriptor}
-use Rattle.sheet.proofs.ReadLaws.{item_on, item_early, item_wide, items_done}
+use Rattle.sheet.proofs.ReadLaws.{all_left, item_on, item_stopped, items_done}
 use Rattle.sheet.proofs.read.descriptors_times.Goals as goal
 
-pub loop-left-init : goal.loop-left-init
-loop-left-init c = λ r h. h
+pub loop-init : goal.loop-init
+loop-init c = all_left _
 
-pub returns-in-EndsEarly : goal.returns-in-EndsEarly
-returns-in-EndsEarly c =
-    item_early descriptor c.loop-left.invariant c.loop-left-test.true c.in-EndsEarly.is
-    c.descriptor_at-end.ensures
+pub returns-in_err-p : goal.returns-in_err-p
+returns-in_err-p c =
+    item_stopped _ c.loop.invariant c.loop-test.true c.in_err-p.was c.from_residual.ensures.1 c.descriptor.ensures
 
-pub returns-in-TooWide : goal.returns-in-TooWide
-returns-in-TooWide c =
-    item_wide descriptor c.loop-left.invariant c.loop-left-test.true c.in-TooWide.is
-    c.descriptor_at-end.ensures
-
-pub loop-left-preserved : goal.loop-left-preserved
-loop-left-preserved c =
-    item_on descriptor c.loop-left.invariant c.loop-left-test.true c.in-At.is
-    c.descriptor_at-end.ensures
+pub loop-preserved : goal.loop-preserved
+loop-preserved c = item_on _ c.loop.invariant c.loop-test.true c.in_ok-p.was c.descriptor.ensures
 
 pub returns : goal.returns
-returns c = items_done descriptor c.loop-left.invariant (omega (arith, c.loop-left-test.false))
+returns c = items_done _ c.loop.invariant c.loop-test.false

@@ -1,12 +1,27 @@
 -- `sheet::read::entries` meets its contract.
-use Rattle.sheet.proofs.ReadLaws.{follows_on, still_early, still_wide}
+use Prim.Native.Nat.{ℕ}
+use native.Mathlib.Omega.{arith}
+use Rattle.tables.specs.Tables.{place}
+use Rattle.tables.proofs.RowLaws.{numbered_below, unnumbered_from}
+use Rattle.sheet.proofs.ReadLaws.{follows_counted, follows_early, entries_none, entries_some}
 use Rattle.sheet.proofs.read.entries.Goals as goal
 
-pub returns-in-At : goal.returns-in-At
-returns-in-At c = follows_on _ c.in-At.is c.entries_at.ensures
+pub returns-then-not-is_numbered : goal.returns-then-not-is_numbered
+returns-then-not-is_numbered c =
+    let row : ℕ = place c.args.table in
+    entries_none row (unnumbered_from row c.is_numbered.ensures c.if-not-is_numbered.true)
 
-pub returns-in-EndsEarly : goal.returns-in-EndsEarly
-returns-in-EndsEarly c = still_early _ c.in-EndsEarly.is
+pub returns-then-less-lt2 : goal.returns-then-less-lt2
+returns-then-less-lt2 c =
+    let row : ℕ = place c.args.table in
+    let args = c.args in
+    entries_some row _ (numbered_below row c.is_numbered.ensures c.if-not-is_numbered.false)
+    (follows_early _ args.s.now args.at (omega (arith, c.less.ensures)))
 
-pub returns-in-TooWide : goal.returns-in-TooWide
-returns-in-TooWide c = still_wide _ c.in-TooWide.is
+pub returns : goal.returns
+returns c =
+    let row : ℕ = place c.args.table in
+    let args = c.args in
+    let less = c.less in
+    entries_some row _ (numbered_below row c.is_numbered.ensures c.if-not-is_numbered.false)
+    (follows_counted _ args.s.now args.at (omega (arith, less.ensures)) c.number16_at-count.ensures c.entries_times.ensures)

@@ -1,22 +1,16 @@
 -- `sheet::read::entries_times` meets its contract.
-use native.Mathlib.Omega.{arith}
-use Rattle.sheet.proofs.ReadLaws.{item_on, item_early, item_wide, items_done}
+use Rattle.sheet.proofs.ReadLaws.{all_left, item_on, item_stopped, items_done}
 use Rattle.sheet.proofs.read.entries_times.Goals as goal
 
-pub loop-k-init : goal.loop-k-init
-loop-k-init c = λ r h. h
+pub loop-init : goal.loop-init
+loop-init c = all_left _
 
-pub returns-in-EndsEarly : goal.returns-in-EndsEarly
-returns-in-EndsEarly c =
-    item_early _ c.loop-k.invariant c.loop-k-test.true c.in-EndsEarly.is c.entry-end.ensures
+pub returns-in_err-p : goal.returns-in_err-p
+returns-in_err-p c =
+    item_stopped _ c.loop.invariant c.loop-test.true c.in_err-p.was c.from_residual.ensures.1 c.entry.ensures
 
-pub returns-in-TooWide : goal.returns-in-TooWide
-returns-in-TooWide c =
-    item_wide _ c.loop-k.invariant c.loop-k-test.true c.in-TooWide.is c.entry-end.ensures
-
-pub loop-k-preserved : goal.loop-k-preserved
-loop-k-preserved c =
-    item_on _ c.loop-k.invariant c.loop-k-test.true c.in-At.is c.entry-end.ensures
+pub loop-preserved : goal.loop-preserved
+loop-preserved c = item_on _ c.loop.invariant c.loop-test.true c.in_ok-p.was c.entry.ensures
 
 pub returns : goal.returns
-returns c = items_done _ c.loop-k.invariant (omega (arith, c.loop-k-test.false))
+returns c = items_done _ c.loop.invariant c.loop-test.false

@@ -1,24 +1,31 @@
--- `sheet::read::head` meets its contract, row by row.
-use Rattle.tables.proofs.RowLaws.{numbered_below, unnumbered_from}
-use Rattle.sheet.proofs.ReadLaws.{head_time, head_alone, head_service, head_event}
+-- `sheet::read::head` meets its contract.
+use Rattle.sheet.specs.Content.{plain}
+use Rattle.sheet.specs.Sheet.{sheet_item}
+use Rattle.sheet.proofs.ReadLaws.{follows_one, head_alone, head_on, head_stopped, filler_none, items_are, stream_head, service_head, event_head, time_head}
 use Rattle.sheet.proofs.read.head.Goals as goal
 
-pub returns-then-not-is_numbered : goal.returns-then-not-is_numbered
-returns-then-not-is_numbered c =
-    let row = c.args.row in
-    head_time row (unnumbered_from row c.is_numbered.ensures c.if-not-is_numbered.true)
-    c.requires c.plain.ensures
+pub returns-in-Nit : goal.returns-in-Nit
+returns-in-Nit c = items_are (stream_head c.args.table c.in-Nit.is) (head_alone _ c.common.ensures)
 
-pub returns-then-row-eq-SDT : goal.returns-then-row-eq-SDT
-returns-then-row-eq-SDT c =
-    head_service c.args.row c.if-row-eq-SDT.true c.common-end.ensures c.plain-then-row-eq-SDT.ensures
+pub returns-in_err-network-in-Sdt : goal.returns-in_err-network-in-Sdt
+returns-in_err-network-in-Sdt c =
+    items_are (service_head c.args.table c.in-Sdt.is)
+    (head_stopped _ c.in_err-network-in-Sdt.was c.from_residual.ensures.1 c.common-in-Sdt.ensures)
 
-pub returns-then-row-eq-EIT : goal.returns-then-row-eq-EIT
-returns-then-row-eq-EIT c =
-    head_event c.args.row c.if-row-eq-EIT.true c.common-end.ensures c.plain-then-row-eq-EIT.ensures
+pub returns-in_ok-network-in-Sdt : goal.returns-in_ok-network-in-Sdt
+returns-in_ok-network-in-Sdt c =
+    items_are (service_head c.args.table c.in-Sdt.is)
+    (head_on _ c.in_ok-network-in-Sdt.was c.common-in-Sdt.ensures (filler_none _ c.plain.ensures))
 
-pub returns : goal.returns
-returns c =
-    let row = c.args.row in
-    head_alone row (numbered_below row c.is_numbered.ensures c.if-not-is_numbered.false)
-    c.if-row-eq-SDT.false c.if-row-eq-EIT.false c.common-end.ensures
+pub returns-in_err-stream-in-Eit : goal.returns-in_err-stream-in-Eit
+returns-in_err-stream-in-Eit c =
+    items_are (event_head c.args.table c.in-Eit.is)
+    (head_stopped _ c.in_err-stream-in-Eit.was c.from_residual-in_err-stream-in-Eit.ensures.1 c.common-in-Eit.ensures)
+
+pub returns-in_ok-stream-in-Eit : goal.returns-in_ok-stream-in-Eit
+returns-in_ok-stream-in-Eit c =
+    items_are (event_head c.args.table c.in-Eit.is)
+    (head_on _ c.in_ok-stream-in-Eit.was c.common-in-Eit.ensures (follows_one sheet_item (plain 6) _ c.plain-in-Eit.ensures))
+
+pub returns-in-Tdt : goal.returns-in-Tdt
+returns-in-Tdt c = items_are (time_head c.args.table c.in-Tdt.is) (follows_one sheet_item (plain 5) _ c.plain-in-Tdt.ensures)

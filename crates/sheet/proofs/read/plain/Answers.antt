@@ -1,14 +1,14 @@
 -- `sheet::read::plain` meets its contract.
-use Rattle.forms.specs.Form.{raw}
-use Rattle.sheet.proofs.ReadLaws.{follows_on, still_early, still_wide}
+use native.Mathlib.Omega.{arith}
+use Rattle.sheet.proofs.ReadLaws.{reads_raw, early_raw}
 use Rattle.sheet.proofs.read.plain.Goals as goal
 
-pub returns-in-At : goal.returns-in-At
-returns-in-At c =
-    follows_on (raw c.args.n) c.in-At.is c.plain_at.ensures
+pub returns-then-less-n : goal.returns-then-less-n
+returns-then-less-n c =
+    let args = c.args in
+    early_raw args.s.now args.at args.n (omega (arith, c.less.ensures))
 
-pub returns-in-EndsEarly : goal.returns-in-EndsEarly
-returns-in-EndsEarly c = still_early (raw c.args.n) c.in-EndsEarly.is
-
-pub returns-in-TooWide : goal.returns-in-TooWide
-returns-in-TooWide c = still_wide (raw c.args.n) c.in-TooWide.is
+pub returns : goal.returns
+returns c =
+    let args = c.args in
+    reads_raw args.s.now args.at args.n (omega (arith, c.less.ensures))

@@ -1,14 +1,21 @@
 -- `sheet::read::section_numbers` meets its contract.
-use Rattle.sheet.specs.Content.{numbers}
-use Rattle.sheet.specs.Sheet.{sheet_item}
-use Rattle.sheet.proofs.ReadLaws.{follows_on, still_early, still_wide}
+use native.Mathlib.Omega.{arith}
+use Rattle.sheet.proofs.ReadLaws.{reads_numbers, wide_numbers, early_numbers}
 use Rattle.sheet.proofs.read.section_numbers.Goals as goal
 
-pub returns-in-At : goal.returns-in-At
-returns-in-At c = follows_on (sheet_item numbers) c.in-At.is c.section_numbers_at.ensures
+pub returns-then-less-lt2 : goal.returns-then-less-lt2
+returns-then-less-lt2 c =
+    let args = c.args in
+    early_numbers args.s.now args.at (omega (arith, c.less.ensures))
 
-pub returns-in-EndsEarly : goal.returns-in-EndsEarly
-returns-in-EndsEarly c = still_early (sheet_item numbers) c.in-EndsEarly.is
+pub returns-then-last-first : goal.returns-then-last-first
+returns-then-last-first c =
+    let less = c.less in
+    let args = c.args in
+    wide_numbers args.s.now args.at (omega (arith, less.ensures)) c.if-last-first.true
 
-pub returns-in-TooWide : goal.returns-in-TooWide
-returns-in-TooWide c = still_wide (sheet_item numbers) c.in-TooWide.is
+pub returns : goal.returns
+returns c =
+    let less = c.less in
+    let args = c.args in
+    reads_numbers args.s.now args.at (omega (arith, less.ensures)) (omega (arith, c.if-last-first))
