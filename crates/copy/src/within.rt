@@ -18,17 +18,15 @@ pub fn few(room: &mut [u8], from: usize, n: usize, to: usize)
 
 // Down, the first block first. The last one ends where the bytes end and may begin in the block before it, so that it is
 // read before any is written.
-#[tactic(auto, using(crate::proofs::Moves::down_on, crate::proofs::Moves::down_ends))]
+#[tactic(auto, using(crate::proofs::Moves::down_on))]
 pub fn down(room: &mut [u8], from: usize, n: usize, to: usize)
     requires { (32 ≤ n) × (to ≤ from) × (from + n ≤ length room.old) }
     ensures { room.new ≡ paste room.old to (drop from room.old) n }
 {
     let mut last = [0u8; 32];
     last.copy_from_slice(&room[from + (n - 32)..from + n]);
-    let mut i = 0;
-    while 32 < n - i {
+    for i in (0..n - 32).step_by(32) {
         few(room, from + i, 32, to + i);
-        i += 32;
     }
     room[to + (n - 32)..to + n].copy_from_slice(&last);
 }
