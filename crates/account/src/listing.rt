@@ -8,23 +8,10 @@ fn line(rt: &impl Print, name: &[u8], n: u64) -> io::Result<()> {
     println!(rt; "{n}")
 }
 
-// An upper-case hexadecimal digit.
-fn digit(n: u16) -> u8 {
-    let d = (n % 16) as u8;
-    if d < 10 { 48 + d } else { 55 + d }
-}
-
 // "the PID, four upper-case hexadecimal digits"
 fn pid_line(rt: &impl Print, pid: u16) -> io::Result<()> {
     rt.write_all(b"PID ")?;
-    let digits = [
-        digit(pid / 4096),
-        digit(pid / 256),
-        digit(pid / 16),
-        digit(pid),
-        b'\n',
-    ];
-    rt.write_all(&digits)
+    println!(rt; "{pid:04X}")
 }
 
 // How the packets fared.
@@ -47,8 +34,7 @@ fn byte_lines(rt: &impl Print, a: Account) -> io::Result<()> {
 }
 
 pub fn print(rt: &impl Print, a: Account) -> io::Result<()> {
-    let rec = a.rec;
-    pid_line(rt, rec.pid)?;
+    pid_line(rt, a.rec.pid)?;
     packet_lines(rt, a)?;
     byte_lines(rt, a)?;
     line(rt, b"sections ", a.sections)

@@ -2,7 +2,8 @@
 // read.
 ghost use Rattle.std.specs.Prelude.{◌≡◌, ◌+◌, ◌<◌, ◌≤◌, length};
 ghost use Rattle.account.specs.Entered.{first_pid, kept_as};
-ghost use Rattle.account.specs.Heard.{start_progress, to_front, account_for, state_as, absorbed, last_piece, finished, heard_as, Fits, is_over, ended_of};
+ghost use Rattle.account.specs.Heard.{progress_as, start_progress, to_front, account_for, state_as, absorbed, last_piece, finished, heard_as, Fits, is_over, ended_of};
+ghost use Rattle.account.specs.declared.progress.Stage.TheVariants.{Reading};
 
 use crate::reading::{Got, OneRead};
 use crate::tally::Account;
@@ -17,7 +18,7 @@ pub enum Ended {
 }
 
 // Whether reading goes on, met the end of the input, or failed.
-#[derive(Clone, Copy)]
+#[derive(Clone, Copy, PartialEq, Eq)]
 pub enum Stage {
     Reading,
     Over,
@@ -34,18 +35,23 @@ pub struct Progress {
     stage: Stage,
 }
 
+// Reading goes on.
+fn going_on(begun: bool, left: usize, account: Account) -> Progress
+    ensures { result ≡ progress_as begun left account Reading }
+{
+    Progress {
+        begun,
+        left,
+        account,
+        stage: Stage::Reading,
+    }
+}
+
 // Before the first read.
 pub fn start() -> Progress
     ensures { result ≡ start_progress }
 {
-    let account = tally::fresh(0);
-    let stage = Stage::Reading;
-    Progress {
-        begun: false,
-        left: 0,
-        account,
-        stage,
-    }
+    going_on(false, 0, tally::fresh(0))
 }
 
 // The PID of the first 188 bytes, whatever they are.
@@ -57,15 +63,12 @@ fn first_pid(bytes: &[u8]) -> u16
 }
 
 // The n bytes from index from on go to the front, where none of them stands.
+#[tactic(auto, unfolding(copy::specs::Move::moved_down, copy::specs::Move::moves_down))]
 fn to_front(buf: &mut [u8], from: usize, n: usize)
     requires { (from + n ≤ length buf.old) × (n ≤ from) }
     ensures { buf.new ≡ to_front buf.old from n }
 {
-    let mut i = 0;
-    while i < n {
-        buf[i] = buf[from + i];
-        i += 1;
-    }
+    copy::move_down(buf, from, n, 0);
 }
 
 // The account so far, or a fresh one where the first packet has just come.
@@ -74,10 +77,10 @@ fn account_for(p: Progress, bytes: &[u8]) -> Account
     ensures { result ≡ account_for p bytes.now }
 {
     if p.begun {
-        let account = p.account;
-        return account;
+        p.account
+    } else {
+        tally::fresh(first_pid(bytes))
     }
-    tally::fresh(first_pid(bytes))
 }
 
 // The buffer's first n bytes have come, of which the first are those that were left.
@@ -87,24 +90,13 @@ fn absorb(p: Progress, buf: &mut [u8], hold: &mut [u8], out: &mut [u8], n: usize
         ≡ absorbed n (state_as p buf.old hold.old out.old) }
 {
     if n < 188 {
-        let account = p.account;
-        return Progress {
-            begun: p.begun,
-            left: n,
-            account,
-            stage: Stage::Reading,
-        };
+        return going_on(p.begun, n, p.account);
     }
     let a = account_for(p, buf);
     let account = tally::enter_all(a, hold, out, buf, n);
     let left = n % 188;
     to_front(buf, n - left, left);
-    Progress {
-        begun: true,
-        left,
-        account,
-        stage: Stage::Reading,
-    }
+    going_on(true, left, account)
 }
 
 // "A last piece under 188 bytes counts as refused (41)"
@@ -113,15 +105,10 @@ fn last_piece(p: Progress, buf: &[u8], hold: &mut [u8], out: &mut [u8]) -> Accou
     ensures { kept_as result hold.new out.new
         ≡ last_piece p buf.now hold.old out.old }
 {
-    let account = p.account;
-    if !p.begun {
-        return account;
+    if !p.begun || p.left == 0 {
+        return p.account;
     }
-    let left = p.left;
-    if left == 0 {
-        return account;
-    }
-    tally::enter(account, hold, out, &buf[..left])
+    tally::enter(p.account, hold, out, &buf[..p.left])
 }
 
 // The input is at its end.
@@ -132,10 +119,9 @@ fn finish(p: Progress, buf: &[u8], hold: &mut [u8], out: &mut [u8]) -> Progress
 {
     let account = last_piece(p, buf, hold, out);
     Progress {
-        begun: p.begun,
-        left: p.left,
         account,
         stage: Stage::Over,
+        ..p
     }
 }
 
@@ -151,21 +137,14 @@ pub fn heard(
     ensures { state_as result buf.new hold.new out.new
         ≡ heard_as came.got (state_as p buf.old hold.old out.old) }
 {
-    let got = reading::got_of(came);
-    let left = p.left;
-    match got {
-        Got::Bytes(n) => absorb(p, buf, hold, out, left + n),
+    match reading::got_of(came) {
+        Got::Bytes(n) => absorb(p, buf, hold, out, p.left + n),
         Got::Again => p,
         Got::End => finish(p, buf, hold, out),
-        Got::Failed => {
-            let account = p.account;
-            Progress {
-                begun: p.begun,
-                left,
-                account,
-                stage: Stage::Failed,
-            }
-        }
+        Got::Failed => Progress {
+            stage: Stage::Failed,
+            ..p
+        },
     }
 }
 
@@ -179,28 +158,16 @@ pub fn left_of(p: Progress) -> usize
 pub fn is_over(p: Progress) -> bool
     ensures { result ≡ is_over p.stage }
 {
-    let stage = p.stage;
-    match stage {
-        Stage::Reading => false,
-        Stage::Over => true,
-        Stage::Failed => true,
-    }
+    p.stage != Stage::Reading
 }
 
 // "input under 188 bytes prints only `no packets`"
 pub fn ending_of(p: Progress) -> Ended
     ensures { result ≡ ended_of p }
 {
-    let stage = p.stage;
-    match stage {
-        Stage::Reading => Ended::Failed,
-        Stage::Over => {
-            if !p.begun {
-                return Ended::NoPackets;
-            }
-            let account = p.account;
-            Ended::Account(account)
-        }
-        Stage::Failed => Ended::Failed,
+    match p.stage {
+        Stage::Over if p.begun => Ended::Account(p.account),
+        Stage::Over => Ended::NoPackets,
+        Stage::Reading | Stage::Failed => Ended::Failed,
     }
 }

@@ -4,7 +4,7 @@ ghost use Rattle.std.specs.Prelude.{◌≡◌, ◌/◌, ◌≤◌, length};
 ghost use Rattle.collector.specs.Answer.{told};
 ghost use Rattle.account.specs.Entered.{fresh_account, tallied, kept_as, entered, entered_all, pieces};
 
-use collector::{Answer, Record};
+use collector::{Answer, Passed, Record};
 
 #[derive(Clone, Copy)]
 pub struct Account {
@@ -19,9 +19,8 @@ pub struct Account {
 pub fn fresh(pid: u16) -> Account
     ensures { result ≡ fresh_account pid }
 {
-    let rec = collector::fresh(pid);
     Account {
-        rec,
+        rec: collector::fresh(pid),
         taken: 0,
         repeated: 0,
         refused: 0,
@@ -34,26 +33,21 @@ fn one_more(a: Account, rec: Record, answer: Answer) -> Account
     ensures { result ≡ tallied a rec (told answer) }
 {
     match answer {
-        Answer::Refused(_) => Account {
+        Err(_) => Account {
             rec,
-            taken: a.taken,
-            repeated: a.repeated,
-            refused: std::num::wrapping_add_u64(a.refused, 1),
-            sections: a.sections,
+            refused: a.refused.wrapping_add(1),
+            ..a
         },
-        Answer::Repeated => Account {
+        Ok(Passed::Repeated) => Account {
             rec,
-            taken: a.taken,
-            repeated: std::num::wrapping_add_u64(a.repeated, 1),
-            refused: a.refused,
-            sections: a.sections,
+            repeated: a.repeated.wrapping_add(1),
+            ..a
         },
-        Answer::Taken { sections, bytes: _ } => Account {
+        Ok(Passed::Taken { sections, bytes: _ }) => Account {
             rec,
-            taken: std::num::wrapping_add_u64(a.taken, 1),
-            repeated: a.repeated,
-            refused: a.refused,
-            sections: std::num::wrapping_add_u64(a.sections, sections as u64),
+            taken: a.taken.wrapping_add(1),
+            sections: a.sections.wrapping_add(sections as u64),
+            ..a
         },
     }
 }
@@ -63,11 +57,8 @@ pub fn enter(a: Account, hold: &mut [u8], out: &mut [u8], packet: &[u8]) -> Acco
     ensures { kept_as result hold.new out.new
         ≡ entered (kept_as a hold.old out.old) packet.now }
 {
-    let rec = a.rec;
-    let s = collector::step(rec, hold, out, packet);
-    let after = s.record;
-    let answer = s.answer;
-    one_more(a, after, answer)
+    let s = collector::step(a.rec, hold, out, packet);
+    one_more(a, s.record, s.answer)
 }
 
 // The whole packets among the first n bytes, one after another.

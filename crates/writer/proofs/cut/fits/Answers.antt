@@ -35,7 +35,7 @@ returns-then-left-size c =
     let l = c.loop-size in
     let a = c.args in
     elim c.then-left-size.branch [
-      then-left-size-via-then-left-size w ↦
+      | then-left-size-via-then-left-size w ↦
           too_short a.bytes.now a.sizes.now l.left.now l.size-index l.invariant (omega arith) w.if-left-size.true
       | then-left-size-via-else-left-size+then-not-can_go w ↦
           stays a.bytes.now a.sizes.now l.left.now l.size-index l.invariant (omega arith) w.if-left-size.false

@@ -20,7 +20,7 @@ returns c =
     let l = c.loop-next in
     let waiting : List ℕ = drop l.next c.args.sizes.now in
     let enough : ahead (l.left - c.args.n) waiting ≡ opened c.args.n l.left waiting = elim c.loop-next-test.branch [
-      then-loop-next-test+else-left-n w ↦ sym (opened_here c.args.n l.left waiting w.if-left-n.false)
+      | then-loop-next-test+else-left-n w ↦ sym (opened_here c.args.n l.left waiting w.if-left-n.false)
       | else-loop-next-test w ↦ none_waits c.args.n c.args.sizes.now l.left l.next w.loop-next-test.false
     ] in
     (ap (λ (m : ℕ). ahead m waiting) c.saturating_sub.ensures ∙ enough ∙ l.invariant.1, l.invariant.0)
