@@ -8,7 +8,7 @@ use lib.Dec.{eqb, ltb}
 use lib.ListN.{length, take, drop, get_or, set, length-set, get_or-append}
 use lib.Seq.{paste, length_paste_head, get_or-append-add, get_or-take, get_or-drop, length-take-le, get_or-set_same, get_or-set_other}
 use borrow.Author.Tests.{eqb-true, eqb-false, ltb-true, ltb-false}
-use Rattle.std.specs.Prelude.{if◌then◌else◌}
+use Rattle.std.specs.Prelude.{if◌then◌else◌, Option, None, Some}
 use Rattle.roll.specs.Marks.{blank, segment_at, has, unmarked, Whole}
 use Rattle.cabinet.specs.Numbers.{bit, is_set}
 use Rattle.cabinet.specs.Table.{table}
@@ -17,15 +17,13 @@ use Rattle.cabinet.specs.Inner.Rolls.{flags_kept, numbersOf, known_kept, ends_se
 use Rattle.cabinet.proofs.TableLaws.{table_long, table_at, table_is, table_same}
 use Rattle.roll.specs.declared.Marks.{Marks}
 use Rattle.roll.specs.declared.Segment.{Segment}
-use Rattle.roll.specs.declared.End.{End}
-use Rattle.roll.specs.declared.End.TheVariants.{Unknown, At}
 
 -- ---- marks by their numbers
 
-module _ (came : ℕ → Bool) (end : ℕ → End) where
+module _ (came : ℕ → Bool) (end : ℕ → Option ℕ) where
   pub segment_by_lem : (k : ℕ) → k < 32 → segment_at (marks_by came end) k ≡ segment_by came end k
   unfolding segment_at marks_by
-  segment_by_lem k h = table_at 32 (segment_by came end) k (record { end = Unknown; came = [] }) h
+  segment_by_lem k h = table_at 32 (segment_by came end) k (record { end = None; came = [] }) h
 
   pub has_by : (n : ℕ) → n < 256 → has (marks_by came end) n ≡ came n
   unfolding has segment_by
@@ -46,13 +44,13 @@ module _ (came : ℕ → Bool) (end : ℕ → End) where
   )
 
 -- two that agree on each number and each segment are the same marks
-pub marks_same : (came come : ℕ → Bool) (end ends : ℕ → End) → ((n : ℕ) → n < 256 → came n ≡ come n)
+pub marks_same : (came come : ℕ → Bool) (end ends : ℕ → Option ℕ) → ((n : ℕ) → n < 256 → came n ≡ come n)
     → ((k : ℕ) → k < 32 → end k ≡ ends k) → marks_by came end ≡ marks_by come ends
 unfolding marks_by segment_by
 marks_same came come end ends c e =
     ap (λ (l : List Segment). record { segments = l })
     (table_same 32 (segment_by came end) (segment_by come ends) (λ k h.
-    ap₂ (λ (x : End) (l : List Bool). record { end = x; came = l }) (e k h)
+    ap₂ (λ (x : Option ℕ) (l : List Bool). record { end = x; came = l }) (e k h)
     (table_same 8 (λ i. came (k * 8 + i)) (λ i. come (k * 8 + i)) (λ i l. c (k * 8 + i) (omega arith)))))
 
 -- marks are those of their own numbers
@@ -60,9 +58,9 @@ pub marks_by_lem : (m : Marks) → Whole m → m ≡ marks_by (has m) (λ k. (se
 unfolding Whole marks_by segment_by has segment_at
 marks_by_lem m w =
     ap (λ (l : List Segment). record { segments = l })
-    (table_is m.segments 32 (segment_by (has m) (λ k. (segment_at m k).end)) (record { end = Unknown; came = [] }) w.0 each)
+    (table_is m.segments 32 (segment_by (has m) (λ k. (segment_at m k).end)) (record { end = None; came = [] }) w.0 each)
   where
-    each : (k : ℕ) → k < 32 → get_or m.segments k (record { end = Unknown; came = [] }) ≡ segment_by (has m) (λ k. (segment_at m k).end) k
+    each : (k : ℕ) → k < 32 → get_or m.segments k (record { end = None; came = [] }) ≡ segment_by (has m) (λ k. (segment_at m k).end) k
     each k h =
         ap (λ (l : List Bool). record { end = (segment_at m k).end; came = l })
         (table_is (segment_at m k).came 8 (λ i. has m (k * 8 + i)) false (w.1 k h) (λ i l.
@@ -72,16 +70,16 @@ marks_by_lem m w =
 
 -- ---- an end in numbers
 
-pub end_back : (e : End) → end_in (known_says e) (end_says e) ≡ e
+pub end_back : (e : Option ℕ) → end_in (known_says e) (end_says e) ≡ e
 unfolding end_in known_says end_says
-end_back Unknown = refl
-end_back (At e) = refl
+end_back None = refl
+end_back (Some e) = refl
 
 -- numbers that say an end as `known_says` and `end_says` do
 abbrev Settled : ℕ → ℕ → Type 0
 Settled known end = (known ≡ known_says (end_in known end)) × (end ≡ end_says (end_in known end))
 
-says_settled : (e : End) → Settled (known_says e) (end_says e)
+says_settled : (e : Option ℕ) → Settled (known_says e) (end_says e)
 says_settled e = (ap known_says (sym (end_back e)), ap end_says (sym (end_back e)))
 
 -- ---- one segment put in the place of another, in flat numbers
@@ -159,7 +157,7 @@ module _ (flags : List Bool) (known ends : List ℕ) (k : ℕ) (g : Segment) (fl
   segment_there : segment_by (λ n. get_or flags' n false) (ends_in known' ends') k ≡ g
   unfolding segment_by
   segment_there =
-      ap₂ (λ (x : End) (l : List Bool). record { end = x; came = l }) (ap₂ end_in known_there ends_there ∙ end_back g.end)
+      ap₂ (λ (x : Option ℕ) (l : List Bool). record { end = x; came = l }) (ap₂ end_in known_there ends_there ∙ end_back g.end)
       (sym (table_is g.came 8 (λ i. get_or flags' (k * 8 + i) false) false size
       (λ i h. sym (in_eight flags g.came k flags_long size small i h))))
 
@@ -167,7 +165,7 @@ module _ (flags : List Bool) (known ends : List ℕ) (k : ℕ) (g : Segment) (fl
       → segment_by (λ n. get_or flags' n false) (ends_in known' ends') j ≡ segment_by (λ n. get_or flags n false) (ends_in known ends) j
   unfolding segment_by
   segment_beside j h =
-      ap₂ (λ (x : End) (l : List Bool). record { end = x; came = l }) (ap₂ end_in (known_beside j h) (ends_beside j h))
+      ap₂ (λ (x : Option ℕ) (l : List Bool). record { end = x; came = l }) (ap₂ end_in (known_beside j h) (ends_beside j h))
       (table_same 8 (λ i. get_or flags' (j * 8 + i) false) (λ i. get_or flags (j * 8 + i) false) (λ i l.
       let at : (j * 8 + i) / 8 ≡ j = omega arith in
       beside_eight flags g.came k flags_long size small (j * 8 + i) (λ e. h (sym at ∙ e))))
@@ -178,26 +176,26 @@ module _ (flags : List Bool) (known ends : List ℕ) (k : ℕ) (g : Segment) (fl
   flat_put =
       ap (λ (l : List Segment). record { segments = l })
       (table_is (set before.segments k g) 32 (segment_by (λ n. get_or flags' n false) (ends_in known' ends'))
-      (record { end = Unknown; came = [] }) (length-set before.segments k g ∙ table_long 32 old) each)
+      (record { end = None; came = [] }) (length-set before.segments k g ∙ table_long 32 old) each)
     where
       old : ℕ → Segment
       old = segment_by (λ n. get_or flags n false) (ends_in known ends)
 
-      each : (j : ℕ) → j < 32 → get_or (set before.segments k g) j (record { end = Unknown; came = [] })
+      each : (j : ℕ) → j < 32 → get_or (set before.segments k g) j (record { end = None; came = [] })
           ≡ segment_by (λ n. get_or flags' n false) (ends_in known' ends') j
       each j l = go (eqb j k) refl
         where
-          go : (b : Bool) → eqb j k ≡ b → get_or (set before.segments k g) j (record { end = Unknown; came = [] })
+          go : (b : Bool) → eqb j k ≡ b → get_or (set before.segments k g) j (record { end = None; came = [] })
               ≡ segment_by (λ n. get_or flags' n false) (ends_in known' ends') j
           go true e =
               let same = eqb-true j k e in
-              ap (λ (i : ℕ). get_or (set before.segments k g) i (record { end = Unknown; came = [] })) same
-              ∙ get_or-set_same before.segments k g (record { end = Unknown; came = [] }) (omega (arith, table_long 32 old))
+              ap (λ (i : ℕ). get_or (set before.segments k g) i (record { end = None; came = [] })) same
+              ∙ get_or-set_same before.segments k g (record { end = None; came = [] }) (omega (arith, table_long 32 old))
               ∙ sym segment_there ∙ ap (segment_by (λ n. get_or flags' n false) (ends_in known' ends')) (sym same)
           go false e =
               let other = eqb-false j k e in
-              get_or-set_other before.segments k j g (record { end = Unknown; came = [] }) other
-              ∙ table_at 32 old j (record { end = Unknown; came = [] }) l ∙ sym (segment_beside j other)
+              get_or-set_other before.segments k j g (record { end = None; came = [] }) other
+              ∙ table_at 32 old j (record { end = None; came = [] }) l ∙ sym (segment_beside j other)
 
   -- and the numbers stay settled
   pub put_settled : ((j : ℕ) → j < 32 → Settled (get_or known j 0) (get_or ends j 0))
@@ -262,13 +260,13 @@ module _ (keep : Bool) (came known ends : List ℕ) where
       ∙ ap (λ (b : Bool). if b then get_or ends k 0 else 0) (ap is_set (known_at k h) ∙ bit_set (kept k))
 
   -- an end that is kept
-  ends_at : (k : ℕ) → k < 32 → ends_in known₀ ends₀ k ≡ (if kept k then At (get_or ends k 0) else Unknown)
+  ends_at : (k : ℕ) → k < 32 → ends_in known₀ ends₀ k ≡ (if kept k then Some (get_or ends k 0) else None)
   unfolding end_in
   ends_at k h = rw (known_at k h, end-at k h) (go (kept k))
     where
       go : (b : Bool)
-          → (if is_set (bit b) then At (if b then get_or ends k 0 else 0) else Unknown)
-          ≡ (if b then At (get_or ends k 0) else Unknown)
+          → (if is_set (bit b) then Some (if b then get_or ends k 0 else 0) else None)
+          ≡ (if b then Some (get_or ends k 0) else None)
       go true = refl
       go false = refl
 
@@ -276,12 +274,12 @@ module _ (keep : Bool) (came known ends : List ℕ) where
   unfolding known_says end_says
   kept_settled k h = rw (ends_at k h, known_at k h, end-at k h) (go (kept k))
     where
-      go : (b : Bool) → (bit b ≡ known_says (if b then At (get_or ends k 0) else Unknown))
-          × ((if b then get_or ends k 0 else 0) ≡ end_says (if b then At (get_or ends k 0) else Unknown))
+      go : (b : Bool) → (bit b ≡ known_says (if b then Some (get_or ends k 0) else None))
+          × ((if b then get_or ends k 0 else 0) ≡ end_says (if b then Some (get_or ends k 0) else None))
       go true = (refl, refl)
       go false = (refl, refl)
 
-none_marked : marks_by (λ _. false) (λ _. Unknown) ≡ unmarked
+none_marked : marks_by (λ _. false) (λ _. None) ≡ unmarked
 unfolding marks_by segment_by table unmarked blank
 none_marked = refl
 
@@ -294,7 +292,7 @@ marks_kept true came known ends =
     marks_same (λ n. get_or (flags_kept true came) n false) (came_in came) _ (ends_in known ends)
     (λ n h. flag_at true came known ends n h) (λ k h. ends_at true came known ends k h)
 marks_kept false came known ends =
-    marks_same (λ n. get_or (flags_kept false came) n false) (λ _. false) _ (λ _. Unknown)
+    marks_same (λ n. get_or (flags_kept false came) n false) (λ _. false) _ (λ _. None)
     (λ n h. flag_at false came known ends n h) (λ k h. ends_at false came known ends k h) ∙ none_marked
 
 -- asked without a section, the ends need not be settled

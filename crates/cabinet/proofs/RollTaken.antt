@@ -18,12 +18,12 @@ use Rattle.roll.specs.declared.Segment.{Segment}
 use Rattle.cabinet.specs.Numbers.{bit, is_set}
 use Rattle.cabinet.specs.Table.{table}
 use Rattle.cabinet.specs.Roll.{known_says, end_says, ends_in, sub_table_in, roll_in, roll_says, roll_answer, keeps, holds, outcome_says, rolling}
-use Rattle.cabinet.specs.Inner.Rolls.{flags_kept, numbersOf, known_kept, ends_settled, eight_of, with_eight, segment_in, marks_of, after_taking, kept_says, saying}
+use Rattle.cabinet.specs.Inner.Rolls.{flags_kept, numbersOf, known_kept, ends_settled, eight_of, with_eight, segment_in, marks_of, after_taking, kept_of, saying}
 use Rattle.cabinet.proofs.TableLaws.{table_long}
 use Rattle.cabinet.proofs.FlatMarks.{flat_put, put_settled, segment_of_lem, flags_long, known_long, ends_long, kept_settled, marks_kept, came_says, known_says_lem, ends_say}
 use Rattle.cabinet.specs.declared.rolls.Roll.{Roll}
 use Rattle.cabinet.specs.declared.rolls.RollAnswer.{RollAnswer}
-use Rattle.cabinet.specs.declared.rolls.Kept.{Kept}
+use Rattle.roll.specs.declared.Kept.{Kept}
 
 module _ (r : Roll) (keep : Bool) (s : List ℕ) (small : number_in s < 256) (begun : keep ≡ true → is_set r.begun ≡ true) where
   -- the numbers that are kept
@@ -96,13 +96,13 @@ module _ (r : Roll) (keep : Bool) (s : List ℕ) (small : number_in s < 256) (be
   -- the roll after the section, where its marks are these numbers
   abbrev with_numbers : List ℕ → List ℕ → List ℕ → Roll
   with_numbers came known ends = record {
-    begun = (kept_says after).begun;
-    table_id = (kept_says after).sub_table.table_id;
-    extension = (kept_says after).sub_table.extension;
-    transport_stream_id = (kept_says after).sub_table.transport_stream_id;
-    original_network_id = (kept_says after).sub_table.original_network_id;
-    version = (kept_says after).version;
-    last = (kept_says after).last;
+    begun = bit (kept_of after).begun;
+    table_id = (kept_of after).sub_table.table_id;
+    extension = (kept_of after).sub_table.extension;
+    transport_stream_id = (kept_of after).sub_table.transport_stream_id;
+    original_network_id = (kept_of after).sub_table.original_network_id;
+    version = (kept_of after).version;
+    last = (kept_of after).last;
     came = came;
     known = known;
     end = ends;
@@ -135,14 +135,14 @@ module _ (r : Roll) (keep : Bool) (s : List ℕ) (small : number_in s < 256) (be
       rw after_begun (ap (λ (m : Marks). answered (is_schedule after.sub_table.table_id) m after.last) marks_after)
 
   -- what the code makes, step by step, is the roll after the section and its answer
-  pub taken_says : {f₀ f₁ : List Bool} {k₀ e₀ c : List ℕ} {n i e : ℕ} {g₀ g : Segment} {h : Kept} {b : Bool} {x : Says} {a : RollAnswer}
+  pub taken_says : {f₀ f₁ : List Bool} {k₀ e₀ c : List ℕ} {n i e u : ℕ} {g₀ g : Segment} {h : Kept} {b : Bool} {x : Says} {a : RollAnswer}
       → f₀ ≡ flags_kept keep r.came → k₀ ≡ known_kept keep r.known → e₀ ≡ ends_settled k₀ r.end → n ≡ number_in s
       → g₀ ≡ segment_in f₀ (get_or k₀ (n / 8) 0) (get_or e₀ (n / 8) 0) (n / 8) → g ≡ segment_after g₀ s
-      → f₁ ≡ with_eight f₀ (n / 8) g.came → i ≡ known_says g.end → e ≡ end_says g.end → h ≡ kept_says after
+      → f₁ ≡ with_eight f₀ (n / 8) g.came → i ≡ known_says g.end → e ≡ end_says g.end → h ≡ kept_of after → u ≡ bit h.begun
       → b ≡ is_schedule h.sub_table.table_id → x ≡ answered b (marks_of f₁ (set k₀ (n / 8) i) (set e₀ (n / 8) e)) h.last
       → c ≡ numbersOf f₁ → a ≡ roll_answer x
       → holds (record {
-        begun = h.begun;
+        begun = u;
         table_id = h.sub_table.table_id;
         extension = h.sub_table.extension;
         transport_stream_id = h.sub_table.transport_stream_id;
@@ -153,8 +153,8 @@ module _ (r : Roll) (keep : Bool) (s : List ℕ) (small : number_in s < 256) (be
         known = set k₀ (n / 8) i;
         end = set e₀ (n / 8) e;
       }) a ≡ saying after
-  taken_says p₀ p₁ p₂ p₃ p₄ p₅ p₆ p₇ p₈ p₉ q₀ q₁ q₂ q₃ =
-      rw (q₃, q₂, q₁, q₀, p₉, p₈, p₇, p₆, p₅, p₄, p₃, p₂, p₁, p₀) (ap₂ holds numbers_say (ap roll_answer asked_after))
+  taken_says p₀ p₁ p₂ p₃ p₄ p₅ p₆ p₇ p₈ p₉ q q₀ q₁ q₂ q₃ =
+      rw (q₃, q₂, q₁, q₀, q, p₉, p₈, p₇, p₆, p₅, p₄, p₃, p₂, p₁, p₀) (ap₂ holds numbers_say (ap roll_answer asked_after))
 
 -- ---- a section, by what it does
 

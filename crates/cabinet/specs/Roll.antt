@@ -1,5 +1,5 @@
 -- The roll and its answer in numbers.
-use Rattle.std.specs.Prelude.{ℕ, ◌+◌, ◌*◌, Bool, List, get_or, if◌then◌else◌}
+use Rattle.std.specs.Prelude.{ℕ, ◌+◌, ◌*◌, Bool, List, get_or, if◌then◌else◌, Option, None, Some}
 use Rattle.head.specs.declared.SubTable.{SubTable}
 use Rattle.roll.specs.Answer.{Says, missing, complete, refusing}
 use Rattle.roll.specs.Marks.{segment_at, has}
@@ -8,40 +8,38 @@ use Rattle.roll.specs.Roll.{taking}
 use Rattle.roll.specs.declared.Roll as of
 use Rattle.roll.specs.declared.Marks.{Marks}
 use Rattle.roll.specs.declared.Segment.{Segment}
-use Rattle.roll.specs.declared.End.{End}
-use Rattle.roll.specs.declared.End.TheVariants.{Unknown, At}
 use Rattle.cabinet.specs.Numbers.{bit, is_set}
 use Rattle.cabinet.specs.Table.{table}
 use Rattle.cabinet.specs.declared.rolls.Roll.{Roll}
 use Rattle.cabinet.specs.declared.rolls.RollAnswer.{RollAnswer}
 
 -- any number but 0 says that the end is known
-unfoldable pub end_in : ℕ → ℕ → End
-end_in known end = if is_set known then At end else Unknown
+unfoldable pub end_in : ℕ → ℕ → Option ℕ
+end_in known end = if is_set known then Some end else None
 
 -- 1 for an end that is known
-unfoldable pub known_says : End → ℕ
-known_says Unknown = 0
-known_says (At e) = 1
+unfoldable pub known_says : Option ℕ → ℕ
+known_says None = 0
+known_says (Some e) = 1
 
 -- the end; 0 where it is not known
-unfoldable pub end_says : End → ℕ
-end_says Unknown = 0
-end_says (At e) = e
+unfoldable pub end_says : Option ℕ → ℕ
+end_says None = 0
+end_says (Some e) = e
 
 -- segment k, where these numbers have come and the segments have these ends
-unfoldable pub segment_by : (ℕ → Bool) → (ℕ → End) → ℕ → Segment
+unfoldable pub segment_by : (ℕ → Bool) → (ℕ → Option ℕ) → ℕ → Segment
 segment_by came end k = record { end = end k; came = table 8 (λ i. came (k * 8 + i)) }
 
 -- the marks, where these numbers have come and the segments have these ends
-unfoldable pub marks_by : (ℕ → Bool) → (ℕ → End) → Marks
+unfoldable pub marks_by : (ℕ → Bool) → (ℕ → Option ℕ) → Marks
 marks_by came end = record { segments = table 32 (segment_by came end) }
 
 -- any number but 0 is a mark
 abbrev pub came_in : List ℕ → ℕ → Bool
 came_in came n = is_set (get_or came n 0)
 
-abbrev pub ends_in : List ℕ → List ℕ → ℕ → End
+abbrev pub ends_in : List ℕ → List ℕ → ℕ → Option ℕ
 ends_in known end k = end_in (get_or known k 0) (get_or end k 0)
 
 abbrev pub sub_table_in : Roll → SubTable

@@ -1,18 +1,18 @@
 // The roll, with its record as numbers. Its marks stay flat, as C reads them: a call makes one segment of them at a time.
 ghost use Rattle.std.specs.Prelude.{◌<◌, ◌≡◌, true, length};
-ghost use Rattle.roll.specs.Answer.{refusing, told_answer};
+ghost use Rattle.roll.specs.Answer.{refusing, told_progress, told_refusal};
 ghost use Rattle.roll.specs.Roll.{empty_roll, answered, asked};
 ghost use Rattle.cabinet.specs.Numbers.{is_set};
 ghost use Rattle.cabinet.specs.Roll.{end_in, known_says, end_says, sub_table_in, roll_in, roll_says, roll_answer, holds, rolling};
 ghost use Rattle.cabinet.specs.Inner.Rolls.{flags_kept, numbersOf, known_kept, ends_settled, eight_of, with_eight, segment_in};
-ghost use Rattle.cabinet.specs.Inner.Rolls.{marks_of, after_taking, kept_says, saying};
+ghost use Rattle.cabinet.specs.Inner.Rolls.{marks_of, after_taking, kept_of, saying};
 
 use crate::numbers::of_flag;
 use head::sub_tables::sub_table_of;
 use head::{SubTable, last_of, number_of, version_of};
 use roll::segments::{gap, is_schedule};
-use roll::stepping::{course_of, segment_after};
-use roll::{Answer, Course, End, Segment};
+use roll::stepping::segment_after;
+use roll::{Kept, Progress, Refusal, Segment};
 
 #[repr(C)]
 #[derive(Clone, Copy)]
@@ -41,15 +41,6 @@ pub struct RollAnswer {
     pub missing: u8,
 }
 
-// What a roll keeps beside its marks.
-#[derive(Clone, Copy)]
-struct Kept {
-    begun: u8,
-    sub_table: SubTable,
-    version: u8,
-    last: u8,
-}
-
 // The roll after a section, and the answer.
 #[derive(Clone, Copy)]
 struct Rolled {
@@ -62,10 +53,8 @@ fn flags_in(came: &[u8; 256], keep: bool) -> [bool; 256]
     ensures { result ≡ flags_kept keep came.now }
 {
     let mut flags = [false; 256];
-    let mut i: usize = 0;
-    while i < 256 {
-        flags[i] = if keep { came[i] != 0 } else { false };
-        i += 1;
+    for i in 0..256 {
+        flags[i] = keep && came[i] != 0;
     }
     flags
 }
@@ -75,10 +64,8 @@ fn numbers_of(flags: &[bool; 256]) -> [u8; 256]
     ensures { result ≡ numbersOf flags.now }
 {
     let mut numbers = [0u8; 256];
-    let mut i: usize = 0;
-    while i < 256 {
+    for i in 0..256 {
         numbers[i] = of_flag(flags[i]);
-        i += 1;
     }
     numbers
 }
@@ -88,10 +75,8 @@ fn known_in(known: &[u8; 32], keep: bool) -> [u8; 32]
     ensures { result ≡ known_kept keep known.now }
 {
     let mut numbers = [0u8; 32];
-    let mut k: usize = 0;
-    while k < 32 {
-        numbers[k] = of_flag(if keep { known[k] != 0 } else { false });
-        k += 1;
+    for k in 0..32 {
+        numbers[k] = of_flag(keep && known[k] != 0);
     }
     numbers
 }
@@ -101,10 +86,8 @@ fn ends_in(known: &[u8; 32], end: &[u8; 32]) -> [u8; 32]
     ensures { result ≡ ends_settled known.now end.now }
 {
     let mut numbers = [0u8; 32];
-    let mut k: usize = 0;
-    while k < 32 {
+    for k in 0..32 {
         numbers[k] = if known[k] != 0 { end[k] } else { 0 };
-        k += 1;
     }
     numbers
 }
@@ -115,10 +98,8 @@ fn eight_of(flags: &[bool; 256], k: usize) -> [bool; 8]
     ensures { result ≡ eight_of flags.now k }
 {
     let mut eight = [false; 8];
-    let mut i: usize = 0;
-    while i < 8 {
+    for i in 0..8 {
         eight[i] = flags[k * 8 + i];
-        i += 1;
     }
     eight
 }
@@ -128,39 +109,30 @@ fn put_eight(flags: &mut [bool; 256], k: usize, eight: [bool; 8])
     requires { (k < 32) × (length flags.old ≡ 256) }
     ensures { flags.new ≡ with_eight flags.old k eight }
 {
-    let mut i: usize = 0;
-    while i < 8 {
+    for i in 0..8 {
         flags[k * 8 + i] = eight[i];
-        i += 1;
     }
 }
 
-fn end_in(known: u8, end: u8) -> End
+#[tactic(auto, unfolding(crate::specs::Roll::end_in))]
+fn end_in(known: u8, end: u8) -> Option<u8>
     ensures { result ≡ end_in known end }
 {
-    if known != 0 {
-        End::At(end)
-    } else {
-        End::Unknown
-    }
+    (known != 0).then_some(end)
 }
 
-fn known_says(end: End) -> u8
+#[tactic(auto, unfolding(crate::specs::Roll::known_says))]
+fn known_says(end: Option<u8>) -> u8
     ensures { result ≡ known_says end }
 {
-    match end {
-        End::Unknown => 0,
-        End::At(_) => 1,
-    }
+    of_flag(end.is_some())
 }
 
-fn end_says(end: End) -> u8
+#[tactic(auto, unfolding(crate::specs::Roll::end_says))]
+fn end_says(end: Option<u8>) -> u8
     ensures { result ≡ end_says end }
 {
-    match end {
-        End::Unknown => 0,
-        End::At(e) => e,
-    }
+    end.unwrap_or(0)
 }
 
 // Segment k, whose end is this number where it is known.
@@ -168,9 +140,10 @@ fn segment_in(flags: &[bool; 256], known: u8, end: u8, k: usize) -> Segment
     requires { k < 32 }
     ensures { result ≡ segment_in flags.now known end k }
 {
-    let at = end_in(known, end);
-    let came = eight_of(flags, k);
-    Segment { end: at, came }
+    Segment {
+        end: end_in(known, end),
+        came: eight_of(flags, k),
+    }
 }
 
 fn sub_table_in(roll: Roll) -> SubTable
@@ -195,30 +168,33 @@ fn refused(number: u32, place: usize) -> RollAnswer
     }
 }
 
-fn answer_says(answer: Answer) -> RollAnswer
-    ensures { result ≡ roll_answer (told_answer answer) }
+fn progress_says(progress: Progress) -> RollAnswer
+    ensures { result ≡ roll_answer (told_progress progress) }
 {
-    match answer {
-        Answer::Missing(missing) => RollAnswer {
-            number: 0,
-            place: 0,
-            complete: 0,
-            missing,
-        },
-        Answer::Complete => RollAnswer {
-            number: 0,
-            place: 0,
-            complete: 1,
-            missing: 0,
-        },
-        Answer::Refused(verdict) => refused(
-            verdict::number(verdict) as u32,
-            verdict::place(verdict),
+    let (complete, missing) = match progress {
+        Progress::Missing(missing) => (0, missing),
+        Progress::Complete => (1, 0),
+    };
+    RollAnswer {
+        number: 0,
+        place: 0,
+        complete,
+        missing,
+    }
+}
+
+fn refusal_says(refusal: Refusal) -> RollAnswer
+    ensures { result ≡ roll_answer (told_refusal refusal) }
+{
+    match refusal {
+        Refusal::Judge(judges) => refused(
+            verdict::number(Err(judges)) as u32,
+            verdict::place(Err(judges)),
         ),
-        Answer::NotCurrent => refused(81, 0),
-        Answer::AnotherSubTable => refused(82, 0),
-        Answer::NoSubTable => refused(83, 0),
-        Answer::SegmentEnd => refused(84, 0),
+        Refusal::NotCurrent => refused(81, 0),
+        Refusal::AnotherSubTable => refused(82, 0),
+        Refusal::NoSubTable => refused(83, 0),
+        Refusal::SegmentEnd => refused(84, 0),
     }
 }
 
@@ -241,40 +217,36 @@ pub extern "C" fn lohitunga_roll_empty() -> Roll
 }
 
 // "the smallest number missing, or complete", segment by segment.
+#[tactic(auto, using(crate::proofs::FlatMarks::segment_of_lem, roll::proofs::Turns::scan_laws))]
 fn missing(
     flags: &[bool; 256],
     known: &[u8; 32],
     end: &[u8; 32],
     last: u8,
     schedule: bool,
-) -> Answer
-    ensures { told_answer result ≡ answered schedule (marks_of flags.now known.now end.now) last }
+) -> Progress
+    ensures { told_progress result ≡ answered schedule (marks_of flags.now known.now end.now) last }
 {
-    let to = last as usize;
-    let mut k: usize = 0;
-    while k * 8 <= to {
-        let segment = segment_in(flags, known[k], end[k], k);
-        let first = gap(segment, k as u8, last, schedule);
-        if first < 8 {
-            return Answer::Missing((k * 8) as u8 + first);
+    for k in 0..=last / 8 {
+        let at = k as usize;
+        let segment = segment_in(flags, known[at], end[at], at);
+        if let Some(first) = gap(segment, k, last, schedule) {
+            return Progress::Missing(k * 8 + first);
         }
-        k += 1;
     }
-    Answer::Complete
+    Progress::Complete
 }
 
+#[tactic(auto, using(crate::proofs::FlatMarks::marks_kept_all), unfolding(roll::specs::Roll::asked, crate::specs::Roll::roll_in))]
 fn asking(roll: Roll) -> RollAnswer
     ensures { result ≡ roll_answer (asked (roll_in roll)) }
 {
     if roll.begun != 0 {
-        let came = roll.came;
-        let known = roll.known;
-        let end = roll.end;
-        let flags = flags_in(&came, true);
+        let flags = flags_in(&roll.came, true);
         let schedule = is_schedule(roll.table_id);
-        return answer_says(missing(&flags, &known, &end, roll.last, schedule));
+        return progress_says(missing(&flags, &roll.known, &roll.end, roll.last, schedule));
     }
-    answer_says(Answer::Missing(0))
+    progress_says(Progress::Missing(0))
 }
 
 #[unsafe(no_mangle)]
@@ -284,20 +256,29 @@ pub extern "C" fn lohitunga_roll_ask(roll: &Roll) -> RollAnswer
     asking(*roll)
 }
 
-// What is kept beside the marks after a section that is taken: as it was, or the section's.
+// What the numbers keep beside the marks.
+#[tactic(auto, unfolding(crate::specs::Roll::roll_in))]
+fn kept_in(roll: Roll) -> Kept
+    ensures { result ≡ kept_of (roll_in roll) }
+{
+    Kept {
+        begun: roll.begun != 0,
+        sub_table: sub_table_in(roll),
+        version: roll.version,
+        last: roll.last,
+    }
+}
+
+// And after a section that is taken: as it was, or the section's.
+#[tactic(auto, unfolding(crate::specs::Roll::roll_in, roll::specs::Roll::continued, roll::specs::Roll::begun_with))]
 fn kept_after(roll: Roll, keep: bool, section: &[u8]) -> Kept
-    ensures { result ≡ kept_says (after_taking roll keep section.now) }
+    ensures { result ≡ kept_of (after_taking roll keep section.now) }
 {
     if keep {
-        return Kept {
-            begun: of_flag(roll.begun != 0),
-            sub_table: sub_table_in(roll),
-            version: roll.version,
-            last: roll.last,
-        };
+        return kept_in(roll);
     }
     Kept {
-        begun: 1,
+        begun: true,
         sub_table: sub_table_of(section),
         version: version_of(section),
         last: last_of(section),
@@ -309,25 +290,20 @@ fn taken(roll: Roll, keep: bool, section: &[u8]) -> Rolled
     requires { keep ≡ true → is_set roll.begun ≡ true }
     ensures { holds result.roll result.answer ≡ saying (after_taking roll keep section.now) }
 {
-    let came = roll.came;
-    let known_before = roll.known;
-    let end_before = roll.end;
-    let mut flags = flags_in(&came, keep);
-    let mut known = known_in(&known_before, keep);
-    let mut end = ends_in(&known, &end_before);
+    let mut flags = flags_in(&roll.came, keep);
+    let mut known = known_in(&roll.known, keep);
+    let mut end = ends_in(&known, &roll.end);
     let k = (number_of(section) / 8) as usize;
     let segment = segment_after(segment_in(&flags, known[k], end[k], k), section);
-    let eight = segment.came;
-    let at = segment.end;
-    put_eight(&mut flags, k, eight);
-    known[k] = known_says(at);
-    end[k] = end_says(at);
+    put_eight(&mut flags, k, segment.came);
+    known[k] = known_says(segment.end);
+    end[k] = end_says(segment.end);
     let kept = kept_after(roll, keep, section);
     let sub_table = kept.sub_table;
     let schedule = is_schedule(sub_table.table_id);
-    let answer = missing(&flags, &known, &end, kept.last, schedule);
+    let progress = missing(&flags, &known, &end, kept.last, schedule);
     let after = Roll {
-        begun: kept.begun,
+        begun: of_flag(kept.begun),
         table_id: sub_table.table_id,
         extension: sub_table.extension,
         transport_stream_id: sub_table.transport_stream_id,
@@ -340,7 +316,7 @@ fn taken(roll: Roll, keep: bool, section: &[u8]) -> Rolled
     };
     Rolled {
         roll: after,
-        answer: answer_says(answer),
+        answer: progress_says(progress),
     }
 }
 
@@ -349,19 +325,12 @@ fn taken(roll: Roll, keep: bool, section: &[u8]) -> Rolled
 fn take(roll: Roll, section: &[u8]) -> Rolled
     ensures { holds result.roll result.answer ≡ rolling roll section.now }
 {
-    let course = course_of(
-        roll.begun != 0,
-        sub_table_in(roll),
-        roll.version,
-        roll.last,
-        section,
-    );
-    match course {
-        Course::Refused(answer) => Rolled {
+    match kept_in(roll).course_of(section) {
+        Err(refusal) => Rolled {
             roll,
-            answer: answer_says(answer),
+            answer: refusal_says(refusal),
         },
-        Course::Taken(keep) => taken(roll, keep, section),
+        Ok(keep) => taken(roll, keep, section),
     }
 }
 

@@ -10,12 +10,11 @@ use lib.ListN.{get_or}
 use lib.Dec.{eqb}
 use borrow.Author.Tests.{eqb-true}
 use Rattle.roll.specs.Answer.{Says, missing, complete, refusing}
-use Rattle.std.specs.Prelude.{if◌then◌else◌}
+use Rattle.std.specs.Prelude.{if◌then◌else◌, None, Some}
 use Rattle.roll.specs.Marks.{segment_at, has, Whole}
 use Rattle.roll.proofs.Ends.{at_once, never_known}
 use Rattle.roll.proofs.Outcomes.{asked_no_refusal}
 use Rattle.roll.specs.declared.Marks.{Marks}
-use Rattle.roll.specs.declared.End.TheVariants.{Unknown, At}
 use Rattle.roll.specs.Roll as roll
 use Rattle.roll.specs.Roll.{empty_roll, asked, taking, refusal}
 use Rattle.roll.specs.declared.Roll as of
@@ -79,7 +78,7 @@ known_told : (known end : ℕ) → known_says (end_in known end) ≡ bit (is_set
 unfolding end_in known_says
 known_told known end = go (is_set known)
   where
-    go : (b : Bool) → known_says (if b then At end else Unknown) ≡ bit b
+    go : (b : Bool) → known_says (if b then Some end else None) ≡ bit b
     go true = refl
     go false = refl
 
@@ -87,7 +86,7 @@ end_told : (known end : ℕ) → end_says (end_in known end) ≡ (if is_set know
 unfolding end_in end_says
 end_told known end = go (is_set known)
   where
-    go : (b : Bool) → end_says (if b then At end else Unknown) ≡ (if b then end else 0)
+    go : (b : Bool) → end_says (if b then Some end else None) ≡ (if b then end else 0)
     go true = refl
     go false = refl
 
@@ -117,19 +116,19 @@ not_set n = (λ h. go (eqb n 0) refl h, λ e. ap is_set e)
     go false e h = absurd (false≢true (sym h))
 
 -- an end in numbers
-end_unknown : (known end : ℕ) → (end_in known end ≡ Unknown) ↔ (known ≡ 0)
+end_unknown : (known end : ℕ) → (end_in known end ≡ None) ↔ (known ≡ 0)
 unfolding end_in
 end_unknown known end = (λ h. to (is_set known) refl h, λ e. rw e)
   where
-    to : (b : Bool) → is_set known ≡ b → (if b then At end else Unknown) ≡ Unknown → known ≡ 0
+    to : (b : Bool) → is_set known ≡ b → (if b then Some end else None) ≡ None → known ≡ 0
     to true p h = absurd (never_known (sym h))
     to false p h = (not_set known).0 p
 
-end_known : (known end e : ℕ) → end_in known end ≡ At e → end ≡ e
+end_known : (known end e : ℕ) → end_in known end ≡ Some e → end ≡ e
 unfolding end_in
 end_known known end e h = go (is_set known) h
   where
-    go : (b : Bool) → (if b then At end else Unknown) ≡ At e → end ≡ e
+    go : (b : Bool) → (if b then Some end else None) ≡ Some e → end ≡ e
     go true h = at_once h
     go false h = absurd (never_known h)
 

@@ -1,6 +1,6 @@
 -- The roll for C: each call of `lohitunga_roll_take` is, in numbers, one of `roll::take`, and so are whole sequences of
 -- them.
-use Rattle.std.specs.Prelude.{ℕ, ◌<◌, ◌≡◌, false, ◌↔◌, List, [], ◌∷◌, get_or, if◌then◌else◌}
+use Rattle.std.specs.Prelude.{ℕ, ◌<◌, ◌≡◌, false, ◌↔◌, List, [], ◌∷◌, get_or, if◌then◌else◌, None, Some}
 use Rattle.wire.specs.Bytes.{Bytes}
 use Rattle.roll.specs.Answer.{Says, missing, complete, refusing}
 use Rattle.roll.specs.Marks.{segment_at, has}
@@ -12,7 +12,6 @@ use Rattle.sequence.specs.Step.{Schedule, FirstFor, AfterTaking, AfterTakingInSe
 use Rattle.sequence.specs.Sequence as beneath-runs
 use Rattle.sequence.specs.Sequence.{taken_of, EndOf, ComeInSegments, Answered, Next}
 use Rattle.head.specs.Head.{last_in}
-use Rattle.roll.specs.declared.End.TheVariants.{Unknown, At}
 use Rattle.cabinet.specs.Table.{table}
 use Rattle.cabinet.specs.Roll.{came_in, roll_in, roll_says, roll_answer, Outcome, rolling}
 use Rattle.cabinet.specs.Numbers.{bit, is_set}
@@ -34,8 +33,8 @@ pub record Stands (r : Roll) (q : of.Roll) : Type 0 where
   -- any number but 0 is a mark
   pub marks : (n : ℕ) → n < 256 → (has q.marks n ≡ false) ↔ (get_or r.came n 0 ≡ 0)
   -- any number but 0 says that the end is known, and which it is stands beside it
-  pub unknown : (k : ℕ) → k < 32 → ((segment_at q.marks k).end ≡ Unknown) ↔ (get_or r.known k 0 ≡ 0)
-  pub ends : (k e : ℕ) → k < 32 → (segment_at q.marks k).end ≡ At e → get_or r.end k 0 ≡ e
+  pub unknown : (k : ℕ) → k < 32 → ((segment_at q.marks k).end ≡ None) ↔ (get_or r.known k 0 ≡ 0)
+  pub ends : (k e : ℕ) → k < 32 → (segment_at q.marks k).end ≡ Some e → get_or r.end k 0 ≡ e
 
 -- the answer tells what is said, and is 0 elsewhere: the smallest number missing; complete; or a refusal's number and
 -- place

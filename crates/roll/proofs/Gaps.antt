@@ -148,3 +148,6 @@ wanted_few true last k end = go (counting last k end)
     go None = omega arith
     go (Some e) = omega arith
 wanted_few false last k end = if-case (λ n. n ≤ 8) (eqb (last / 8) k) (λ _. omega arith) (λ _. omega arith)
+
+-- what `gap` of segments.rt rests on
+pub ruleset gap_laws = (gap_unknown, gap_known, all_none, wanted_few)

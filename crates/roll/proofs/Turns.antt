@@ -15,7 +15,7 @@ use Rattle.roll.specs.Marks.{segment_of, segment_at, has, smallest, smallest_mis
 use Rattle.roll.specs.Segments.{counting, end_at, came_by, left_out_by, come_or_left_out, smallest_in_segments}
 use Rattle.roll.specs.Roll.{answered}
 use Rattle.roll.specs.Gaps.{up_to, wanted_of, gap_of}
-use Rattle.roll.proofs.Smallest.{smallest_here, smallest_over}
+use Rattle.roll.proofs.Smallest.{smallest_here, smallest_over, smallest_end}
 use Rattle.roll.proofs.Gaps.{Gap, gap_is, wanted_few}
 use Rattle.roll.proofs.Ends.{counting_counts}
 use Rattle.roll.specs.declared.Marks.{Marks}
@@ -156,3 +156,6 @@ pub scan_answers : (schedule : Bool) (m : Marks) (last : ℕ)
 unfolding answered smallest_in_segments smallest_missing
 scan_answers true m last = refl
 scan_answers false m last = refl
+
+-- what a scan from segment to segment rests on
+pub ruleset scan_laws = (gap_missing, none_missing, scan_answers, smallest_end)

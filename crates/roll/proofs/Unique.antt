@@ -2,14 +2,15 @@
 use mathlib.Core.Path.{◌≡◌, refl, sym, ◌∙◌, ap, ap₂}
 use lib.Dec.{eqb}
 use mathlib.Core.Bool.{Bool, false}
-use Prim.Native.Nat.{ℕ}
-use Rattle.std.specs.Prelude.{Result, Ok, Err, if◌then◌else◌}
+use native.Mathlib.Omega.{arith}
+use Rattle.std.specs.Prelude.{ℕ, ◌<◌, Result, Ok, Err, Option, None, Some, IfSome, if◌then◌else◌}
 use Rattle.verdict.specs.Verdict as verdict
-use Rattle.verdict.specs.Verdict.{Verdict, number_of, place_of}
+use Rattle.verdict.specs.Verdict.{Verdict, number_of}
 use Rattle.verdict.proofs.Unique.{verdict_of, verdict_back}
 use Rattle.verdict.specs.declared.Refusal as judge
 use Rattle.verdict.specs.declared.Refusal.TheVariants.{TooShort, UnknownTable, WrongSyntax, LengthOutside, SizeDiffers, CrcFails, NumberAboveLast, LoopPast, DescriptorPast, BytesLeft}
-use Rattle.roll.specs.Answer.{Says, missing, complete, refusing, told_refusal, told_answer}
+use Rattle.roll.specs.Answer.{Says, missing, complete, refusing, told_progress, told_refusal, told_answer}
+use Rattle.roll.specs.Gaps.{told_gap}
 use Rattle.roll.specs.Roll.{Outcome, heard, Goes, refuses, takes, told_course}
 use Rattle.roll.specs.declared.Progress.{Progress}
 use Rattle.roll.specs.declared.Progress.TheVariants.{Missing, Complete}
@@ -67,6 +68,15 @@ answer_back (Err r) = refusal_back r
 
 pub told_answer_once : (a b : Answer) → told_answer a ≡ told_answer b → a ≡ b
 told_answer_once a b e = sym (answer_back a) ∙ ap answer_of e ∙ answer_back b
+
+pub told_progress_once : (p q : Progress) → told_progress p ≡ told_progress q → p ≡ q
+told_progress_once p q e = let same = told_answer_once (Ok p) (Ok q) e in cc
+
+pub told_gap_once : (a b : Option ℕ) → IfSome a (λ g. g < 8) → IfSome b (λ g. g < 8) → told_gap a ≡ told_gap b → a ≡ b
+told_gap_once None None h k e = refl
+told_gap_once None (Some g) h k e = absurd (omega arith)
+told_gap_once (Some f) None h k e = absurd (omega arith)
+told_gap_once (Some f) (Some g) h k e = ap Some e
 
 abbrev step : Roll → Answer → Step
 step r a = record { roll = r; answer = a }

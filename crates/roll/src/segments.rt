@@ -72,7 +72,7 @@ fn first_gap(came: [bool; 8], count: u8) -> Option<u8>
 }
 
 // The first number of a segment that is missing, counted from its first.
-#[tactic(auto, using(crate::proofs::Gaps::gap_unknown, crate::proofs::Gaps::gap_known, crate::proofs::Gaps::all_none, crate::proofs::Gaps::wanted_few), unfolding(crate::specs::Gaps::gap_of))]
+#[tactic(auto, using(crate::proofs::Gaps::gap_laws), unfolding(crate::specs::Gaps::gap_of))]
 pub fn gap(segment: Segment, at: u8, last: u8, schedule: bool) -> Option<u8>
     ensures is { told_gap result ≡ gap_of schedule last at segment }
     ensures few { IfSome result (λ gap. gap < 8) }
@@ -88,7 +88,7 @@ pub fn gap(segment: Segment, at: u8, last: u8, schedule: bool) -> Option<u8>
 }
 
 // "the smallest number missing, or complete"
-#[tactic(auto, using(crate::proofs::Turns::gap_missing, crate::proofs::Turns::none_missing, crate::proofs::Turns::scan_answers, crate::proofs::Smallest::smallest_end), unfolding(crate::specs::Marks::segment_at))]
+#[tactic(auto, using(crate::proofs::Turns::scan_laws), unfolding(crate::specs::Marks::segment_at))]
 pub fn missing(marks: Marks, last: u8, schedule: bool) -> Progress
     ensures { told_progress result ≡ answered schedule marks last }
 {

@@ -23,8 +23,7 @@ use Rattle.roll.specs.Roll.{another, starts_afresh, end_unfit, marked_by, begun_
 use Rattle.sequence.specs.Alike.{answers_to}
 use Rattle.sequence.specs.Sequence.{unrefused, taken_of}
 use Rattle.roll.specs.declared.Roll.{Roll}
-use Rattle.roll.specs.declared.End.{End}
-use Rattle.roll.specs.declared.End.TheVariants.{Unknown, At}
+use Rattle.std.specs.Prelude.{Option, None, Some}
 
 -- the time and date table of the worked values
 pub tdt : List ℕ
@@ -233,7 +232,7 @@ roll_behind [] = empty_roll
 roll_behind (s ∷ given) = (taking (roll_behind given) s).roll
 
 -- a roll made by hand, of version 5: each mark set, and this end in each segment
-unfoldable pub by_hand : ℕ → End → ℕ → Roll
+unfoldable pub by_hand : ℕ → Option ℕ → ℕ → Roll
 by_hand table end last = record {
   begun = true;
   sub_table = record { table_id = table; extension = 1; transport_stream_id = 1; original_network_id = 1 };
@@ -270,11 +269,11 @@ pub at_work :
     × (answers_to empty_roll (events_unfit ∷ []) ≡ missing 0 ∷ [])
     -- by hand: an end of another segment, one above the last number, and none, each with all marks set; one that counts; a
     -- table that is no schedule
-    × ((asked (by_hand 0x50 (At 200) 5) ≡ missing 0) × (asked (by_hand 0x50 (At 7) 5) ≡ missing 0)
-    × (asked (by_hand 0x50 Unknown 5) ≡ missing 0) × (asked (by_hand 0x50 (At 5) 5) ≡ complete)
-    × (asked (by_hand 0x4E (At 200) 5) ≡ complete))
+    × ((asked (by_hand 0x50 (Some 200) 5) ≡ missing 0) × (asked (by_hand 0x50 (Some 7) 5) ≡ missing 0)
+    × (asked (by_hand 0x50 None 5) ≡ missing 0) × (asked (by_hand 0x50 (Some 5) 5) ≡ complete)
+    × (asked (by_hand 0x4E (Some 200) 5) ≡ complete))
     -- the end that is kept changes; the ends of the other segments do not count
-    × (answers_to (by_hand 0x50 (At 1) 17) (schedule-1-to-2 ∷ schedule-0-to-2 ∷ schedule-2-to-2 ∷ schedule-8 ∷ [])
+    × (answers_to (by_hand 0x50 (Some 1) 17) (schedule-1-to-2 ∷ schedule-0-to-2 ∷ schedule-2-to-2 ∷ schedule-8 ∷ [])
     ≡ missing 0 ∷ missing 2 ∷ missing 8 ∷ missing 16 ∷ [])
     -- the schedule of three segments once more, as a whole sequence: all are taken
     × ((taken_of without-17 ≡ without-17) × (asked (roll_behind without-17) ≡ missing 17)

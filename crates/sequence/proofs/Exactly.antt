@@ -8,7 +8,7 @@ use native.Mathlib.Omega.{arith}
 use lib.ListN.{get_or}
 use lib.Dec.{eqb}
 use borrow.Author.Tests.{eqb-true, eqb-false, eq-eqb}
-use Rattle.std.specs.Prelude.{if◌then◌else◌}
+use Rattle.std.specs.Prelude.{if◌then◌else◌, Some}
 use Rattle.wire.specs.Bytes.{Bytes}
 use Rattle.wire.proofs.IfLaws.{if-case}
 use Rattle.verdict.specs.Verdict.{accepted, is_accepted}
@@ -36,7 +36,6 @@ use Rattle.sequence.proofs.SegmentAnswers.{smallest_in_segments_lem, answers_alo
 use Rattle.sequence.proofs.InSegments.{none_known, none_came, known_after, came_after}
 use Rattle.roll.specs.declared.Marks.{Marks}
 use Rattle.roll.specs.declared.Roll.{Roll}
-use Rattle.roll.specs.declared.End.TheVariants.{At}
 
 -- ---- the four tests of the roll's own, as the statement has them
 
@@ -420,7 +419,7 @@ module _ (r : Roll) (s : List ℕ) (b : Bytes s) where
 
     -- an end that changes
     emptied : Whole r.marks → GoesOn r s → starts_afresh r s ≡ false
-        → ((segment_at r.marks (number_in s / 8)).end ≡ At (segment_end_in s) → ⊥)
+        → ((segment_at r.marks (number_in s / 8)).end ≡ Some (segment_end_in s) → ⊥)
         → ((n : ℕ) → n / 8 ≡ number_in s / 8 → (has (roll_after r s).marks n ≡ true) ↔ (n ≡ number_in s))
         × ((k : ℕ) → (k ≡ number_in s / 8 → ⊥) → segment_at (roll_after r s).marks k ≡ segment_at r.marks k)
     unfolding roll_after continued

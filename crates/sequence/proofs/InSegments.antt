@@ -13,7 +13,7 @@ use Rattle.roll.proofs.Ends.{at_once, never_known}
 use Rattle.sequence.specs.Step.{Known, CameIn}
 use Rattle.sequence.proofs.MarkLaws.{unmarked-end, until_end, until_has, until_elsewhere, until_has_elsewhere, until_kept, until_emptied, end_same}
 use Rattle.roll.specs.declared.Marks.{Marks}
-use Rattle.roll.specs.declared.End.TheVariants.{At}
+use Rattle.std.specs.Prelude.{Some}
 
 -- of no marks no end is known
 pub none_known : (last k e : ℕ) → Known unmarked last k e → ⊥
@@ -58,7 +58,7 @@ module _ (m : Marks) (last n e : ℕ) (w : Whole m) (small : n < 256) (upto : e 
   came_forth : (i : ℕ) → CameIn after last i → Came i
   came_forth i x = go (eqb n i) (eqb (n / 8) (i / 8)) refl refl
     where
-      kept_there : n / 8 ≡ i / 8 → ((segment_at m (n / 8)).end ≡ At e) → (n ≡ i → ⊥) → Came i
+      kept_there : n / 8 ≡ i / 8 → ((segment_at m (n / 8)).end ≡ Some e) → (n ≡ i → ⊥) → Came i
       kept_there same h other =
           let known : Known m last (i / 8) e =
           record { kept = ap (λ k. (segment_at m k).end) (sym same) ∙ h; inside = (omega arith, omega arith); within = upto } in

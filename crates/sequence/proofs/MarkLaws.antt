@@ -14,8 +14,7 @@ use Rattle.roll.specs.Segments.{ending_by, ending_at, marked_until}
 use Rattle.roll.proofs.Ends.{at_once, never_known}
 use Rattle.roll.specs.declared.Marks.{Marks}
 use Rattle.roll.specs.declared.Segment.{Segment}
-use Rattle.roll.specs.declared.End.{End}
-use Rattle.roll.specs.declared.End.TheVariants.{Unknown, At}
+use Rattle.std.specs.Prelude.{Option, None, Some}
 
 none_of : (k n : ℕ) → get_or (replicate k false) n false ≡ false
 none_of zero n = refl
@@ -23,21 +22,21 @@ none_of (suc k) zero = refl
 none_of (suc k) (suc n) = none_of k n
 
 -- nothing of a blank segment has come
-blank_none : (e : End) (i : ℕ) → get_or (blank e).came i false ≡ false
+blank_none : (e : Option ℕ) (i : ℕ) → get_or (blank e).came i false ≡ false
 unfolding blank
 blank_none e i = none_of 8 i
 
 -- ---- no marks
 
-unmarked_at : (k : ℕ) → k < 32 → segment_at unmarked k ≡ blank Unknown
+unmarked_at : (k : ℕ) → k < 32 → segment_at unmarked k ≡ blank None
 unfolding segment_at unmarked
-unmarked_at k h = get_or-replicate 32 k (blank Unknown) (record { end = Unknown; came = [] }) h
+unmarked_at k h = get_or-replicate 32 k (blank None) (record { end = None; came = [] }) h
 
-pub unmarked-end : (k : ℕ) → (segment_at unmarked k).end ≡ Unknown
+pub unmarked-end : (k : ℕ) → (segment_at unmarked k).end ≡ None
 unfolding segment_at unmarked blank
 unmarked-end k = unknown_in 32 k
   where
-    unknown_in : (n k : ℕ) → (get_or (replicate n (blank Unknown)) k (record { end = Unknown; came = [] })).end ≡ Unknown
+    unknown_in : (n k : ℕ) → (get_or (replicate n (blank None)) k (record { end = None; came = [] })).end ≡ None
     unknown_in zero k = refl
     unknown_in (suc n) zero = refl
     unknown_in (suc n) (suc k) = unknown_in n k
@@ -46,14 +45,14 @@ pub unmarked_has_none : (n : ℕ) → has unmarked n ≡ false
 unfolding has segment_at unmarked
 unmarked_has_none n = none_in 32 (n / 8)
   where
-    none_in : (m k : ℕ) → get_or (get_or (replicate m (blank Unknown)) k (record { end = Unknown; came = [] })).came (n % 8) false ≡ false
+    none_in : (m k : ℕ) → get_or (get_or (replicate m (blank None)) k (record { end = None; came = [] })).came (n % 8) false ≡ false
     none_in zero k = refl
-    none_in (suc m) zero = blank_none Unknown (n % 8)
+    none_in (suc m) zero = blank_none None (n % 8)
     none_in (suc m) (suc k) = none_in m k
 
 pub unmarked_whole : Whole unmarked
 unfolding Whole unmarked blank
-unmarked_whole = (length-replicate 32 (blank Unknown), λ k h. ap (λ (s : Segment). length s.came) (unmarked_at k h))
+unmarked_whole = (length-replicate 32 (blank None), λ k h. ap (λ (s : Segment). length s.came) (unmarked_at k h))
 
 -- ---- one segment put in the place of another
 
@@ -62,11 +61,11 @@ put m k s = record { segments = set m.segments k s }
 
 put_same : (m : Marks) (k : ℕ) (s : Segment) → Whole m → k < 32 → segment_at (put m k s) k ≡ s
 unfolding segment_at Whole
-put_same m k s w h = get_or-set_same m.segments k s (record { end = Unknown; came = [] }) (omega (arith, w.0))
+put_same m k s w h = get_or-set_same m.segments k s (record { end = None; came = [] }) (omega (arith, w.0))
 
 put_other : (m : Marks) (k j : ℕ) (s : Segment) → (j ≡ k → ⊥) → segment_at (put m k s) j ≡ segment_at m j
 unfolding segment_at
-put_other m k j s n = get_or-set_other m.segments k j s (record { end = Unknown; came = [] }) n
+put_other m k j s n = get_or-set_other m.segments k j s (record { end = None; came = [] }) n
 
 pub put_whole : (m : Marks) (k : ℕ) (s : Segment) → Whole m → (k < 32 → length s.came ≡ 8) → Whole (put m k s)
 unfolding Whole
@@ -165,38 +164,38 @@ module _ (m : Marks) (k : ℕ) (w : Whole m) (small : k < 256) where
 
 -- ---- of a schedule, in a segment with an end
 
-blank-end : (e : End) → (blank e).end ≡ e
+blank-end : (e : Option ℕ) → (blank e).end ≡ e
 unfolding blank
 blank-end e = refl
 
-blank_long : (e : End) → length (blank e).came ≡ 8
+blank_long : (e : Option ℕ) → length (blank e).came ≡ 8
 unfolding blank
 blank_long e = refl
 
 -- the end stays: so does the segment
-ending_same : (s : Segment) (e : ℕ) → s.end ≡ At e → ending_at s e ≡ s
+ending_same : (s : Segment) (e : ℕ) → s.end ≡ Some e → ending_at s e ≡ s
 unfolding ending_by
 ending_same s e h = rw (h, eq-eqb e e refl)
 
 -- the end changes, or was not known: the segment is emptied
-ending_new : (s : Segment) (e : ℕ) → (s.end ≡ At e → ⊥) → ending_at s e ≡ blank (At e)
+ending_new : (s : Segment) (e : ℕ) → (s.end ≡ Some e → ⊥) → ending_at s e ≡ blank (Some e)
 unfolding ending_by
 ending_new s e n = go s.end n
   where
-    go : (x : End) → (x ≡ At e → ⊥) → ending_by x s e ≡ blank (At e)
-    go Unknown n = refl
-    go (At f) n = rw (ne_eqb f e (λ same. n (ap At same)))
+    go : (x : Option ℕ) → (x ≡ Some e → ⊥) → ending_by x s e ≡ blank (Some e)
+    go None n = refl
+    go (Some f) n = rw (ne_eqb f e (λ same. n (ap Some same)))
 
 -- one or the other
-end_same? : (s : Segment) (e : ℕ) → (s.end ≡ At e) ⊎ (s.end ≡ At e → ⊥)
+end_same? : (s : Segment) (e : ℕ) → (s.end ≡ Some e) ⊎ (s.end ≡ Some e → ⊥)
 end_same? s e = go s.end
   where
-    go : (x : End) → (x ≡ At e) ⊎ (x ≡ At e → ⊥)
-    go Unknown = inr never_known
-    go (At f) = at (eqb f e) refl
+    go : (x : Option ℕ) → (x ≡ Some e) ⊎ (x ≡ Some e → ⊥)
+    go None = inr never_known
+    go (Some f) = at (eqb f e) refl
       where
-        at : (b : Bool) → eqb f e ≡ b → (At f ≡ At e) ⊎ (At f ≡ At e → ⊥)
-        at true p = inl (ap At (eqb-true f e p))
+        at : (b : Bool) → eqb f e ≡ b → (Some f ≡ Some e) ⊎ (Some f ≡ Some e → ⊥)
+        at true p = inl (ap Some (eqb-true f e p))
         at false p = inr (λ h. eqb-false f e p (at_once h))
 
 module _ (m : Marks) (n e : ℕ) (w : Whole m) (small : n < 256) where
@@ -206,17 +205,17 @@ module _ (m : Marks) (n e : ℕ) (w : Whole m) (small : n < 256) where
   told_long : length told.came ≡ 8
   told_long = ⊎_elim
       (λ h. ap (λ (s : Segment). length s.came) (ending_same (segment_at m (n / 8)) e h) ∙ segment_long m n w small)
-      (λ h. ap (λ (s : Segment). length s.came) (ending_new (segment_at m (n / 8)) e h) ∙ blank_long (At e))
+      (λ h. ap (λ (s : Segment). length s.came) (ending_new (segment_at m (n / 8)) e h) ∙ blank_long (Some e))
       (end_same? (segment_at m (n / 8)) e)
 
-  told-end : told.end ≡ At e
+  told-end : told.end ≡ Some e
   told-end = ⊎_elim
       (λ h. ap (λ (s : Segment). s.end) (ending_same (segment_at m (n / 8)) e h) ∙ h)
-      (λ h. ap (λ (s : Segment). s.end) (ending_new (segment_at m (n / 8)) e h) ∙ blank-end (At e))
+      (λ h. ap (λ (s : Segment). s.end) (ending_new (segment_at m (n / 8)) e h) ∙ blank-end (Some e))
       (end_same? (segment_at m (n / 8)) e)
 
   -- the segment has this end now, and this number of it has come
-  pub until_end : (segment_at (marked_until m n e) (n / 8)).end ≡ At e
+  pub until_end : (segment_at (marked_until m n e) (n / 8)).end ≡ Some e
   unfolding marked_until
   until_end = after-end m n told w told_long small ∙ told-end
 
@@ -234,19 +233,19 @@ module _ (m : Marks) (n e : ℕ) (w : Whole m) (small : n < 256) where
   until_has_elsewhere i h = put_has m (n / 8) i (with_mark told n) h
 
   -- "A segment end that changes within one version empties that segment", and one that stays keeps it
-  pub until_kept : (segment_at m (n / 8)).end ≡ At e → (i : ℕ) → i / 8 ≡ n / 8 → (i ≡ n → ⊥) → has (marked_until m n e) i ≡ has m i
+  pub until_kept : (segment_at m (n / 8)).end ≡ Some e → (i : ℕ) → i / 8 ≡ n / 8 → (i ≡ n → ⊥) → has (marked_until m n e) i ≡ has m i
   unfolding marked_until has
   until_kept h i same other =
       after_beside m n told w told_long small i same other
       ∙ ap (λ (s : Segment). get_or s.came (i % 8) false) (ending_same (segment_at m (n / 8)) e h)
       ∙ ap (λ (k : ℕ). get_or (segment_at m k).came (i % 8) false) (sym same)
 
-  pub until_emptied : ((segment_at m (n / 8)).end ≡ At e → ⊥) → (i : ℕ) → i / 8 ≡ n / 8 → (i ≡ n → ⊥)
+  pub until_emptied : ((segment_at m (n / 8)).end ≡ Some e → ⊥) → (i : ℕ) → i / 8 ≡ n / 8 → (i ≡ n → ⊥)
       → has (marked_until m n e) i ≡ false
   unfolding marked_until
   until_emptied h i same other =
       after_beside m n told w told_long small i same other
-      ∙ ap (λ (s : Segment). get_or s.came (i % 8) false) (ending_new (segment_at m (n / 8)) e h) ∙ blank_none (At e) (i % 8)
+      ∙ ap (λ (s : Segment). get_or s.came (i % 8) false) (ending_new (segment_at m (n / 8)) e h) ∙ blank_none (Some e) (i % 8)
 
-pub end_same : (m : Marks) (k e : ℕ) → ((segment_at m k).end ≡ At e) ⊎ ((segment_at m k).end ≡ At e → ⊥)
+pub end_same : (m : Marks) (k e : ℕ) → ((segment_at m k).end ≡ Some e) ⊎ ((segment_at m k).end ≡ Some e → ⊥)
 end_same m k e = end_same? (segment_at m k) e

@@ -15,8 +15,7 @@ use Rattle.roll.proofs.Ends.{at_once, counting_counts, counts_counting}
 use Rattle.sequence.specs.Step.{Known, CameIn, LeftOut, EachSegment, SmallestPast, Answers, all, least, AnswersInSegments}
 use Rattle.sequence.proofs.SmallestMissing.{smallest_answers}
 use Rattle.roll.specs.declared.Marks.{Marks}
-use Rattle.roll.specs.declared.End.{End}
-use Rattle.roll.specs.declared.End.TheVariants.{Unknown, At}
+use Rattle.std.specs.Prelude.{Option, None, Some}
 
 -- ---- ends
 
@@ -24,13 +23,13 @@ pub known_once : {m : Marks} {last k e f : ℕ} → Known m last k e → Known m
 known_once x y = at_once (sym x.kept ∙ y.kept)
 
 module _ (m : Marks) (last k e : ℕ) where
-  known-end : Known m last k e → end_at m last k ≡ At e
+  known-end : Known m last k e → end_at m last k ≡ Some e
   unfolding end_at
   known-end x =
       let inside = x.inside in
       counts_counting last k (segment_at m k).end e (record { is = x.kept; inside = omega arith; within = x.within })
 
-  end_known : end_at m last k ≡ At e → Known m last k e
+  end_known : end_at m last k ≡ Some e → Known m last k e
   unfolding end_at
   end_known h =
       let c = counting_counts last k (segment_at m k).end e h in
@@ -44,10 +43,10 @@ module _ (m : Marks) (last : ℕ) where
   unfolding come_or_left_out came_by left_out_by
   come_or_left_out_lem n h = go (end_at m last (n / 8)) refl h
     where
-      go : (x : End) → end_at m last (n / 8) ≡ x → (came_by x (has m n) || left_out_by x n) ≡ true
+      go : (x : Option ℕ) → end_at m last (n / 8) ≡ x → (came_by x (has m n) || left_out_by x n) ≡ true
           → CameIn m last n ⊎ LeftOut (Known m last) n
-      go Unknown e h = absurd (false≢true h)
-      go (At end) e h = by (has m n) refl h
+      go None e h = absurd (false≢true h)
+      go (Some end) e h = by (has m n) refl h
         where
           by : (b : Bool) → has m n ≡ b → (b || ltb end n) ≡ true → CameIn m last n ⊎ LeftOut (Known m last) n
           by true p h = inl (record { end = end; known = end_known m last (n / 8) end e; mark = p })

@@ -26,7 +26,7 @@ use Rattle.sequence.proofs.AtWork.{at_work, higher, schedule-0, schedule-1, sche
 use Rattle.sequence.proofs.WholeSequence.{complete_exactly_if, missing_exactly_if}
 use Rattle.roll.specs.declared.Roll.{Roll}
 use Rattle.roll.specs.declared.Segment.{Segment}
-use Rattle.roll.specs.declared.End.TheVariants.{At}
+use Rattle.std.specs.Prelude.{Some}
 
 -- each element is a byte, by a test
 small : List ℕ → Bool
@@ -97,7 +97,7 @@ schedule_taken =
 -- ---- an end that changes, of a roll made by hand
 
 abbrev hand : Roll
-hand = by_hand 0x50 (At 1) 17
+hand = by_hand 0x50 (Some 1) 17
 
 hand_whole : Whole hand.marks
 unfolding by_hand Whole segment_at
@@ -123,7 +123,7 @@ goes_on = record {
   last = refl;
 }
 
-changes : (segment_at hand.marks (get_or schedule-1-to-2 6 0 / 8)).end ≡ At (get_or schedule-1-to-2 12 0) → ⊥
+changes : (segment_at hand.marks (get_or schedule-1-to-2 6 0 / 8)).end ≡ Some (get_or schedule-1-to-2 12 0) → ⊥
 unfolding by_hand schedule-1-to-2 segment_at
 changes e = let z = at_once e in omega arith
 

@@ -10,7 +10,7 @@ use contract.Monad.{Fun, fact}
 use contract.Lifetimes.{Lfts}
 use denote.Triple.Entry.{Args, Res}
 use denote.Triple.Clauses.{Lasts, at_exit}
-use Rattle.roll.specs.Answer.{told_answer}
+use Rattle.roll.specs.Answer.{told_progress}
 use Rattle.roll.specs.Roll.{heard}
 use Rattle.sequence.specs.Promise.{Promised, PromisedAsked, PromisedEmpty}
 use Rattle.roll.specs.contracts.take as take
@@ -29,7 +29,7 @@ module _ {M : Type 1} {𝓤 : Ura M} (𝓛 : Logic 𝓤) (at_mem : Memory → SP
       (x : Res (ask.ended).signature κs)
       (ws : Lasts ask.ended κs a)
       → (ask.clauses 𝓛 at_mem run κs a).ensures tt x (at_exit ask.ended κs a ws)
-      ≡ fact 𝓤 (PromisedAsked a.0 (told_answer x))
+      ≡ fact 𝓤 (PromisedAsked a.0 (told_progress x))
   ask_promises κs a x ws = refl
 
   pub empty_promises : (κs : Lfts (empty.ended).signature.lifetimes) (a : Args (empty.ended).signature κs)

@@ -1,6 +1,6 @@
 -- One section for any roll, also for one that a caller made by hand: document 01, "The roll", and of schedules document 02,
 -- request (i), by the section's own bytes.
-use Rattle.std.specs.Prelude.{ℕ, ◌+◌, ◌-◌, ◌*◌, ◌/◌, ◌<◌, ◌≤◌, ◌≡◌, true, false, ◌⊎◌, ◌↔◌, List, eqb, get_or, if◌then◌else◌}
+use Rattle.std.specs.Prelude.{ℕ, ◌+◌, ◌-◌, ◌*◌, ◌/◌, ◌<◌, ◌≤◌, ◌≡◌, true, false, ◌⊎◌, ◌↔◌, List, eqb, get_or, if◌then◌else◌, Some}
 use Rattle.wire.specs.Bytes.{Bytes}
 use Rattle.loops.specs.Descriptors.{Placed}
 use Rattle.section.specs.Grammar.{Section}
@@ -11,7 +11,6 @@ use Rattle.head.specs.Stands.{Versioned, OfSubTable}
 use Rattle.roll.specs.Roll.{Outcome}
 use Rattle.roll.specs.declared.Marks.{Marks}
 use Rattle.roll.specs.declared.Roll.{Roll}
-use Rattle.roll.specs.declared.End.TheVariants.{At}
 
 -- ---- refusals
 
@@ -74,7 +73,7 @@ pub record AfterTaking (r : Roll) (s : List ℕ) (o : Outcome) : Type 0 where
 -- e is the end of segment k, and it is known: "one kept in a roll but outside its segment or above the last number counts
 -- as unknown"
 pub record Known (m : Marks) (last k e : ℕ) : Type 0 where
-  pub kept : (segment_at m k).end ≡ At e
+  pub kept : (segment_at m k).end ≡ Some e
   pub inside : (8 * k ≤ e) × (e ≤ 8 * k + 7)
   pub within : e ≤ last
 
@@ -188,6 +187,6 @@ module _ (take : Roller) where
   abbrev pub ChangeEmpties : Type 0
   ChangeEmpties = (r : Roll) (s : List ℕ) (o : Outcome) → take r s o → Bytes s → Whole r.marks
       → ((k p : ℕ) → FirstFor r s k p → ⊥) → Schedule (get_or s 0 0) → GoesOn r s
-      → ((segment_at r.marks (get_or s 6 0 / 8)).end ≡ At (get_or s 12 0) → ⊥)
+      → ((segment_at r.marks (get_or s 6 0 / 8)).end ≡ Some (get_or s 12 0) → ⊥)
       → ((n : ℕ) → n / 8 ≡ get_or s 6 0 / 8 → (has o.roll.marks n ≡ true) ↔ (n ≡ get_or s 6 0))
       × ((k : ℕ) → (k ≡ get_or s 6 0 / 8 → ⊥) → segment_at o.roll.marks k ≡ segment_at r.marks k)

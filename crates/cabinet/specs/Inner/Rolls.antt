@@ -9,7 +9,7 @@ use Rattle.cabinet.specs.Numbers.{bit, is_set}
 use Rattle.cabinet.specs.Table.{table}
 use Rattle.cabinet.specs.Roll.{end_in, came_in, ends_in, marks_by, roll_in, roll_says, roll_answer, Outcome, holds}
 use Rattle.cabinet.specs.declared.rolls.Roll.{Roll}
-use Rattle.cabinet.specs.declared.rolls.Kept.{Kept}
+use Rattle.roll.specs.declared.Kept.{Kept}
 
 -- which numbers have come; none where nothing is kept
 unfoldable pub flags_kept : Bool → List ℕ → List Bool
@@ -48,8 +48,8 @@ abbrev pub after_taking : Roll → Bool → List ℕ → of.Roll
 after_taking r keep s = if keep then continued (roll_in r) s else begun_with s
 
 -- what is kept beside the marks
-abbrev pub kept_says : of.Roll → Kept
-kept_says r = record { begun = bit r.begun; sub_table = r.sub_table; version = r.version; last = r.last }
+abbrev pub kept_of : of.Roll → Kept
+kept_of r = record { begun = r.begun; sub_table = r.sub_table; version = r.version; last = r.last }
 
 -- a roll and its answer
 abbrev pub saying : of.Roll → Outcome

@@ -1,6 +1,6 @@
 -- The invariant: the smallest missing from segment `k` on is the smallest of all. As in `roll::segments::missing`, with each
 -- segment made of the flat numbers.
-use Prim.Native.Nat.{◌+◌, ◌-◌, ◌*◌, ◌≤◌}
+use Prim.Native.Nat.{◌+◌, ◌-◌, ◌*◌}
 use mathlib.Core.Path.{◌≡◌}
 use Rattle.roll.specs.Marks.{smallest}
 use Rattle.roll.proofs.Turns.{counted}
@@ -8,9 +8,5 @@ use Rattle.cabinet.specs.Inner.Rolls.{marks_of}
 use Rattle.cabinet.proofs.rolls.missing.Given as goal
 
 abbrev pub invariant-loop-k : goal.invariant-loop-k
-invariant-loop-k l = (l.k ≤ 32)
-    × (smallest (counted l.schedule (marks_of l.flags l.known l.end) l.last) (l.last + 1 - l.k * 8) (l.k * 8)
-    ≡ smallest (counted l.schedule (marks_of l.flags l.known l.end) l.last) (l.last + 1) 0)
-
-abbrev pub decreases-loop-k : goal.decreases-loop-k
-decreases-loop-k l = 32 - l.k
+invariant-loop-k l = smallest (counted l.schedule (marks_of l.flags l.known l.end) l.last) (l.last + 1 - l.k * 8) (l.k * 8)
+    ≡ smallest (counted l.schedule (marks_of l.flags l.known l.end) l.last) (l.last + 1) 0

@@ -9,5 +9,5 @@ returns c =
     (omega (arith, c.shared_slice_known-1.given 6)) c.requires
     c.flags_in-flags.ensures c.known_in-known.ensures c.ends_in-end.ensures c.number_of.ensures
     c.segment_in.ensures c.segment_after-segment.ensures c.put_eight.ensures c.known_says.ensures
-    c.end_says.ensures c.kept_after-kept.ensures c.is_schedule-schedule.ensures c.missing-answer.ensures
-    c.numbers_of.ensures c.answer_says.ensures
+    c.end_says.ensures c.kept_after-kept.ensures c.of_flag.ensures c.is_schedule-schedule.ensures c.missing-progress.ensures
+    c.numbers_of.ensures c.progress_says.ensures
