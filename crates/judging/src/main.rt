@@ -6,8 +6,7 @@
 
 ghost use Rattle.loops.specs.Descriptors.{Steps};
 
-use loops::walk::{Step, Stepped};
-use search::Found;
+use loops::walk::Stepped;
 use std::io;
 use std::io::{Read, Write};
 
@@ -20,20 +19,15 @@ fn number(out: &mut impl Write, n: usize) -> io::Result<()> {
 }
 
 fn tell_found(out: &mut impl Write, section: &[u8], tag: u8) -> io::Result<()> {
-    let found = search::search(section, tag);
-    match found {
-        Found::Hit {
-            number: k,
-            start,
-            size,
-        } => {
+    match search::search(section, tag) {
+        Ok(Some(hit)) => {
             word(out, b"accepted, found")?;
-            number(out, k)?;
-            number(out, start)?;
-            number(out, size)
+            number(out, hit.number)?;
+            number(out, hit.start)?;
+            number(out, hit.size)
         }
-        Found::Nothing => word(out, b"accepted, none"),
-        Found::Refused(_) => word(out, b"refused by the search alone"),
+        Ok(None) => word(out, b"accepted, none"),
+        Err(_) => word(out, b"refused by the search alone"),
     }
 }
 
@@ -70,11 +64,7 @@ fn bytes_in_turn(out: &mut impl Write, bytes: &[u8]) -> io::Result<()> {
 fn tell_step(out: &mut impl Write, bytes: &[u8], stepped: Stepped) -> io::Result<bool> {
     let step = stepped.step;
     match step {
-        Step::Descriptor {
-            tag: _,
-            start: _,
-            size: _,
-        } => {
+        Ok(Some(_)) => {
             word(out, b"descriptor, then at")?;
             number(out, stepped.at)?;
             word(out, b":")?;
@@ -82,15 +72,15 @@ fn tell_step(out: &mut impl Write, bytes: &[u8], stepped: Stepped) -> io::Result
             word(out, b"\n")?;
             Ok(true)
         }
-        Step::End => {
+        Ok(None) => {
             word(out, b"end, at")?;
             number(out, stepped.at)?;
             word(out, b"\n")?;
             Ok(false)
         }
-        Step::Cut(place) => {
+        Err(cut) => {
             word(out, b"refused 9")?;
-            number(out, place)?;
+            number(out, cut.0)?;
             word(out, b", at")?;
             number(out, stepped.at)?;
             word(out, b"\n")?;

@@ -1,54 +1,67 @@
 -- How a search goes on, and where it ends.
-use Prim.Native.Nat.{ℕ, ◌+◌, ◌<◌, ◌≤◌}
-use mathlib.Core.Path.{◌≡◌, refl, ap, ap₂, ◌∙◌, sym}
+use Prim.Native.Nat.{ℕ, ◌+◌, ◌≤◌}
+use mathlib.Core.Path.{◌≡◌, refl, ap, ◌∙◌, sym}
 use mathlib.Core.List.{List, [], ◌∷◌}
 use mathlib.Core.Bool.{Bool, true, false}
 use native.Mathlib.Omega.{arith}
 use native.Mathlib.Decide.{dec_le}
 use borrow.Author.Tests.{eq-eqb, ne_eqb}
-use lib.ListN.{length, take, drop, length-drop}
+use lib.ListN.{length, get_or, take, drop, length-drop}
 use lib.Seq.{length-take-le}
 use lib.Dec.{eqb}
+use Rattle.std.specs.Prelude.{if◌then◌else◌}
 use Rattle.wire.specs.Trail.{Trail, answer}
 use Rattle.wire.proofs.IfLaws.{true_not_false}
 use Rattle.verdict.specs.Verdict.{Said, accepted, refused, is_accepted}
-use Rattle.loops.specs.Descriptors.{Placed, descriptors, step_at, told_step}
+use Rattle.loops.specs.Descriptors.{Placed, descriptors, Gives, descriptor, the_end, refusing, step_at, told_step}
 use Rattle.section.specs.Entries.{entries}
-use Rattle.search.specs.Search.{Outcome, refusing, hit, none, hit_in, hit_from}
-use Rattle.loops.specs.declared.walk.Step.{Step}
-use Rattle.loops.specs.declared.walk.Step.TheVariants.{Descriptor, End, Cut}
-use Rattle.loops.proofs.Loops.{by_step, by_told, told_on}
+use Rattle.std.specs.Prelude.{Option, Some, None, Ok, is_some}
+use Rattle.loops.specs.declared.walk.Body.{Body}
+use Rattle.search.specs.Search as search
+use Rattle.search.specs.Search.{Outcome, hit, none, hit_in, hit_from, told_hit}
+use Rattle.search.specs.declared.Hit.{Hit}
+use Rattle.loops.proofs.Loops.{View, ending, cut, whole, view, step_cut, at-end, by_step, by-step}
 use Rattle.section.proofs.EntryLoops.{At, at_short, at_past, at_fault, at_on}
 
--- one loop, from a place on, by the answer r of the code's step there
-module _ (l : List ℕ) (a tag k : ℕ) (later : Outcome) (r : Step) (e : told_step r ≡ step_at l a) (fits : a ≤ length l) where
-  by : (v : Step) → r ≡ v → hit_in tag k (descriptors a (drop a l)).items later ≡ hit_in tag k (by_step l a (told_step v)).items later
-  by v q = ap (λ (t : Trail Placed Said). hit_in tag k t.items later) (by_told l a r v e q fits)
+-- one loop, from a place on, by what a step says of the place
+abbrev pub by_hit : List ℕ → ℕ → ℕ → Outcome → Gives → Outcome
+by_hit l tag k later (descriptor t b n) = if eqb t tag then hit k b n else hit_in tag k (descriptors (b + n) (drop (b + n) l)).items later
+by_hit l tag k later the_end = later
+by_hit l tag k later (refusing q p) = later
 
-  pub hit_here : (t b n : ℕ) → r ≡ Descriptor t b n → t ≡ tag → hit_in tag k (descriptors a (drop a l)).items later ≡ hit k b n
-  hit_here t b n q same =
-      let h = told_on l a r (Descriptor t b n) e q t b n refl in
-      let f : length (take n (drop b l)) ≡ n = length-take-le n (drop b l) (simp length-drop (omega arith)) in
-      by (Descriptor t b n) q ∙ rw (eq-eqb t tag same) (ap₂ (hit k) (sym h.2) f)
+module _ (l : List ℕ) (a tag k : ℕ) (later : Outcome) where
+  pub hit_step : hit_in tag k (descriptors a (drop a l)).items later ≡ by_hit l tag k later (step_at l a)
+  hit_step = go (dec_le a (length l))
+    where
+      hit_by : Trail Placed Said → Outcome
+      hit_by t = hit_in tag k t.items later
 
-  pub hit_on : (t b n : ℕ) → r ≡ Descriptor t b n → (t ≡ tag → ⊥)
-      → hit_in tag k (descriptors a (drop a l)).items later ≡ hit_in tag k (descriptors (b + n) (drop (b + n) l)).items later
-  hit_on t b n q other = by (Descriptor t b n) q ∙ rw (ne_eqb t tag other)
+      stepped : (g : Gives) → View l a g → hit_by (by_step l a g) ≡ by_hit l tag k later g
+      stepped g (ending h) = refl
+      stepped g (cut h i) = refl
+      stepped g (whole h) =
+          let n : ℕ = get_or l (a + 1) 0 in
+          let f : length (take n (drop (a + 2) l)) ≡ n = length-take-le n (drop (a + 2) l) (simp length-drop (omega arith)) in
+          rw f
 
-  pub hit-end : r ≡ End → hit_in tag k (descriptors a (drop a l)).items later ≡ later
-  hit-end q = by End q
+      go : Dec (a ≤ length l) → hit_by (descriptors a (drop a l)) ≡ by_hit l tag k later (step_at l a)
+      go (yes h) = ap hit_by (by-step l a h) ∙ stepped (step_at l a) (view l a)
+      go (no h) =
+          ap hit_by (at-end l a (omega arith))
+          ∙ sym (ap (by_hit l tag k later) (step_cut l a (λ e. omega arith) (omega arith)))
 
-  pub hit_cut : (p : ℕ) → r ≡ Cut p → hit_in tag k (descriptors a (drop a l)).items later ≡ later
-  hit_cut p q = by (Cut p) q
+-- where a descriptor stands
+module _ (l : List ℕ) (a tag k : ℕ) (later : Outcome) (d : Body) (e : told_step (Ok (Some d)) ≡ step_at l a) where
+  by_its_step : hit_in tag k (descriptors a (drop a l)).items later ≡ by_hit l tag k later (descriptor d.tag d.start d.size)
+  by_its_step = hit_step l a tag k later ∙ ap (by_hit l tag k later) (sym e)
 
-pub fits_within : (l : List ℕ) (next a : ℕ) → next ≤ length l → a ≤ next → a ≤ length (take next l)
-fits_within l next a h g = omega (arith, length-take-le next l h)
+  pub hit_here : d.tag ≡ tag → hit_in tag k (descriptors a (drop a l)).items later ≡ hit k d.start d.size
+  hit_here same = by_its_step ∙ rw (eq-eqb d.tag tag same)
 
--- a step in the loop that ends at the place `next`
-pub told_within : (l : List ℕ) (next a : ℕ) (r : Step) (t b n : ℕ) → next ≤ length l
-    → told_step r ≡ step_at (take next l) a → r ≡ Descriptor t b n
-    → (a < b + n) × (b + n ≤ next)
-told_within l next a r t b n h e q = omega (arith, told_on (take next l) a r (Descriptor t b n) e q t b n refl, length-take-le next l h)
+  pub hit_on : (d.tag ≡ tag → ⊥)
+      → hit_in tag k (descriptors a (drop a l)).items later
+      ≡ hit_in tag k (descriptors (d.start + d.size) (drop (d.start + d.size) l)).items later
+  hit_on other = by_its_step ∙ rw (ne_eqb d.tag tag other)
 
 -- an entry among entries in which there is no fault
 pub record Entry (l : List ℕ) (fixed p n : ℕ) : Type 0 where
@@ -86,7 +99,19 @@ entry_here {l} {fixed} {p} {n} at ok = headed (dec_le (p + fixed) (length l))
 abbrev pub or_else : Outcome → Outcome → Outcome
 or_else none later = later
 or_else (hit k b n) later = hit k b n
-or_else (refusing k p) later = refusing k p
+or_else (search.refusing k p) later = search.refusing k p
+
+pub found_leads : (o : Option Hit) (later : Outcome) → is_some o ≡ true → or_else (told_hit o) later ≡ told_hit o
+found_leads None later e = absurd (true_not_false (sym e))
+found_leads (Some h) later e = refl
+
+pub none_follows : (o : Option Hit) (later : Outcome) → is_some o ≡ false → or_else (told_hit o) later ≡ later
+none_follows None later e = refl
+none_follows (Some h) later e = absurd (true_not_false e)
+
+pub or_none : (o : Option Hit) → or_else (told_hit o) none ≡ told_hit o
+or_none None = refl
+or_none (Some h) = refl
 
 pub hit_or : (tag k : ℕ) (ds : List Placed) (later : Outcome) → hit_in tag k ds later ≡ or_else (hit_in tag k ds none) later
 hit_or tag k [] later = refl

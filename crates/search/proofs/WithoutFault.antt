@@ -68,7 +68,7 @@ module _ (l : List ℕ) (p n : ℕ) (same : n ≡ len12_at l p) where
   two_ok fixed f ok =
       let u = topped_two fixed p (drop p l) f in
       let r = room_tells l p n same (then_ok _ _ (sym (ap answer u) ∙ ok)).0 in
-      let t = u ∙ two_loops_lem l p fixed n same (omega arith) in
+      let t = u ∙ two_loops_lem l p fixed n same in
       let a = then_ok _ _ (sym (ap answer t) ∙ ok) in
       let b = then_ok _ _ (sym (ap answer (t ∙ a.1)) ∙ ok) in
       let s = second_loop_lem l (p + (2 + n)) fixed in

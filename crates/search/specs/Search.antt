@@ -1,13 +1,14 @@
 -- "A search for a tag leaves its nested walk at the first hit, in reading order, and gives the body as a part of the caller's bytes, with 0 for the
 -- top loop or the entry's number from 1; or "none". It refuses 1 to 10 first."
 use Rattle.std.specs.Prelude.{ℕ, ◌+◌, ◌≡◌, List, [], ◌∷◌, length, take, drop, eqb, if◌then◌else◌}
-use Rattle.verdict.specs.Verdict.{told, is_accepted, number_of, place_of}
+use Rattle.std.specs.Prelude.{Option, Some, None, Result, Ok, Err}
+use Rattle.verdict.specs.Verdict.{told_refusal, is_accepted, number_of, place_of}
+use Rattle.verdict.specs.declared.Refusal.{Refusal}
 use Rattle.loops.specs.Descriptors.{Placed}
 use Rattle.section.specs.Reading.{read, judged}
 use Rattle.section.specs.Grammar.{Section}
 use Rattle.section.specs.Faults.{First}
-use Rattle.search.specs.declared.Found.{Found}
-use Rattle.search.specs.declared.Found.TheVariants.{Hit, Nothing, Refused}
+use Rattle.search.specs.declared.Hit.{Hit}
 
 -- what may be said of a search: a refusal's number and place; a hit, by the loop's number, the place of the body and its size; none
 pub data Outcome : Type 0 where
@@ -15,11 +16,19 @@ pub data Outcome : Type 0 where
   hit : ℕ → ℕ → ℕ → Outcome
   none : Outcome
 
--- document 01's number and values for every answer
+-- what a search answers: a hit or none, or why not
+abbrev pub Found : Type 0
+Found = Result (Option Hit) Refusal
+
+-- document 01's values for what was found
+abbrev pub told_hit : Option Hit → Outcome
+told_hit (Some h) = hit h.number h.start h.size
+told_hit None = none
+
+-- and its number and values for every answer
 abbrev pub told_found : Found → Outcome
-told_found (Hit k b n) = hit k b n
-told_found Nothing = none
-told_found (Refused v) = refusing (number_of (told v)) (place_of (told v))
+told_found (Ok o) = told_hit o
+told_found (Err r) = refusing (number_of (told_refusal r)) (place_of (told_refusal r))
 
 -- the first descriptor with the tag in the loop of number k, else what the search of the later loops gives
 abbrev pub hit_in : ℕ → ℕ → List Placed → Outcome → Outcome

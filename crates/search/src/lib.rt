@@ -7,97 +7,66 @@ ghost use Rattle.tables.specs.Tables.{FixedTwo};
 ghost use Rattle.loops.specs.Descriptors.{descriptors};
 ghost use Rattle.section.specs.Entries.{entries};
 ghost use Rattle.section.specs.Reading.{topped, inside};
-ghost use Rattle.search.specs.Search.{none, told_found, hit_in, hit_from, sought, body_of};
+ghost use Rattle.search.specs.Search.{none, told_hit, told_found, hit_in, hit_from, sought, body_of};
 
-use loops::walk::{Step, step_at};
+use loops::walk::step_at;
 use section::judge::{before_crc, judge};
-use tables::{Row, row_at, row_of};
-use verdict::{Verdict, is_accepted};
+use tables::{Row, row_at, table_of};
+use verdict::Refusal;
 
-// What a search answers.
+// A body by its loop's number, 0 for the top loop and else the entry's from 1, its place and its size.
 #[derive(Clone, Copy)]
-pub enum Found {
-    // The loop's number, 0 for the top loop and else the entry's from 1; the place of the body and its size.
-    Hit {
-        number: usize,
-        start: usize,
-        size: usize,
-    },
-    Nothing,
-    // Refusals 1 to 10.
-    Refused(Verdict),
+pub struct Hit {
+    pub number: usize,
+    pub start: usize,
+    pub size: usize,
 }
 
+// What a search answers: a hit or none, or refusals 1 to 10.
+pub type Found = Result<Option<Hit>, Refusal>;
+
 // The top loop, which ends where `bytes` ends, from the place `at` on.
-fn find_in_top(bytes: &[u8], tag: u8, at: usize) -> Found
-    ensures { told_found result ≡ hit_in tag 0 (descriptors at (drop at bytes.now)).items none }
+#[tactic(auto, using(crate::proofs::Hits::hit_step))]
+fn find_in_top(bytes: &[u8], tag: u8, at: usize) -> Option<Hit>
+    ensures { told_hit result ≡ hit_in tag 0 (descriptors at (drop at bytes.now)).items none }
 {
     let mut p = at;
-    while p < bytes.len() {
-        let step = step_at(bytes, p);
-        match step {
-            Step::Descriptor {
-                tag: t,
-                start,
-                size,
-            } => {
-                if t == tag {
-                    return Found::Hit {
-                        number: 0,
-                        start,
-                        size,
-                    };
-                }
-                p = start + size;
-            }
-            Step::End => {
-                return Found::Nothing;
-            }
-            Step::Cut(_) => {
-                return Found::Nothing;
-            }
+    while let Ok(Some(d)) = step_at(bytes, p) {
+        if d.tag == tag {
+            return Some(Hit {
+                number: 0,
+                start: d.start,
+                size: d.size,
+            });
         }
+        p = d.start + d.size;
     }
-    Found::Nothing
+    None
 }
 
 // The entries from the place `at` on.
-fn find_in_entries(bytes: &[u8], tag: u8, fixed: usize, at: usize) -> Found
+#[tactic(auto, using(crate::proofs::Hits::hit_step))]
+fn find_in_entries(bytes: &[u8], tag: u8, fixed: usize, at: usize) -> Option<Hit>
     requires { (2 ≤ fixed) × ((entries fixed at (drop at bytes.now)).ends ≡ accepted) }
-    ensures { told_found result ≡ hit_from tag 1 (entries fixed at (drop at bytes.now)).items }
+    ensures { told_hit result ≡ hit_from tag 1 (entries fixed at (drop at bytes.now)).items }
 {
-    let mut found = Found::Nothing;
+    let mut found = None;
     let mut number: usize = 1;
     let mut p = at;
     'entries: while p < bytes.len() {
         let start = p + fixed;
         let next = start + wire::length12_at(bytes, p + (fixed - 2));
         let mut q = start;
-        'descriptors: loop {
-            let step = step_at(&bytes[..next], q);
-            match step {
-                Step::Descriptor {
-                    tag: t,
-                    start: body,
-                    size,
-                } => {
-                    if t == tag {
-                        found = Found::Hit {
-                            number,
-                            start: body,
-                            size,
-                        };
-                        break 'entries;
-                    }
-                    q = body + size;
-                }
-                Step::End => {
-                    break 'descriptors;
-                }
-                Step::Cut(_) => {
-                    break 'descriptors;
-                }
+        'descriptors: while let Ok(Some(d)) = step_at(&bytes[..next], q) {
+            if d.tag == tag {
+                found = Some(Hit {
+                    number,
+                    start: d.start,
+                    size: d.size,
+                });
+                break 'entries;
             }
+            q = d.start + d.size;
         }
         p = next;
         number += 1;
@@ -106,53 +75,38 @@ fn find_in_entries(bytes: &[u8], tag: u8, fixed: usize, at: usize) -> Found
 }
 
 // A table with a top loop at the place `at`: the top loop first, then the entries behind it, if the table has any.
-fn find_from_top(bytes: &[u8], tag: u8, fixed: usize, at: usize) -> Found
+fn find_from_top(bytes: &[u8], tag: u8, fixed: usize, at: usize) -> Option<Hit>
     requires { FixedTwo fixed × ((topped fixed at (drop at bytes.now)).ends ≡ accepted) }
-    ensures { told_found result ≡ hit_from tag 0 (topped fixed at (drop at bytes.now)).items }
+    ensures { told_hit result ≡ hit_from tag 0 (topped fixed at (drop at bytes.now)).items }
 {
     let end = at + (2 + wire::length12_at(bytes, at));
     let top = find_in_top(&bytes[..end], tag, at + 2);
-    match top {
-        Found::Hit {
-            number: _,
-            start: _,
-            size: _,
-        } => top,
-        Found::Refused(_) => top,
-        Found::Nothing => {
-            if fixed == 0 {
-                return top;
-            }
-            find_in_entries(bytes, tag, fixed, end + 2)
-        }
+    if top.is_some() || fixed == 0 {
+        return top;
     }
+    find_in_entries(bytes, tag, fixed, end + 2)
 }
 
-fn find_inside(row: Row, bytes: &[u8], tag: u8) -> Found
+#[tactic(auto, using(section::proofs::Readings::inside_laws))]
+fn find_inside(row: Row, bytes: &[u8], tag: u8) -> Option<Hit>
     requires { FixedTwo row.fixed × ((inside row row.before (drop row.before bytes.now)).ends ≡ accepted) }
-    ensures { told_found result ≡ hit_from tag 0 (inside row row.before (drop row.before bytes.now)).items }
+    ensures { told_hit result ≡ hit_from tag 0 (inside row row.before (drop row.before bytes.now)).items }
 {
-    let at = row.before;
-    let fixed = row.fixed;
-    if row.top == 1 {
-        return find_from_top(bytes, tag, fixed, at);
+    match (row.top, row.fixed) {
+        (1, fixed) => find_from_top(bytes, tag, fixed, row.before),
+        (_, 0) => None,
+        (_, fixed) => find_in_entries(bytes, tag, fixed, row.before),
     }
-    if fixed == 0 {
-        return Found::Nothing;
-    }
-    find_in_entries(bytes, tag, fixed, at)
 }
 
 // The first descriptor with the tag.
+#[tactic(auto, using(verdict::proofs::SaidLaws::refusal_lem), unfolding(crate::specs::Search::sought))]
 pub fn search(section: &[u8], tag: u8) -> Found
     ensures { told_found result ≡ sought section.now tag }
 {
-    let verdict = judge(section);
-    if is_accepted(verdict) {
-        let row = row_at(row_of(wire::numbers::byte_at(section, 0)));
-        return find_inside(row, before_crc(row, section), tag);
-    }
-    Found::Refused(verdict)
+    judge(section)?;
+    let row = row_at(table_of(wire::numbers::byte_at(section, 0)));
+    Ok(find_inside(row, before_crc(row, section), tag))
 }
 
 // The body that a hit names, as a part of the section; nothing where there is no hit.
@@ -160,12 +114,7 @@ pub fn body<'a>(section: &'a [u8], found: Found) -> &'a [u8]
     ensures { result.now ≡ body_of section.now (told_found found) }
 {
     match found {
-        Found::Hit {
-            number: _,
-            start,
-            size,
-        } => wire::parts::part(section, start, size),
-        Found::Nothing => &section[..0],
-        Found::Refused(_) => &section[..0],
+        Ok(Some(hit)) => wire::parts::part(section, hit.start, hit.size),
+        _ => &section[..0],
     }
 }

@@ -1,5 +1,5 @@
 -- `search::find_in_entries` meets its contract. Both loops: what is still to be searched gives what the whole gives.
-use Rattle.search.specs.declared.Found.TheVariants.{Nothing}
+use Rattle.std.specs.Prelude.{None}
 use Rattle.search.specs.Search.{hit_in, hit_from}
 use Rattle.section.specs.Entries.{entries}
 use Rattle.loops.specs.Descriptors.{descriptors}
@@ -22,7 +22,7 @@ decreases-descriptors l = l.next - l.q
 abbrev pub invariant-entries : goal.invariant-entries
 invariant-entries l = (hit_from l.tag l.number (entries l.fixed l.p (drop l.p l.bytes)).items ≡ hit_from l.tag 1
     (entries l.fixed l.at (drop l.at l.bytes)).items)
-    × ((entries l.fixed l.p (drop l.p l.bytes)).ends ≡ accepted) × (l.found ≡ Nothing) × (l.number ≤ l.p + 1)
+    × ((entries l.fixed l.p (drop l.p l.bytes)).ends ≡ accepted) × (l.found ≡ None) × (l.number ≤ l.p + 1)
 
 abbrev pub decreases-entries : goal.decreases-entries
 decreases-entries l = length l.bytes - l.p

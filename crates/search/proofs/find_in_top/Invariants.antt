@@ -6,9 +6,9 @@ use Rattle.loops.specs.Descriptors.{descriptors}
 use Rattle.search.specs.Search.{none, hit_in}
 use Rattle.search.proofs.find_in_top.Given as goal
 
-abbrev pub invariant-loop-p : goal.invariant-loop-p
-invariant-loop-p l = hit_in l.tag 0 (descriptors l.p (drop l.p l.bytes)).items none ≡ hit_in l.tag 0
+abbrev pub invariant-loop-d : goal.invariant-loop-d
+invariant-loop-d l = hit_in l.tag 0 (descriptors l.p (drop l.p l.bytes)).items none ≡ hit_in l.tag 0
     (descriptors l.at (drop l.at l.bytes)).items none
 
-abbrev pub decreases-loop-p : goal.decreases-loop-p
-decreases-loop-p l = length l.bytes - l.p
+abbrev pub decreases-loop-d : goal.decreases-loop-d
+decreases-loop-d l = length l.bytes - l.p
