@@ -13,9 +13,14 @@ pub struct Sized {
 pub fn sized_at(numbers: &[i32], at: usize) -> Sized
     ensures { result ≡ sized (get_or numbers.now at (pos 0)) }
 {
-    let z = numbers.get(at).copied().unwrap_or(0);
-    Sized {
-        below_zero: z < 0,
-        size: z.unsigned_abs(),
+    match numbers.get(at) {
+        Some(&z) => Sized {
+            below_zero: z < 0,
+            size: z.unsigned_abs(),
+        },
+        None => Sized {
+            below_zero: false,
+            size: 0,
+        },
     }
 }
