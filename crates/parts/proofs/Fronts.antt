@@ -6,13 +6,14 @@ use mathlib.Core.List.{List}
 use native.Mathlib.Omega.{arith}
 use borrow.Author.Tests.{le-leb, lt-leb, leb-true, eq-eqb, ne_eqb}
 use lib.ListN.{length, get_or}
+use Rattle.std.specs.Prelude.{Some, None}
 use Rattle.wire.specs.Bytes.{len12_at}
 use Rattle.tables.specs.Tables.{cell, row_at}
 use Rattle.section.specs.Reading.{row_for}
 use Rattle.parts.specs.Parts.{within}
-use Rattle.parts.specs.Entries.{no_entry, one_entry, loop_size, entry_at, next_entry}
-use Rattle.parts.specs.Descriptors.{no_descriptor, one_descriptor, descriptor_at, next_descriptor}
-use Rattle.parts.specs.Room.{no_section, one_section, section_at, next_section}
+use Rattle.parts.specs.Entries.{one_entry, loop_size, entry_at, next_entry}
+use Rattle.parts.specs.Descriptors.{one_descriptor, descriptor_at, next_descriptor}
+use Rattle.parts.specs.Room.{one_section, section_at, next_section}
 use Rattle.parts.specs.declared.Part.{Part}
 
 -- each row has few bytes before its first loop or entry
@@ -42,15 +43,16 @@ module _ (s : List ℕ) (r : Part) where
 
   -- entries
   module _ (fixed : ℕ) where
-    pub entry_none : fixed ≡ 0 → entry_at s fixed r ≡ no_entry r
+    pub entry_none : fixed ≡ 0 → entry_at s fixed r ≡ None
     unfolding entry_at
     entry_none e = rw (eq-eqb fixed 0 e)
 
-    pub entry_short : (fixed ≡ 0 → ⊥) → r.size < fixed + loop_size s fixed r → entry_at s fixed r ≡ no_entry r
+    pub entry_short : (fixed ≡ 0 → ⊥) → r.size < fixed + loop_size s fixed r → entry_at s fixed r ≡ None
     unfolding entry_at
     entry_short e h = rw (ne_eqb fixed 0 e, lt-leb (fixed + loop_size s fixed r) r.size h)
 
-    pub entry_whole : (n : ℕ) → n ≡ loop_size s fixed r → (fixed ≡ 0 → ⊥) → fixed + n ≤ r.size → entry_at s fixed r ≡ one_entry fixed n r
+    pub entry_whole : (n : ℕ) → n ≡ loop_size s fixed r → (fixed ≡ 0 → ⊥) → fixed + n ≤ r.size
+        → entry_at s fixed r ≡ Some (one_entry fixed n r)
     unfolding entry_at
     entry_whole n same e h =
         let g : fixed + loop_size s fixed r ≤ r.size = omega arith in
@@ -60,17 +62,17 @@ module _ (s : List ℕ) (r : Part) where
   unfolding next_entry
   entry_in e t = rw (← e, t)
 
-  pub entry_out : {b : Bool} → b ≡ within s r → b ≡ false → next_entry s r ≡ no_entry r
+  pub entry_out : {b : Bool} → b ≡ within s r → b ≡ false → next_entry s r ≡ None
   unfolding next_entry
   entry_out e t = rw (← e, t)
 
   -- descriptors
-  pub descriptor_short : r.size < 2 + get_or s (r.start + 1) 0 → descriptor_at s r ≡ no_descriptor r
+  pub descriptor_short : r.size < 2 + get_or s (r.start + 1) 0 → descriptor_at s r ≡ None
   unfolding descriptor_at
   descriptor_short h = rw (lt-leb (2 + get_or s (r.start + 1) 0) r.size h)
 
   pub descriptor_whole : (n : ℕ) → n ≡ get_or s (r.start + 1) 0 → 2 + n ≤ r.size
-      → descriptor_at s r ≡ one_descriptor (get_or s r.start 0) n r
+      → descriptor_at s r ≡ Some (one_descriptor (get_or s r.start 0) n r)
   unfolding descriptor_at
   descriptor_whole n same h =
       let g : 2 + get_or s (r.start + 1) 0 ≤ r.size = omega arith in
@@ -80,16 +82,16 @@ module _ (s : List ℕ) (r : Part) where
   unfolding next_descriptor
   descriptor_in e t = rw (← e, t)
 
-  pub descriptor_out : {b : Bool} → b ≡ within s r → b ≡ false → next_descriptor s r ≡ no_descriptor r
+  pub descriptor_out : {b : Bool} → b ≡ within s r → b ≡ false → next_descriptor s r ≡ None
   unfolding next_descriptor
   descriptor_out e t = rw (← e, t)
 
   -- sections
-  pub section_short : r.size < 3 + len12_at s (r.start + 1) → section_at s r ≡ no_section r
+  pub section_short : r.size < 3 + len12_at s (r.start + 1) → section_at s r ≡ None
   unfolding section_at
   section_short h = rw (lt-leb (3 + len12_at s (r.start + 1)) r.size h)
 
-  pub section_whole : (n : ℕ) → n ≡ len12_at s (r.start + 1) → 3 + n ≤ r.size → section_at s r ≡ one_section (3 + n) r
+  pub section_whole : (n : ℕ) → n ≡ len12_at s (r.start + 1) → 3 + n ≤ r.size → section_at s r ≡ Some (one_section (3 + n) r)
   unfolding section_at
   section_whole n same h =
       let g : 3 + len12_at s (r.start + 1) ≤ r.size = omega arith in
@@ -99,6 +101,12 @@ module _ (s : List ℕ) (r : Part) where
   unfolding next_section
   section_in e t = rw (← e, t)
 
-  pub section_out : {b : Bool} → b ≡ within s r → b ≡ false → next_section s r ≡ no_section r
+  pub section_out : {b : Bool} → b ≡ within s r → b ≡ false → next_section s r ≡ None
   unfolding next_section
   section_out e t = rw (← e, t)
+
+pub ruleset section_laws = (section_short, section_whole)
+
+pub ruleset descriptor_laws = (descriptor_short, descriptor_whole)
+
+pub ruleset entry_laws = (entry_none, entry_short, entry_whole)

@@ -5,6 +5,7 @@ use mathlib.Core.List.{List, [], ◌∷◌, ◌++◌}
 use native.Mathlib.Omega.{arith}
 use lib.ListN.{length, get_or, drop, length-append, get_or-append}
 use lib.Seq.{drop_at, get_or-drop}
+use Rattle.std.specs.Prelude.{Some, None}
 use Rattle.wire.specs.Bytes.{len12, len12_at}
 use Rattle.wire.proofs.PartLaws.{part_first, part_second, len12_drop, len12_front}
 use Rattle.tables.specs.Tables.{row_at, FixedTwo}
@@ -18,14 +19,13 @@ use Rattle.section.specs.Grammar as grammar
 use Rattle.section.specs.Grammar.{Head, Entries, Inside, Section, nothing, loop, loops}
 use Rattle.section.proofs.Exactly.{body_cut, section_judged}
 use Rattle.parts.specs.Parts.{part, no_part, behind, Is}
-use Rattle.parts.specs.Entries.{no_entry, one_entry, next_entry}
-use Rattle.parts.specs.Descriptors.{no_descriptor, one_descriptor, next_descriptor}
-use Rattle.parts.specs.Opening.{top_of, entries_of, Opens}
+use Rattle.parts.specs.Entries.{one_entry, next_entry}
+use Rattle.parts.specs.Descriptors.{one_descriptor, next_descriptor}
+use Rattle.parts.specs.Opening.{top_of, entries_of, Answer, Opens}
 use Rattle.parts.specs.Handed.{HandsDescriptors, HandsEntries, top_ones, entry_ones, Through}
 use Rattle.parts.specs.Handed as handed
 use Rattle.tables.specs.declared.Row.{Row}
 use Rattle.parts.specs.declared.Part.{Part}
-use Rattle.parts.specs.declared.opening.Opened as opening
 use Rattle.parts.proofs.Fronts.{is_in, descriptor_in, descriptor_whole, descriptor_short, entry_in, entry_whole, entry_short, entry_none}
 use Rattle.parts.proofs.Openings.{top_there, top_none, entries_none, entries_first, entries_second}
 
@@ -70,16 +70,16 @@ module _ {s : List ℕ} where
 
   -- the first of them
   first_descriptor : {r : Part} (tag : ℕ) (body l : List ℕ) → Is s r (tag ∷ length body ∷ (body ++ l))
-      → next_descriptor s r ≡ one_descriptor tag (length body) r
+      → next_descriptor s r ≡ Some (one_descriptor tag (length body) r)
   first_descriptor {r} tag body l h =
       let all : List ℕ = tag ∷ length body ∷ (body ++ l) in
       let t : get_or s r.start 0 ≡ tag = ap (λ k. get_or s k 0) (omega arith) ∙ byte_of all h 0 (omega arith) in
       let n : get_or s (r.start + 1) 0 ≡ length body = byte_of all h 1 (omega arith) in
       descriptor_in s r (sym (is_in s r (is_inside all h))) refl
       ∙ descriptor_whole s r (length body) (sym n) (omega (arith, h.sized, length-append body l))
-      ∙ ap (λ k. one_descriptor k (length body) r) t
+      ∙ ap (λ k. Some (one_descriptor k (length body) r)) t
 
-  no_more : {r : Part} → Is s r [] → next_descriptor s r ≡ no_descriptor r
+  no_more : {r : Part} → Is s r [] → next_descriptor s r ≡ None
   no_more {r} h = descriptor_in s r (sym (is_in s r (is_inside [] h))) refl ∙ descriptor_short s r (omega (arith, h.sized))
 
   -- a loop of the grammar
@@ -93,7 +93,7 @@ module _ {s : List ℕ} where
       resized n (is_front (tag ∷ length body ∷ body) l h) in
       let rest : Is s (behind (2 + length body) r) l =
       subst (λ k. Is s (behind k r) l) n (is_behind (tag ∷ length body ∷ body) l h) in
-      handed.HandsDescriptors.one (one_descriptor tag (length body) r) _ (first_descriptor tag body l h) refl refl e
+      handed.HandsDescriptors.one (one_descriptor tag (length body) r) _ (first_descriptor tag body l h) refl e
       (is_front body l two) whole
       (loop-handed (behind (2 + length body) r) d (omega arith) rest)
 
@@ -101,7 +101,7 @@ module _ {s : List ℕ} where
 
   module _ (fixed : ℕ) (two : 2 ≤ fixed) (row : fixed ≡ (row_for s).fixed) where
     first_entry : {r : Part} (head body l : List ℕ) → Head fixed head body → Is s r (head ++ (body ++ l))
-        → next_entry s r ≡ one_entry fixed (length body) r
+        → next_entry s r ≡ Some (one_entry fixed (length body) r)
     first_entry {r} head body l g h =
         let all : List ℕ = head ++ (body ++ l) in
         let front = is_front head (body ++ l) h in
@@ -112,7 +112,7 @@ module _ {s : List ℕ} where
         (entry_whole s r fixed (length body) (sym n) (λ z. omega arith)
         (omega (arith, h.sized, g.size, length-append head (body ++ l), length-append body l)))
 
-    no_more_entries : {r : Part} → Is s r [] → next_entry s r ≡ no_entry r
+    no_more_entries : {r : Part} → Is s r [] → next_entry s r ≡ None
     no_more_entries {r} h =
         entry_in s r (sym (is_in s r (is_inside [] h))) refl
         ∙ rw (← row) (entry_short s r fixed (λ z. omega arith) (omega (arith, h.sized)))
@@ -128,7 +128,7 @@ module _ {s : List ℕ} where
         let own : Is s (part (r.start + fixed) (length body)) body = is_front body l behind-head in
         let k : behind (length body) (behind fixed r) ≡ behind (fixed + length body) r = moved in
         let rest : Is s (behind (fixed + length body) r) l = subst (λ q. Is s q l) k (is_behind body l behind-head) in
-        handed.HandsEntries.one (one_entry fixed (length body) r) head body (first_entry head body l g h) refl
+        handed.HandsEntries.one (one_entry fixed (length body) r) head body (first_entry head body l g h)
         (subst (λ n. Head n head body) row g) front own
         (loop-handed (part (r.start + fixed) (length body)) d (omega arith) own)
         (entries_handed (behind (fixed + length body) r) x (omega arith) rest)
@@ -225,7 +225,7 @@ module _ {s : List ℕ} where
       }
 
 -- ALL OF THEM AND IN ORDER: a section's top loop, its entries and their loops are handed out as the grammar has them
-pub section_handed : (s : List ℕ) (ls : List (List Placed)) (o : opening.Opened) → Section s ls → Opens s o → Through s ls o
+pub section_handed : (s : List ℕ) (ls : List (List Placed)) (o : Answer) → Section s ls → Opens s o → Through s ls o
 section_handed s ls o x w =
     record {
       says = w.verdict ∙ yes;

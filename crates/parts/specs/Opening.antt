@@ -1,7 +1,9 @@
 -- Where the time, the top loop and the entries of a section stand that the judge accepts; nothing of any other.
 use Rattle.std.specs.Prelude.{ℕ, ◌+◌, ◌-◌, ◌≡◌, List, length, get_or, eqb, if◌then◌else◌}
 use Rattle.wire.specs.Bytes.{len12_at}
-use Rattle.verdict.specs.Verdict.{told, is_accepted}
+use Rattle.std.specs.Prelude.{Result, Ok, Err}
+use Rattle.verdict.specs.Verdict.{Said, accepted, told_refusal, is_accepted}
+use Rattle.verdict.specs.declared.Refusal.{Refusal}
 use Rattle.tables.specs.Tables.{is_numbered, row_of}
 use Rattle.section.specs.Reading.{body, row_for, judged}
 use Rattle.parts.specs.Parts.{part, no_part}
@@ -44,9 +46,23 @@ top_loop s = if_accepted s (top_of (row_for s) s)
 abbrev pub entries_in : List ℕ → Part
 entries_in s = if_accepted s (entries_of (row_for s) s)
 
+-- what opening answers: the parts, or why not
+abbrev pub Answer : Type 0
+Answer = Result Opened Refusal
+
+-- the judge's verdict in it
+abbrev pub said : Answer → Said
+said (Ok o) = accepted
+said (Err r) = told_refusal r
+
+-- the parts in it; of one that is refused nothing is handed out
+abbrev pub handed : Answer → Opened
+handed (Ok o) = o
+handed (Err r) = record { utc_time = no_part; top = no_part; entries = no_part }
+
 -- what opening bytes gives: the judge's verdict, and the parts
-pub record Opens (s : List ℕ) (o : Opened) : Type 0 where
-  pub verdict : told o.verdict ≡ judged s
-  pub utc_time_lem : o.utc_time ≡ utcTime s
-  pub top : o.top ≡ top_loop s
-  pub entries : o.entries ≡ entries_in s
+pub record Opens (s : List ℕ) (o : Answer) : Type 0 where
+  pub verdict : said o ≡ judged s
+  pub utc_time_lem : (handed o).utc_time ≡ utcTime s
+  pub top : (handed o).top ≡ top_loop s
+  pub entries : (handed o).entries ≡ entries_in s

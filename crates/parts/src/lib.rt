@@ -25,13 +25,9 @@ pub fn no_part() -> Part
 }
 
 // Whether the part lies in the bytes.
+#[tactic(auto, unfolding(crate::specs::Parts::within))]
 pub fn is_within(bytes: &[u8], part: Part) -> bool
     ensures { result ≡ within bytes.now part }
 {
-    let start = part.start;
-    let size = part.size;
-    if bytes.len() < start {
-        return false;
-    }
-    size <= bytes.len() - start
+    part.start <= bytes.len() && part.size <= bytes.len() - part.start
 }

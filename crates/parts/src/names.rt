@@ -6,7 +6,7 @@ ghost use Rattle.parts.specs.Names.{id_in, network_in, event_at, event_part, sta
 use crate::{Part, is_within, no_part};
 use clock::time::Moment;
 use clock::{Fault, Hms};
-use tables::{BAT, EIT, NIT, row_of};
+use tables::{Table, table_of};
 use wire::numbers::{byte_at, number16_at};
 
 // The first two of an entry's fixed bytes: SDT's service_id, EIT's event_id, the transport_stream_id of NIT and BAT.
@@ -17,38 +17,38 @@ pub fn id_in(section: &[u8], fixed: Part) -> u16
 }
 
 // The original_network_id of an entry of NIT or BAT; 0 for other tables.
+#[tactic(auto, unfolding(crate::specs::Names::network_in))]
 pub fn network_in(section: &[u8], fixed: Part) -> u16
     ensures { result ≡ network_in section.now fixed }
 {
-    let row = row_of(byte_at(section, 0));
-    let bytes = wire::parts::part(section, fixed.start, fixed.size);
-    if row == NIT {
-        return number16_at(bytes, 2);
+    match table_of(byte_at(section, 0)) {
+        Some(Table::Nit | Table::Bat) => number16_at(
+            wire::parts::part(section, fixed.start, fixed.size),
+            2,
+        ),
+        _ => 0,
     }
-    if row == BAT {
-        return number16_at(bytes, 2);
-    }
-    0
 }
 
 // `size` of an event's fixed bytes, `from` bytes behind the first of them; of no size where they are no event's.
+#[tactic(auto, unfolding(crate::specs::Names::event_at))]
 fn event_at(section: &[u8], fixed: Part, from: usize, size: usize) -> Part
     requires { (from + size ≤ 12) × (fixed.start + fixed.size ≤ length section.now) }
     ensures { result ≡ event_at section.now fixed from size }
 {
-    let start = fixed.start;
     if fixed.size < 12 {
         return no_part();
     }
-    if row_of(byte_at(section, 0)) == EIT {
-        return Part {
-            start: start + from,
+    match table_of(byte_at(section, 0)) {
+        Some(Table::Eit) => Part {
+            start: fixed.start + from,
             size,
-        };
+        },
+        _ => no_part(),
     }
-    no_part()
 }
 
+#[tactic(auto, unfolding(crate::specs::Names::event_part))]
 fn event_part(section: &[u8], fixed: Part, from: usize, size: usize) -> Part
     requires { from + size ≤ 12 }
     ensures { result ≡ event_part section.now fixed from size }

@@ -1,16 +1,15 @@
 // A section that is accepted, opened: where its time, its top loop and its entries stand.
 ghost use Rattle.std.specs.Prelude.{◌≡◌, ◌<◌};
+ghost use Rattle.tables.specs.Tables.{place_or_unknown};
 ghost use Rattle.parts.specs.Opening.{utc_of, top_of, entries_of, Opens};
 
 use crate::{Part, no_part};
 use section::judge::{before_crc, judge};
-use tables::{Row, is_numbered, row_at, row_of};
-use verdict::{Verdict, is_accepted};
+use tables::{Row, Table, is_numbered, row_at, table_of};
+use verdict::Refusal;
 
-// The judge's verdict; where it is a refusal, every part is of no size.
 #[derive(Clone, Copy)]
 pub struct Opened {
-    pub verdict: Verdict,
     // UTC_time of TDT and TOT.
     pub utc_time: Part,
     // The top loop of NIT, BAT and TOT.
@@ -19,15 +18,17 @@ pub struct Opened {
     pub entries: Part,
 }
 
-fn utc_of(row: usize) -> Part
-    ensures { result ≡ utc_of row }
+#[tactic(auto, unfolding(crate::specs::Opening::utc_of))]
+fn utc_of(table: Option<Table>) -> Part
+    ensures { result ≡ utc_of (place_or_unknown table) }
 {
-    if is_numbered(row) {
+    if is_numbered(table) {
         return no_part();
     }
     Part { start: 3, size: 5 }
 }
 
+#[tactic(auto, unfolding(crate::specs::Opening::top_of))]
 fn top_of(row: Row, section: &[u8]) -> Part
     requires { row.before < 256 }
     ensures { result ≡ top_of row section.now }
@@ -42,6 +43,7 @@ fn top_of(row: Row, section: &[u8]) -> Part
     no_part()
 }
 
+#[tactic(auto, unfolding(crate::specs::Opening::entries_of))]
 fn entries_of(row: Row, section: &[u8]) -> Part
     requires { row.before < 256 }
     ensures { result ≡ entries_of row section.now }
@@ -64,24 +66,16 @@ fn entries_of(row: Row, section: &[u8]) -> Part
     }
 }
 
-pub fn open(section: &[u8]) -> Opened
+// The parts of a section, or the judge's refusal.
+pub fn open(section: &[u8]) -> Result<Opened, Refusal>
     ensures { Opens section.now result }
 {
-    let verdict = judge(section);
-    if is_accepted(verdict) {
-        let i = row_of(wire::numbers::byte_at(section, 0));
-        let row = row_at(i);
-        return Opened {
-            verdict,
-            utc_time: utc_of(i),
-            top: top_of(row, section),
-            entries: entries_of(row, section),
-        };
-    }
-    Opened {
-        verdict,
-        utc_time: no_part(),
-        top: no_part(),
-        entries: no_part(),
-    }
+    judge(section)?;
+    let table = table_of(wire::numbers::byte_at(section, 0));
+    let row = row_at(table);
+    Ok(Opened {
+        utc_time: utc_of(table),
+        top: top_of(row, section),
+        entries: entries_of(row, section),
+    })
 }
