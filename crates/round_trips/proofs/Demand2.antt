@@ -4,6 +4,7 @@ use mathlib.Core.Path.{◌≡◌, sym, ap, ◌∙◌, subst}
 use mathlib.Core.List.{List}
 use native.Mathlib.Omega.{arith}
 use lib.ListN.{length, take, drop, take-append-drop}
+use Rattle.std.specs.Prelude.{Ok}
 use Rattle.forms.proofs.Lawful.{bytes_front}
 use Rattle.section.specs.Reading.{judged}
 use Rattle.contents.specs.Ones.{ReservedWereOnes}
@@ -13,8 +14,6 @@ use Rattle.round_trips.specs.Demand2.{SheetAndBack, SectionAndBack, WrittenAsOne
 use Rattle.round_trips.proofs.RoundTrips as trips
 use Rattle.round_trips.proofs.Rooms.{section_given, sheet_given}
 use Rattle.round_trips.proofs.Unique.{section_once, sheet_once}
-use Rattle.turn.specs.declared.SectionAnswer.TheVariants as section
-use Rattle.turn.specs.declared.SheetAnswer.TheVariants as sheet
 
 -- bytes that are given stand at the front of the room
 front : (p p' s : List ℕ) (x : Outcome) → x ≡ gives s → length s ≤ length p → p' ≡ roomAfter p x
@@ -29,7 +28,7 @@ sheet_and_back s o o' p p' n r w a big b =
     let z : to_sheet (length p) (take n o') ≡ gives s = ap (to_sheet (length p)) t ∙ y.1 in
     let small = trips.accepted_sheet_at_most (length o) s g.bytes w g.is in (
       ap judged t ∙ y.0,
-      sheet_once r (sheet.Wrote (length s)) (b.0 ∙ ap answer z),
+      sheet_once r (Ok (length s)) (b.0 ∙ ap answer z),
       front p p' s _ z (omega arith) b.1,
     )
 
@@ -39,7 +38,7 @@ section_and_back s o o' p p' n r w u a big b =
     let y = trips.section_and_back (length p) (length o) s g.bytes w big u g.is in
     let z : to_section (length p) (take n o') ≡ gives s = ap (to_section (length p)) g.in_room.first ∙ y in
     let small = trips.accepted_section_at_most (length o) s g.bytes w g.is in (
-      section_once r (section.Wrote (length s)) (b.0 ∙ ap answer z),
+      section_once r (Ok (length s)) (b.0 ∙ ap answer z),
       front p p' s _ z (omega arith) b.1,
     )
 
@@ -57,5 +56,5 @@ pub any_section_and_back : AnySectionAndBack
 any_section_and_back s o o' p p' n r w a big b =
     let g = sheet_given s o o' n w a in
     let y = trips.any_section_and_back (length p) (length o) s g.bytes w big g.is in
-    section_once r (section.Wrote (length s))
+    section_once r (Ok (length s))
     (b.0 ∙ ap answer (ap (to_section (length p)) g.in_room.first ∙ y.1) ∙ ap wrote y.2)

@@ -6,6 +6,7 @@ use mathlib.Core.List.{List}
 use native.Mathlib.Omega.{arith}
 use native.Mathlib.Decide.{dec_lt}
 use lib.ListN.{length}
+use Rattle.std.specs.Prelude.{Ok, Err}
 use Rattle.wire.specs.Bytes.{Bytes}
 use Rattle.forms.proofs.Lawful.{read_on}
 use Rattle.wire.specs.Reading as reading
@@ -29,8 +30,8 @@ use Rattle.round_trips.proofs.Numbers.{sheet_numbers, section_numbers}
 use Rattle.round_trips.proofs.Unique.{section_once, sheet_once}
 use Rattle.round_trips.proofs.RoundTrips.{no_gives, from_sheet, from_section}
 use Rattle.round_trips.proofs.Rooms.{section_given, sheet_given}
-use Rattle.turn.specs.declared.SectionAnswer.TheVariants as section
-use Rattle.turn.specs.declared.SheetAnswer.TheVariants as sheet
+use Rattle.turn.specs.declared.SectionRefusal.TheVariants as section
+use Rattle.turn.specs.declared.SheetRefusal.TheVariants as sheet
 
 -- ---- what a writer tells is what its outcome is
 
@@ -81,7 +82,7 @@ accepted_reading s c e = read_on _ e
 pub section_made_exactly_if : SectionMadeExactlyIf
 section_made_exactly_if s o o' r w p m = (forth, back)
   where
-    forth : r ≡ section.Wrote m → (4096 ≤ length o) × ((n : ℕ) × AcceptedSheet s n × (m ≡ 3 + n))
+    forth : r ≡ Ok m → (4096 ≤ length o) × ((n : ℕ) × AcceptedSheet s n × (m ≡ 3 + n))
     forth e =
         let g = section_given s o o' m w (subst (λ a. ToSection s o a o') e p) in
         let x = from_sheet (length o) s g.bytes w g.is in
@@ -94,17 +95,17 @@ section_made_exactly_if s o o' r w p m = (forth, back)
           ),
         )
 
-    back : (4096 ≤ length o) × ((n : ℕ) × AcceptedSheet s n × (m ≡ 3 + n)) → r ≡ section.Wrote m
+    back : (4096 ≤ length o) × ((n : ℕ) × AcceptedSheet s n × (m ≡ 3 + n)) → r ≡ Ok m
     back (h, (n, a, e)) =
         let x = section_made (length o) s n w h ((sheets.accepted_exactly_if s w n).1 a) in
         let l = section_length_lem x.content (held s x.content w x.reads).holds.known in
         let i : length (section_of x.content) ≡ m = l ∙ ap (λ y. 3 + y) (sym x.length_is) ∙ sym e in
-        section_once r (section.Wrote m) (p.0 ∙ ap answer x.gives ∙ ap wrote i)
+        section_once r (Ok m) (p.0 ∙ ap answer x.gives ∙ ap wrote i)
 
 pub section_room_first : SectionRoomFirst
 section_room_first s o o' r w p = (
   λ e. go ((section_refused_exactly_if s o o' r w p 21 0).0 (ap toldSection e)),
-  λ h. section_once r section.Room (p.0 ∙ ap answer (section_no_room (length o) s h)),
+  λ h. section_once r (Err section.Room) (p.0 ∙ ap answer (section_no_room (length o) s h)),
 )
   where
     go : SectionRefusal (length o) s 21 0 → length o < 4096
@@ -142,13 +143,13 @@ sheet_made_exactly_if s o o' r w p = (
       (x.room, (judging.accepted_exactly_if s).0 x.is_accepted_lem),
   λ x.
       let y = sheet_made (length o) s w x.0 ((judging.accepted_exactly_if s).1 x.1) in
-      (_, sheet_once r (sheet.Wrote _) (p.0 ∙ ap answer y.gives)),
+      (_, sheet_once r (Ok _) (p.0 ∙ ap answer y.gives)),
 )
 
 pub sheet_room_first : SheetRoomFirst
 sheet_room_first s o o' r w p = (
   λ e. go ((sheet_refused_exactly_if s o o' r w p 21 0).0 (ap toldSheet e)),
-  λ h. sheet_once r sheet.Room (p.0 ∙ ap answer (sheet_no_room (length o) s h)),
+  λ h. sheet_once r (Err sheet.Room) (p.0 ∙ ap answer (sheet_no_room (length o) s h)),
 )
   where
     go : SheetRefusal (length o) s 21 0 → length o < 5120

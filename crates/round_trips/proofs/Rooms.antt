@@ -4,6 +4,7 @@ use mathlib.Core.Path.{◌≡◌, refl, sym, ◌∙◌, subst}
 use mathlib.Core.List.{List}
 use native.Mathlib.Omega.{arith}
 use lib.ListN.{length}
+use Rattle.std.specs.Prelude.{Ok}
 use Rattle.wire.specs.Bytes.{Bytes}
 use Rattle.forms.specs.Outcome.{Begins}
 use Rattle.forms.proofs.Outcomes.{success_writes}
@@ -11,8 +12,6 @@ use Rattle.turn.specs.Turn.{Outcome, gives, refuses, to_section, to_sheet, wrote
 use Rattle.turn.specs.Promise.{ToSection, ToSheet}
 use Rattle.round_trips.specs.Rooms.{Written, SectionIsWritten, SheetIsWritten, RefusedSectionUnaltered, RefusedSheetUnaltered}
 use Rattle.round_trips.proofs.RoundTrips as trips
-use Rattle.turn.specs.declared.SectionAnswer.TheVariants as section
-use Rattle.turn.specs.declared.SheetAnswer.TheVariants as sheet
 
 -- what is told to be written is what the outcome x gives
 pub record Given (x : Outcome) (most n : ℕ) (o o' : List ℕ) : Type 0 where
@@ -31,13 +30,13 @@ given most n o o' (gives t) fits e f =
     record { bytes = t; is = refl; in_room = subst (λ m. Written most m t o o') (sym cc) w }
 given most n o o' (refuses k p) fits e f = let z : ◌≡◌ {A = ℕ} 0 1 = cc in absurd (omega arith)
 
-pub section_given : (s o o' : List ℕ) (n : ℕ) → Bytes s → ToSection s o (section.Wrote n) o'
+pub section_given : (s o o' : List ℕ) (n : ℕ) → Bytes s → ToSection s o (Ok n) o'
     → Given (to_section (length o) s) 4096 n o o'
 section_given s o o' n w a =
     given 4096 n o o' (to_section (length o) s)
     (λ t e. (trips.section_at_most (length o) s t w e, (trips.from_sheet (length o) s t w e).room)) a.0 a.1
 
-pub sheet_given : (s o o' : List ℕ) (n : ℕ) → Bytes s → ToSheet s o (sheet.Wrote n) o'
+pub sheet_given : (s o o' : List ℕ) (n : ℕ) → Bytes s → ToSheet s o (Ok n) o'
     → Given (to_sheet (length o) s) 5120 n o o'
 sheet_given s o o' n w a =
     given 5120 n o o' (to_sheet (length o) s)

@@ -1,18 +1,16 @@
 -- Demand 1, of both turns: "Input to which numbered refusals apply gets the first of them in document 01's order, ..
 -- no other input is refused."
-use Rattle.std.specs.Prelude.{ℕ, ◌+◌, ◌<◌, ◌≤◌, ◌≡◌, ◌↔◌, List, length}
+use Rattle.std.specs.Prelude.{ℕ, ◌+◌, ◌<◌, ◌≤◌, ◌≡◌, ◌↔◌, List, length, Ok, Err}
 use Rattle.wire.specs.Bytes.{Bytes}
 use Rattle.loops.specs.Descriptors.{Placed}
 use Rattle.section.specs.Grammar.{Section}
 use Rattle.section.specs.Faults.{First}
 use Rattle.sheet.specs.Faults.{SheetFault, AcceptedSheet}
 use Rattle.turn.specs.Turn.{refused_with}
-use Rattle.turn.specs.Answers.{toldSection, toldSheet}
+use Rattle.turn.specs.Answers.{SectionAnswer, SheetAnswer, toldSection, toldSheet}
 use Rattle.turn.specs.Promise.{ToSection, ToSheet}
-use Rattle.turn.specs.declared.SectionAnswer.{SectionAnswer}
-use Rattle.turn.specs.declared.SectionAnswer.TheVariants as section
-use Rattle.turn.specs.declared.SheetAnswer.{SheetAnswer}
-use Rattle.turn.specs.declared.SheetAnswer.TheVariants as sheet
+use Rattle.turn.specs.declared.SectionRefusal.TheVariants as section
+use Rattle.turn.specs.declared.SheetRefusal.TheVariants as sheet
 
 -- number and place of what is wrong with a sheet s and a room of n bytes: "21 comes first, then 22 to 24 as read left
 -- to right, 25, 26."
@@ -35,7 +33,7 @@ SectionRefusedExactlyIf = (s o o' : List ℕ) (r : SectionAnswer) → Bytes s �
 -- an accepted sheet and a room of 4,096 bytes give a section: 3 bytes and its section_length; nothing else does
 abbrev pub SectionMadeExactlyIf : Type 0
 SectionMadeExactlyIf = (s o o' : List ℕ) (r : SectionAnswer) → Bytes s → ToSection s o r o'
-    → (m : ℕ) → (r ≡ section.Wrote m) ↔ ((4096 ≤ length o) × ((n : ℕ) × AcceptedSheet s n × (m ≡ 3 + n)))
+    → (m : ℕ) → (r ≡ Ok m) ↔ ((4096 ≤ length o) × ((n : ℕ) × AcceptedSheet s n × (m ≡ 3 + n)))
 
 -- a call of `to_sheet` refuses exactly if
 abbrev pub SheetRefusedExactlyIf : Type 0
@@ -45,14 +43,14 @@ SheetRefusedExactlyIf = (s o o' : List ℕ) (r : SheetAnswer) → Bytes s → To
 -- an accepted section and a room of 5,120 bytes give a sheet; nothing else does
 abbrev pub SheetMadeExactlyIf : Type 0
 SheetMadeExactlyIf = (s o o' : List ℕ) (r : SheetAnswer) → Bytes s → ToSheet s o r o'
-    → ((n : ℕ) × (r ≡ sheet.Wrote n)) ↔ ((5120 ≤ length o) × ((loops : List (List Placed)) × Section s loops))
+    → ((n : ℕ) × (r ≡ Ok n)) ↔ ((5120 ≤ length o) × ((loops : List (List Placed)) × Section s loops))
 
 -- "21 comes first": 21 exactly if the room is short, whatever it is to be made of
 abbrev pub SectionRoomFirst : Type 0
 SectionRoomFirst = (s o o' : List ℕ) (r : SectionAnswer) → Bytes s → ToSection s o r o'
-    → (r ≡ section.Room) ↔ (length o < 4096)
+    → (r ≡ Err section.Room) ↔ (length o < 4096)
 
 -- the same for a sheet
 abbrev pub SheetRoomFirst : Type 0
 SheetRoomFirst = (s o o' : List ℕ) (r : SheetAnswer) → Bytes s → ToSheet s o r o'
-    → (r ≡ sheet.Room) ↔ (length o < 5120)
+    → (r ≡ Err sheet.Room) ↔ (length o < 5120)

@@ -1,6 +1,6 @@
 -- What a call does to the room: "Success writes the first n bytes and tells n; later bytes stay.", and demand 1's
 -- "all lent room unaltered".
-use Rattle.std.specs.Prelude.{ℕ, ◌≤◌, ◌≡◌, List, length, take, drop}
+use Rattle.std.specs.Prelude.{ℕ, ◌≤◌, ◌≡◌, List, length, take, drop, Ok}
 use Rattle.wire.specs.Bytes.{Bytes}
 use Rattle.wire.specs.Reading.{value}
 use Rattle.verdict.specs.Verdict.{accepted}
@@ -9,12 +9,8 @@ use Rattle.sheet.specs.Content.{Content}
 use Rattle.sheet.specs.Sheet.{SheetOk, sheet_of}
 use Rattle.sheet.specs.Section.{section_of, content_of}
 use Rattle.turn.specs.Turn.{refused_with}
-use Rattle.turn.specs.Answers.{toldSection, toldSheet}
+use Rattle.turn.specs.Answers.{SectionAnswer, SheetAnswer, toldSection, toldSheet}
 use Rattle.turn.specs.Promise.{ToSection, ToSheet}
-use Rattle.turn.specs.declared.SectionAnswer.{SectionAnswer}
-use Rattle.turn.specs.declared.SectionAnswer.TheVariants as section
-use Rattle.turn.specs.declared.SheetAnswer.{SheetAnswer}
-use Rattle.turn.specs.declared.SheetAnswer.TheVariants as sheet
 
 -- n bytes were told, at most so many: the room begins with the bytes t, of which there are n, and ends as before
 pub record Written (most n : ℕ) (t o o' : List ℕ) : Type 0 where
@@ -26,12 +22,12 @@ pub record Written (most n : ℕ) (t o o' : List ℕ) : Type 0 where
 
 -- a section was written: that of the content of which s is the sheet
 abbrev pub SectionIsWritten : Type 0
-SectionIsWritten = (s o o' : List ℕ) (n : ℕ) → Bytes s → ToSection s o (section.Wrote n) o'
+SectionIsWritten = (s o o' : List ℕ) (n : ℕ) → Bytes s → ToSection s o (Ok n) o'
     → (c : Content) × SheetOk c × (s ≡ sheet_of c) × Written 4096 n (section_of c) o o'
 
 -- a sheet was written: that of the content which s has, an accepted section
 abbrev pub SheetIsWritten : Type 0
-SheetIsWritten = (s o o' : List ℕ) (n : ℕ) → Bytes s → ToSheet s o (sheet.Wrote n) o'
+SheetIsWritten = (s o o' : List ℕ) (n : ℕ) → Bytes s → ToSheet s o (Ok n) o'
     → (judged s ≡ accepted)
     × ((c : Content) × (section_of c ≡ s) × (content_of s ≡ value c) × Written 5120 n (sheet_of c) o o')
 

@@ -17,7 +17,6 @@ use Rattle.wire.specs.Number.{number_at}
 use Rattle.wire.specs.Reading.{Reading, value, refused, ◌>>=◌}
 use Rattle.tables.specs.Tables.{cell, row_of, row_at, place, place_or_unknown}
 use Rattle.tables.specs.declared.Table.{Table}
-use Rattle.tables.specs.declared.Table.TheVariants.{Nit, Sdt, Bat, Eit, Tdt, Tot}
 use Rattle.forms.specs.Form.{Form, raw_read, raw, such_read}
 use Rattle.forms.specs.Room.{sum}
 use Rattle.forms.specs.Fields.{Field, sheet_field}
@@ -31,6 +30,7 @@ use Rattle.sheet.specs.Reads.{Judged, told, told_refusal, judged_for, judged_she
 use Rattle.sheet.specs.Inner.Places.{Ends, Known, Reached, Follows, number_of}
 use Rattle.sheet.specs.Inner.Lengths.{cut, gain, count_at, spare, length_by, judged_length}
 use Rattle.sheet.proofs.SheetLaws.{sheet_lawful}
+use Rattle.sheet.proofs.Shapes.{place_known}
 use Rattle.sheet.proofs.Sizes.{section_spare}
 use Rattle.sheet.proofs.ReadLaws.{told_so}
 use Rattle.sheet.specs.declared.Fault.{Fault}
@@ -174,14 +174,6 @@ module _ (a : ℕ) (t : List ℕ) (known : row_of a < 6) (bytes : Bytes (a ∷ t
       (subst (λ l. section_length c + spare (row_of a) l ≡ length l + gain (row_of a)) q (section_spare c w.1))
 
 -- ---- as the judge knows it
-
-place_known : (t : Table) → place t < 6
-place_known Nit = omega arith
-place_known Sdt = omega arith
-place_known Bat = omega arith
-place_known Eit = omega arith
-place_known Tdt = omega arith
-place_known Tot = omega arith
 
 module _ (t : Table) where
   refused_at : (s : List ℕ) (k : ℕ) → Known s (place t) → (behind_id (place t)).read (drop 1 s) ≡ refused k

@@ -1,12 +1,24 @@
 -- The four shapes of a table, and the columns of its row.
-use Prim.Native.Nat.{ℕ}
+use Prim.Native.Nat.{ℕ, ◌<◌}
 use mathlib.Core.Path.{◌≡◌, refl, ap₂}
 use mathlib.Core.Bool.{Bool, true, false}
+use native.Mathlib.Omega.{arith}
 use borrow.Author.Tests.{eqb-true, eqb-false, eq-eqb, ne_eqb}
 use lib.Dec.{eqb}
-use Rattle.tables.specs.Tables.{row_at}
+use Rattle.tables.specs.Tables.{row_at, place}
+use Rattle.tables.specs.declared.Table.{Table}
+use Rattle.tables.specs.declared.Table.TheVariants.{Nit, Sdt, Bat, Eit, Tdt, Tot}
 use Rattle.tables.specs.declared.Row.{Row}
 use Rattle.sheet.specs.Content.{TableShape, neither, top_only, entries_only, both, shape_by, shape_of, has_top}
+
+-- each table has a row
+pub place_known : (t : Table) → place t < 6
+place_known Nit = omega arith
+place_known Sdt = omega arith
+place_known Bat = omega arith
+place_known Eit = omega arith
+place_known Tdt = omega arith
+place_known Tot = omega arith
 
 -- what the columns of a row of this shape have
 abbrev pub Columns : Row → TableShape → Type 0

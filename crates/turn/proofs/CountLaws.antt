@@ -125,12 +125,12 @@ descriptor_says_lem s at p h hb e d o t =
     omega arith
 
 module _ (s : List ℕ) (at : ℕ) where
-  -- n bytes are behind, and `left` descriptors stand there
-  pub record Sizing (n left : ℕ) : Type 0 where
+  -- n bytes are behind, and of so many descriptors i
+  pub record Sizing (number n i : ℕ) : Type 0 where
     pub still : (m : List Descriptor) → All descriptor m → length m < 65536 → Part s at (counted_show descriptor m)
-        → (x : Left descriptor s (at + 2) n m) × (length x.rest ≡ left)
+        → (x : Left descriptor s (at + 2) n m) × (length x.rest ≡ number - i)
 
-  pub size_begins : {k : ℕ} → k ≡ number_at 2 s at → Sizing 0 k
+  pub size_begins : {k : ℕ} → k ≡ number_at 2 s at → Sizing k 0 0
   unfolding counted_show number_at
   size_begins {k} hk = record {
     still = λ m o h w.
@@ -140,12 +140,13 @@ module _ (s : List ℕ) (at : ℕ) where
         (x.0, omega (arith, ap length x.1));
   }
 
-  pub size_on : {n left next b byte first i : ℕ} → length s < 2 ^ 64 → 0 < left → first ≡ sum at 3 → i ≡ sum first n → byte ≡ get_or s i 0
-      → b ≡ byte → next ≡ sum n (2 + b) → Sizing n left → Sizing next (left - 1)
-  size_on {n} {left} {i = i} ls some hf hi hb h e f = record {
+  pub size_on : {number n k next b byte first i : ℕ} → length s < 2 ^ 64 → k < number → first ≡ sum at 3
+      → i ≡ sum first n → byte ≡ get_or s i 0
+      → b ≡ byte → next ≡ sum n (2 + b) → Sizing number n k → Sizing number next (k + 1)
+  size_on {n = n} {i = i} ls some hf hi hb h e f = record {
     still = λ m o small w.
         let x = f.still m o small w in
-        let k = x.1 in
+        let l = x.1 in
         let y = left_on descriptor s (at + 2) ls e (descriptor_says_lem s (at + 2) n h hb place) x.0 (omega arith) in
         (y.0, omega (arith, y.1));
   }
@@ -153,11 +154,11 @@ module _ (s : List ℕ) (at : ℕ) where
       place : at + 2 + n + 1 < length s → i ≡ at + 2 + n + 1
       place h = hi ∙ ap (λ q. sum q n) (hf ∙ sum_fits at 3 (omega arith)) ∙ sum_fits (at + 3) n (omega arith) ∙ omega arith
 
-  pub size_ends : {n left : ℕ} → left ≤ 0 → Sizing n left → SizeAt s at n
+  pub size_ends : {number n i : ℕ} → number ≤ i → Sizing number n i → SizeAt s at n
   unfolding all
-  size_ends {n} {left} ended f m o h w = let x = f.still m o h w in none_left x.0.rest x.1 x.0.size
+  size_ends {number} {n} {i} ended f m o h w = let x = f.still m o h w in none_left x.0.rest x.1 x.0.size
     where
-      none_left : (r : List Descriptor) → length r ≡ left → n + length (all descriptor r) ≡ length (all descriptor m)
+      none_left : (r : List Descriptor) → length r ≡ number - i → n + length (all descriptor r) ≡ length (all descriptor m)
           → n ≡ length (all descriptor m)
       none_left [] k z = omega arith
       none_left (d ∷ r) k z = absurd (omega arith)

@@ -1,8 +1,9 @@
 -- Laws of entries, turned either way.
 use Prim.{tt}
-use Prim.Native.Nat.{ℕ, zero, suc, ◌+◌, ◌-◌, ◌*◌, ◌/◌, ◌%◌, ◌^◌, ◌<◌, ◌≤◌}
+use Prim.Native.Nat.{ℕ, suc, ◌+◌, ◌-◌, ◌*◌, ◌/◌, ◌%◌, ◌^◌, ◌<◌, ◌≤◌}
 use mathlib.Core.Path.{◌≡◌, refl, sym, ap, ap₂, ◌∙◌, subst}
 use mathlib.Core.List.{List, [], ◌∷◌, ◌++◌, append-nil}
+use mathlib.Core.Logic.{◌⊎◌, inl, inr}
 use mathlib.Core.Bool.{Bool, true, false, not}
 use native.Mathlib.Omega.{arith}
 use lib.ListN.{length, get_or, take, drop}
@@ -10,7 +11,7 @@ use Rattle.wire.specs.Bytes.{len12}
 use Rattle.wire.specs.Number.{number_at}
 use Rattle.wire.specs.Parts.{Part}
 use Rattle.wire.proofs.PartLaws.{part_second, part_taken}
-use Rattle.tables.specs.Tables.{cell}
+use Rattle.tables.specs.Tables.{cell, place}
 use Rattle.forms.specs.Form.{Form, mute, each_show, EachOk}
 use Rattle.forms.specs.Fields.{room, pack, sheet_field, sheet_fields}
 use Rattle.forms.specs.Lists.{all, All, none, one, times, counted_show, loop_show}
@@ -21,6 +22,8 @@ use Rattle.forms.proofs.Turns.{turned_nothing, turned_as, turned_zero, turned_su
 use Rattle.sheet.specs.Content.{Entry, Entries, bare, entry_of, shape_of, side_of}
 use Rattle.sheet.specs.Sheet.{sheet_entry, entries_for_by}
 use Rattle.sheet.specs.Section.{section_entry}
+use Rattle.tables.specs.declared.Table.{Table}
+use Rattle.tables.specs.declared.Table.TheVariants.{Nit, Sdt, Bat, Eit, Tdt, Tot}
 use Rattle.turn.specs.Inner.Fields.{Shape, running, bared}
 use Rattle.turn.specs.Inner.Ways.{from, entry_from, entry_to, top_if, entries_from, withEntries, behind_own, own_size, ownPut, EntriesTurned, NumberIn, put_number}
 use Rattle.contents.proofs.SectionLaws.{half_bare, no_more, entry_full}
@@ -30,46 +33,54 @@ use Rattle.forms.specs.declared.Place.{Place}
 
 -- ---- what stands beside an entry's loop length
 
-pub bare_sides : Shape (side_of 0) 0 16 × Shape (side_of 2) 0 16 × Shape (side_of 5) 0 16
+pub bare_side : (t : Table) → (t ≡ Nit) ⊎ ((t ≡ Bat) ⊎ (t ≡ Tot)) → Shape (side_of (place t)) 0 16
 unfolding side_of shape_of cell
-bare_sides = (bared, bared, bared)
+bare_side t (inl e) = subst (λ t. Shape (side_of (place t)) 0 16) (sym e) bared
+bare_side t (inr (inl e)) = subst (λ t. Shape (side_of (place t)) 0 16) (sym e) bared
+bare_side t (inr (inr e)) = subst (λ t. Shape (side_of (place t)) 0 16) (sym e) bared
 
-pub status_side : (row : ℕ) → (row ≡ 0 → ⊥) → (row ≡ 2 → ⊥) → (row ≡ 5 → ⊥) → Shape (side_of row) 8 16
+pub status_side : (t : Table) → (t ≡ Nit → ⊥) → (t ≡ Bat → ⊥) → (t ≡ Tot → ⊥) → Shape (side_of (place t)) 8 16
 unfolding side_of shape_of cell
-status_side zero f g h = absurd (f refl)
-status_side (suc zero) f g h = running
-status_side (suc (suc zero)) f g h = absurd (g refl)
-status_side (suc (suc (suc zero))) f g h = running
-status_side (suc (suc (suc (suc zero)))) f g h = running
-status_side (suc (suc (suc (suc (suc zero))))) f g h = absurd (h refl)
-status_side (suc (suc (suc (suc (suc (suc row)))))) f g h = running
+status_side Nit f g h = absurd (f refl)
+status_side Sdt f g h = running
+status_side Bat f g h = absurd (g refl)
+status_side Eit f g h = running
+status_side Tdt f g h = running
+status_side Tot f g h = absurd (h refl)
 
 -- ---- so many entries: what the rest comes to, the whole comes to
 
 module _ (b : Bool) (row number : ℕ) (s o : List ℕ) (p : Place) where
-  pub record Turning (o' : List ℕ) (q : Place) (left : ℕ) : Type 0 where
+  -- i of them are behind
+  pub record Turning (o' : List ℕ) (q : Place) (i : ℕ) : Type 0 where
     pub size : length o' ≡ length o
-    pub rest : (r : Place) (o'' : List ℕ) → Turned (times (entry_from b row) left) (times (entry_to b row) left) s q o' r o''
+    pub rest : (r : Place) (o'' : List ℕ)
+        → Turned (times (entry_from b row) (number - i)) (times (entry_to b row) (number - i)) s q o' r o''
         → Turned (times (entry_from b row) number) (times (entry_to b row) number) s p o r o''
 
-  pub turning_begins : Turning o p number
-  turning_begins = record { size = refl; rest = λ r o'' t. t }
+  pub turning_begins : Turning o p 0
+  turning_begins =
+      let e : number - 0 ≡ number = omega arith in
+      record {
+        size = refl;
+        rest = λ r o'' t. subst (λ n. Turned (times (entry_from b row) n) (times (entry_to b row) n) s p o r o'') e t;
+      }
 
-  pub turning_on : {q q' : Place} {o' o'' : List ℕ} {left : ℕ} → 0 < left → length o'' ≡ length o'
-      → Turned (entry_from b row) (entry_to b row) s q o' q' o'' → Turning o' q left → Turning o'' q' (left - 1)
-  turning_on {q} {q'} {o'} {o''} {left} some l t f =
-      let e : suc (left - 1) ≡ left = omega arith in
+  pub turning_on : {q q' : Place} {o' o'' : List ℕ} {i : ℕ} → i < number → length o'' ≡ length o'
+      → Turned (entry_from b row) (entry_to b row) s q o' q' o'' → Turning o' q i → Turning o'' q' (i + 1)
+  turning_on {q} {q'} {o'} {o''} {i} some l t f =
+      let e : suc (number - (i + 1)) ≡ number - i = omega arith in
       record {
         size = l ∙ f.size;
         rest = λ r x u.
             f.rest r x (subst (λ n. Turned (times (entry_from b row) n) (times (entry_to b row) n) s q o' r x) e
-            (turned_suc (entry_from b row) (entry_to b row) (left - 1) t u));
+            (turned_suc (entry_from b row) (entry_to b row) (number - (i + 1)) t u));
       }
 
-  pub turning_ends : {q : Place} {o' : List ℕ} {left : ℕ} → left ≤ 0 → Turning o' q left
+  pub turning_ends : {q : Place} {o' : List ℕ} {i : ℕ} → number ≤ i → Turning o' q i
       → Turned (times (entry_from b row) number) (times (entry_to b row) number) s p o q o'
-  turning_ends {q} {o'} {left} ended f =
-      let e : 0 ≡ left = omega arith in
+  turning_ends {q} {o'} {i} ended f =
+      let e : 0 ≡ number - i = omega arith in
       f.rest q o' (subst (λ n. Turned (times (entry_from b row) n) (times (entry_to b row) n) s q o' q o') e
       (turned_zero (entry_from b row) (entry_to b row)))
 

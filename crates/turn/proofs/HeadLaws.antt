@@ -8,7 +8,10 @@ use lib.ListN.{drop}
 use Rattle.forms.specs.Form.{raw}
 use Rattle.forms.specs.Inner.Turning.{Turned}
 use Rattle.forms.proofs.Turns.{turned_none, turned_one, turned_such}
-use Rattle.sheet.specs.Content.{Item, plain, numbers, version, flags, filler, head_of, entry_of}
+use Rattle.tables.specs.Tables.{place}
+use Rattle.tables.specs.declared.Table.{Table}
+use Rattle.tables.specs.declared.Table.TheVariants.{Nit, Sdt, Bat, Eit, Tdt, Tot}
+use Rattle.sheet.specs.Content.{Item, plain, numbers, version, filler, head_of}
 use Rattle.sheet.specs.Sheet.{inOrder}
 use Rattle.contents.proofs.SectionLaws.{each_row}
 use Rattle.turn.specs.Inner.Ways.{item_from, item_to, items_from, items_to}
@@ -24,21 +27,23 @@ four_rows P a b c d (suc (suc zero)) h = c
 four_rows P a b c d (suc (suc (suc zero))) h = d
 four_rows P a b c d (suc (suc (suc (suc row)))) h = absurd (omega arith)
 
-pub sdt_ids : (row : ℕ) → row ≡ 1 → plain 2 ∷ filler ∷ [] ≡ drop 3 (head_of row)
+module _ (t : Table) where
+  pub sdt_ids : t ≡ Sdt → plain 2 ∷ filler ∷ [] ≡ drop 3 (head_of (place t))
+  unfolding head_of
+  sdt_ids e = ap (λ t. drop 3 (head_of (place t))) (sym e)
+
+  pub eit_ids : t ≡ Eit → plain 6 ∷ [] ≡ drop 3 (head_of (place t))
+  unfolding head_of
+  eit_ids e = ap (λ t. drop 3 (head_of (place t))) (sym e)
+
+pub no_ids : (t : Table) → (t ≡ Sdt → ⊥) → (t ≡ Eit → ⊥) → [] ≡ drop 3 (head_of (place t))
 unfolding head_of
-sdt_ids row e = ap (λ r. drop 3 (head_of r)) (sym e)
-
-pub eit_ids : (row : ℕ) → row ≡ 3 → plain 6 ∷ [] ≡ drop 3 (head_of row)
-unfolding head_of
-eit_ids row e = ap (λ r. drop 3 (head_of r)) (sym e)
-
--- NIT and BAT
-abbrev Networks : ℕ → Type 0
-Networks row = (row ≡ 1 → ⊥) → (row ≡ 3 → ⊥) → ([] ≡ drop 3 (head_of row)) × (plain 4 ∷ [] ≡ entry_of row)
-
-pub networks : (row : ℕ) → row < 4 → Networks row
-unfolding head_of entry_of
-networks = four_rows Networks (λ f g. (refl, refl)) (λ f g. absurd (f refl)) (λ f g. (refl, refl)) (λ f g. absurd (g refl))
+no_ids Nit f g = refl
+no_ids Sdt f g = absurd (f refl)
+no_ids Bat f g = refl
+no_ids Eit f g = absurd (g refl)
+no_ids Tdt f g = refl
+no_ids Tot f g = refl
 
 pub common_items : (row : ℕ) → row < 4 → plain 2 ∷ version ∷ numbers ∷ drop 3 (head_of row) ≡ head_of row
 unfolding head_of
@@ -52,22 +57,6 @@ unfolding head_of
 time_items =
     each_row Times (λ h. absurd (omega arith)) (λ h. absurd (omega arith)) (λ h. absurd (omega arith))
     (λ h. absurd (omega arith)) (λ h. refl) (λ h. refl)
-
-pub sdt_entry : (row : ℕ) → row ≡ 1 → plain 2 ∷ flags ∷ [] ≡ entry_of row
-unfolding entry_of
-sdt_entry row e = ap entry_of (sym e)
-
-pub eit_entry : (row : ℕ) → row ≡ 3 → plain 10 ∷ [] ≡ entry_of row
-unfolding entry_of
-eit_entry row e = ap entry_of (sym e)
-
-pub no_entry_lem : (row : ℕ) → 4 ≤ row → [] ≡ entry_of row
-unfolding entry_of
-no_entry_lem zero h = absurd (omega arith)
-no_entry_lem (suc zero) h = absurd (omega arith)
-no_entry_lem (suc (suc zero)) h = absurd (omega arith)
-no_entry_lem (suc (suc (suc zero))) h = absurd (omega arith)
-no_entry_lem (suc (suc (suc (suc row)))) h = refl
 
 -- ---- items one behind the other
 

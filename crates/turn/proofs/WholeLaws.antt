@@ -8,7 +8,9 @@ use borrow.Author.Tests.{eqb-true, lt-ltb, le-ltb}
 use lib.ListN.{length, get_or, take, length-append}
 use lib.Dec.{eqb, lit<}
 use Prim.{tt}
-use Rattle.std.specs.Prelude.{if◌then◌else◌}
+use Rattle.std.specs.Prelude.{if◌then◌else◌, Option, Some, None, Ok, Err}
+use Rattle.std.specs.Result.{IsErrAnd}
+use Rattle.std.proofs.lemmas.Result.{err_from_is_err_and}
 use Rattle.wire.specs.Bytes.{Bytes}
 use Rattle.wire.specs.Parts.{Part}
 use Rattle.wire.specs.Reading as reading
@@ -17,9 +19,12 @@ use Rattle.wire.proofs.ReadingLaws.{value_is, refused_is, never, through}
 use Rattle.wire.specs.Reading.{◌>>=◌}
 use Rattle.crc.specs.Crc.{crc, bytes_of}
 use Rattle.crc.proofs.Bytes.{bytes_lt}
-use Rattle.tables.specs.Tables.{row_of, row_at}
+use Rattle.tables.specs.Tables.{row_of, row_at, place, place_or_unknown}
+use Rattle.tables.specs.declared.Table.{Table}
 use Rattle.tables.specs.declared.Row.{Row}
 use Rattle.verdict.specs.Verdict as verdict
+use Rattle.verdict.specs.declared.Refusal as verdict_refusal
+use Rattle.verdict.specs.declared.Refusal.TheVariants as variants
 use Rattle.section.specs.Reading.{judged}
 use Rattle.forms.specs.Form.{each_show, EachOk}
 use Rattle.forms.specs.Fields.{room, pack, sheet_fields}
@@ -29,11 +34,11 @@ pub use Rattle.forms.proofs.Outcomes.{take_put}
 use Rattle.sheet.specs.Content.{Content, frame, table_of, frame_of, body_of, row_in}
 use Rattle.sheet.specs.Sheet.{sheet_body, sheet_of, shown_for, OkFor}
 use Rattle.sheet.specs.Section.{bodyBytes, section_length, front, seal, section_of, content_of, read_sheet}
-use Rattle.sheet.specs.Reads.{told, judged_for, judged_sheet}
+use Rattle.sheet.specs.Reads.{Judged, told, told_refusal as told_refusal_of, judged_for, judged_sheet}
 use Rattle.turn.specs.Inner.Ways.{put_number}
-use Rattle.turn.specs.Inner.Bodies.{BodyTurned, crc_size, leading_of, begun, sealed, SectionWritten, SheetWritten, AcceptedWritten}
+use Rattle.turn.specs.Inner.Bodies.{BodyTurned, crc_size, leading_of, begun, sealed, SectionWritten, SheetWritten}
 use Rattle.turn.specs.Turn as turn
-use Rattle.turn.specs.Answers.{toldRefusal}
+use Rattle.turn.specs.Answers.{SectionAnswer, SheetAnswer, toldSection, toldRefusal, toldSheet}
 use Rattle.sheet.proofs.SectionSize.{front_is, front_length, second, section_length_lem, seal_length}
 use Rattle.contents.specs.Holds.{Holds}
 use Rattle.contents.proofs.SectionLaws.{numbers_of, first_byte}
@@ -42,7 +47,10 @@ use Rattle.contents.proofs.SheetSize.{sheet_fits}
 use Rattle.contents.proofs.ReadBack.{of_accepted}
 use Rattle.turn.proofs.PieceLaws.{number_put}
 use Rattle.forms.specs.declared.Place.{Place}
-use Rattle.sheet.specs.declared.Judged.{Judged}
+use Rattle.sheet.specs.declared.Refusal.{Refusal}
+use Rattle.sheet.specs.declared.Refusal.TheVariants.{Early, Unknown, Wide, After, Long}
+use Rattle.turn.specs.declared.SectionRefusal.TheVariants as section
+use Rattle.turn.specs.declared.SheetRefusal.TheVariants as sheet
 
 -- ---- the frame
 
@@ -204,6 +212,14 @@ module _ (s o : List ℕ) (w : Bytes s) (lo : length o < 2 ^ 64) (n number : ℕ
         ∙ sealed_is c (fronted c r hn hnumber big) big (eqb (row_at (row_in c)).crc 1) refl;
   }
 
+-- the row of a table_id that a table has
+pub table_row : (o : Option Table) {t : Table} {id x : ℕ} → o ≡ Some t → place_or_unknown o ≡ row_of id → id ≡ x → place t ≡ row_of x
+table_row o e f g = sym (ap place_or_unknown e) ∙ f ∙ ap row_of g
+
+-- no table has it
+pub table_none : (o : Option Table) {id x : ℕ} → o ≡ None → place_or_unknown o ≡ row_of id → id ≡ x → 6 ≤ row_of x
+table_none o e f g = let h = sym (ap place_or_unknown e) ∙ f ∙ ap row_of g in omega arith
+
 -- no table
 pub written_never : {s o : List ℕ} {n number : ℕ} → Bytes s → 6 ≤ number → SectionWritten s n number o o
 written_never {s} w h = record { written = λ c r hn hr big. let k = (held s c w r).holds.known in absurd (omega arith) }
@@ -284,22 +300,6 @@ pub section_no_room : (n : ℕ) (s : List ℕ) → n < 4096 → turn.to_section 
 unfolding turn.to_section
 section_no_room n s h = rw (lt-ltb n 4096 h) refl
 
--- written where it was accepted, and only there
-pub accepted_written : (x : Bool) (s : List ℕ) → x ≡ true → {row id r : ℕ} {o o' : List ℕ} → id ≡ get_or s 0 0 → row ≡ row_of id
-    → SheetWritten s row o r o' → AcceptedWritten x s o r o'
-accepted_written x s e {r = r} {o} {o'} i h w =
-    record {
-      written = λ f. subst (λ k. SheetWritten s k o r o') (h ∙ ap row_of i) w;
-      kept = λ f. absurd (true_not_false (sym e ∙ f));
-    }
-
-pub refused_kept : (x : Bool) (s : List ℕ) → x ≡ false → {r : ℕ} {o : List ℕ} → AcceptedWritten x s o r o
-refused_kept x s e =
-    record {
-      written = λ f. absurd (true_not_false (sym f ∙ e));
-      kept = λ f. refl;
-    }
-
 refused_through : {A B : Type 0} (r : reading.Reading A) (f : A → B) (k : ℕ)
     → (r >>= λ a. reading.value (f a)) ≡ reading.refused k → r ≡ reading.refused k
 refused_through (reading.value a) f k e = absurd (never e)
@@ -310,10 +310,23 @@ pub section_refused : (n : ℕ) (s : List ℕ) (k : ℕ) → 4096 ≤ n → judg
 unfolding turn.to_section judged_for
 section_refused n s k h e = let r = refused_through (read_sheet s) section_length k e in rw (le-ltb n 4096 h, r) refl
 
--- what the judge's answer j, which is r, comes to
-pub section_told : (s o : List ℕ) (k : ℕ) {j r : Judged} → 4096 ≤ length o → told j ≡ judged_sheet s → j ≡ r → told r ≡ reading.refused k
-    → (turn.refused_with k 0 ≡ turn.answer (turn.to_section (length o) s)) × (o ≡ turn.roomAfter o (turn.to_section (length o) s))
-section_told s o k h e f g = told_refusal o (section_refused (length o) s k h (sym e ∙ ap told f ∙ g))
+-- what each refusal of the judge comes to
+refusal_told : (s o : List ℕ) (e : Refusal) → 4096 ≤ length o → told_refusal_of e ≡ judged_sheet s
+    → (toldSection (Err (section.Sheet e)) ≡ turn.answer (turn.to_section (length o) s))
+    × (o ≡ turn.roomAfter o (turn.to_section (length o) s))
+refusal_told s o Early h p = told_refusal o (section_refused (length o) s 22 h (sym p))
+refusal_told s o Unknown h p = told_refusal o (section_refused (length o) s 23 h (sym p))
+refusal_told s o Wide h p = told_refusal o (section_refused (length o) s 24 h (sym p))
+refusal_told s o After h p = told_refusal o (section_refused (length o) s 25 h (sym p))
+refusal_told s o Long h p = told_refusal o (section_refused (length o) s 26 h (sym p))
+
+pub section_told : (s o : List ℕ) {j : Judged} {e : Refusal} → 4096 ≤ length o → told j ≡ judged_sheet s → j ≡ Err e
+    → (r : SectionAnswer) → IsErrAnd r (λ k. k ≡ section.Sheet e)
+    → (toldSection r ≡ turn.answer (turn.to_section (length o) s)) × (o ≡ turn.roomAfter o (turn.to_section (length o) s))
+section_told s o {e = e} h p q r g =
+    let w = err_from_is_err_and r g in
+    let x = refusal_told s o e h (sym (ap told q) ∙ p) in
+    (ap toldSection (w.1 ∙ ap Err w.2) ∙ x.0, x.1)
 
 -- what an accepted sheet gives
 pub record Made (n : ℕ) (s : List ℕ) (k : ℕ) : Type 0 where
@@ -357,13 +370,29 @@ refusal_kept : (v : verdict.Said) (l o : List ℕ) → verdict.is_accepted v ≡
 refusal_kept verdict.accepted l o e = absurd (true_not_false e)
 refusal_kept (verdict.refused k p) l o e = (refl, refl)
 
-pub sheet_refused : (n : ℕ) (s o : List ℕ) → 5120 ≤ n → verdict.is_accepted (judged s) ≡ false
-    → (toldRefusal (judged s) ≡ turn.answer (turn.to_sheet n s)) × (o ≡ turn.roomAfter o (turn.to_sheet n s))
-sheet_refused n s o h e = rw (sheet_large n s h) (refusal_kept (judged s) (turn.sheet_from (content_of s)) o e)
+not_accepted : (r : verdict_refusal.Refusal) → verdict.is_accepted (verdict.told_refusal r) ≡ false
+not_accepted variants.TooShort = refl
+not_accepted variants.UnknownTable = refl
+not_accepted variants.WrongSyntax = refl
+not_accepted variants.LengthOutside = refl
+not_accepted variants.SizeDiffers = refl
+not_accepted variants.CrcFails = refl
+not_accepted variants.NumberAboveLast = refl
+not_accepted (variants.LoopPast p) = refl
+not_accepted (variants.DescriptorPast p) = refl
+not_accepted (variants.BytesLeft p) = refl
 
-pub accepted_is : (v : verdict.Said) → verdict.is_accepted v ≡ true → v ≡ verdict.accepted
-accepted_is verdict.accepted e = refl
-accepted_is (verdict.refused k p) e = let z : ◌≡◌ {A = ℕ} 0 1 = cc in absurd (omega arith)
+pub sheet_refused : (s o : List ℕ) {v : verdict.Verdict} {e : verdict_refusal.Refusal} → 5120 ≤ length o → verdict.told v ≡ judged s
+    → v ≡ Err e → (r : SheetAnswer) → IsErrAnd r (λ k. k ≡ sheet.Section e)
+    → (toldSheet r ≡ turn.answer (turn.to_sheet (length o) s)) × (o ≡ turn.roomAfter o (turn.to_sheet (length o) s))
+sheet_refused s o {e = e} h p q r g =
+    let w = err_from_is_err_and r g in
+    let j : judged s ≡ verdict.told_refusal e = sym p ∙ ap verdict.told q in
+    let l = turn.sheet_from (content_of s) in
+    let x = refusal_kept (verdict.told_refusal e) l o (not_accepted e) in
+    let z : turn.to_sheet (length o) s ≡ turn.sheet_if (verdict.told_refusal e) l =
+    sheet_large (length o) s h ∙ ap (λ v. turn.sheet_if v l) j in
+    (ap toldSheet (w.1 ∙ ap Err w.2) ∙ x.0 ∙ ap turn.answer (sym z), x.1 ∙ ap (turn.roomAfter o) (sym z))
 
 pub record SheetMade (n : ℕ) (s : List ℕ) : Type 0 where
   pub content : Content

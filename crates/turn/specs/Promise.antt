@@ -1,9 +1,7 @@
 -- What both functions promise: their `ensures`.
 use Rattle.std.specs.Prelude.{◌≡◌, List, ℕ, length}
 use Rattle.turn.specs.Turn.{to_section, to_sheet, answer, roomAfter}
-use Rattle.turn.specs.Answers.{toldSection, toldSheet}
-use Rattle.turn.specs.declared.SectionAnswer.{SectionAnswer}
-use Rattle.turn.specs.declared.SheetAnswer.{SheetAnswer}
+use Rattle.turn.specs.Answers.{SectionAnswer, SheetAnswer, toldSection, toldSheet}
 
 -- what `to_section` promises of a call with a room o: the answer, and the room after it
 abbrev pub ToSection : List ℕ → List ℕ → SectionAnswer → List ℕ → Type 0

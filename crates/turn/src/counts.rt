@@ -1,10 +1,12 @@
 // How many items fill their bytes, and how many bytes so many descriptors take. Each is right where the bytes are such items; it ends
 // anyhow.
+ghost use Rattle.tables.specs.Tables.{place};
 ghost use Rattle.sheet.specs.Sheet.{descriptor};
 ghost use Rattle.sheet.specs.Section.{section_entry};
 ghost use Rattle.turn.specs.Inner.Ways.{NumberIn, SizeAt, EntrySizes};
 
 use forms::past;
+use tables::Table;
 use wire::numbers::{byte_at, number16_at};
 use wire::{length12_at, wide};
 
@@ -22,9 +24,9 @@ pub fn descriptors_in(bytes: &[u8]) -> usize
 }
 
 // The entries of a section; each has `fixed` bytes, which end in its loop's length.
-pub fn entries_in(bytes: &[u8], fixed: usize, row: usize) -> usize
-    requires { EntrySizes fixed row }
-    ensures { NumberIn (section_entry row) bytes.now result }
+pub fn entries_in(bytes: &[u8], fixed: usize, table: Table) -> usize
+    requires { EntrySizes fixed (place table) }
+    ensures { NumberIn (section_entry (place table)) bytes.now result }
 {
     let mut p: usize = 0;
     let mut k: usize = 0;
@@ -40,11 +42,10 @@ pub fn entries_in(bytes: &[u8], fixed: usize, row: usize) -> usize
 pub fn descriptors_size(s: &[u8], at: usize) -> usize
     ensures { SizeAt s.now at result }
 {
-    let mut left = number16_at(s, at);
+    let number = number16_at(s, at);
     let mut n: usize = 0;
-    while 0 < left {
+    for _ in 0..number {
         n = past(n, 2 + wide(byte_at(s, past(past(at, 3), n))));
-        left -= 1;
     }
     n
 }

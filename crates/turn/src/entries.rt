@@ -1,5 +1,6 @@
 // The entries of a table, and its top loop.
 ghost use Rattle.std.specs.Prelude.{◌≡◌, true, false, not};
+ghost use Rattle.tables.specs.Tables.{place};
 ghost use Rattle.forms.specs.Lists.{times};
 ghost use Rattle.forms.specs.Inner.Turning.{Turned};
 ghost use Rattle.sheet.specs.Content.{side_of};
@@ -10,43 +11,35 @@ use crate::counts::entries_in;
 use crate::descriptors::{put_number, turn_loop};
 use crate::heads::entry_fields;
 use forms::{Place, past};
-use tables::{BAT, NIT, TOT};
+use tables::Table;
 use wire::numbers::number16_at;
 use wire::parts::part;
 use wire::{length12_at, less};
 
 // The span of what stands beside an entry's loop length: in tables without a top loop running_status, below 8, and free_CA_mode.
-fn side(row: usize) -> u8
-    ensures { Shape (side_of row) result 16 }
+fn side(table: Table) -> u8
+    ensures { Shape (side_of (place table)) result 16 }
 {
-    if row == NIT {
-        return 0;
+    match table {
+        Table::Nit | Table::Bat | Table::Tot => 0,
+        _ => 8,
     }
-    if row == BAT {
-        return 0;
-    }
-    if row == TOT {
-        return 0;
-    }
-    8
 }
 
-fn entry(forth: bool, row: usize, s: &[u8], p: Place, room: &mut [u8]) -> Place
-    ensures { Turned (entry_from forth row) (entry_to forth row) s.now p room.old result room.new }
+fn entry(forth: bool, table: Table, s: &[u8], p: Place, room: &mut [u8]) -> Place
+    ensures { Turned (entry_from forth (place table)) (entry_to forth (place table)) s.now p room.old result room.new }
 {
-    let q = entry_fields(forth, row, s, p, room);
-    turn_loop(forth, side(row), s, q, room)
+    let q = entry_fields(forth, table, s, p, room);
+    turn_loop(forth, side(table), s, q, room)
 }
 
-fn entries(forth: bool, row: usize, number: usize, s: &[u8], p: Place, room: &mut [u8]) -> Place
-    ensures { Turned (times (entry_from forth row) number) (times (entry_to forth row) number)
+fn entries(forth: bool, table: Table, number: usize, s: &[u8], p: Place, room: &mut [u8]) -> Place
+    ensures { Turned (times (entry_from forth (place table)) number) (times (entry_to forth (place table)) number)
         s.now p room.old result room.new }
 {
     let mut q = p;
-    let mut left = number;
-    while 0 < left {
-        q = entry(forth, row, s, q, room);
-        left -= 1;
+    for _ in 0..number {
+        q = entry(forth, table, s, q, room);
     }
     q
 }
@@ -83,13 +76,13 @@ fn put_own(top: bool, room: &mut [u8], to: usize, end: usize)
 // Entries into a section, which has room for them up to the place `end`.
 pub fn entries_forth(
     top: bool,
-    row: usize,
+    table: Table,
     s: &[u8],
     p: Place,
     end: usize,
     room: &mut [u8],
 ) -> Place
-    ensures { EntriesTurned true (withEntries top) row s.now p end room.old result room.new }
+    ensures { EntriesTurned true (withEntries top) (place table) s.now p end room.old result room.new }
 {
     let number = number16_at(s, p.at) as usize;
     let first = Place {
@@ -97,30 +90,30 @@ pub fn entries_forth(
         to: behind_own(top, p.to),
     };
     put_own(top, room, p.to, end);
-    entries(true, row, number, s, first, room)
+    entries(true, table, number, s, first, room)
 }
 
 // Entries into a sheet. Where they have no length of their own they end at the place `end`.
 pub fn entries_back(
     top: bool,
     fixed: usize,
-    row: usize,
+    table: Table,
     s: &[u8],
     p: Place,
     end: usize,
     room: &mut [u8],
 ) -> Place
-    requires { EntrySizes fixed row }
-    ensures { EntriesTurned false (withEntries top) row s.now p end room.old result room.new }
+    requires { EntrySizes fixed (place table) }
+    ensures { EntriesTurned false (withEntries top) (place table) s.now p end room.old result room.new }
 {
     let at = behind_own(top, p.at);
-    let number = entries_in(part(s, at, own_size(top, s, p.at, end)), fixed, row);
+    let number = entries_in(part(s, at, own_size(top, s, p.at, end)), fixed, table);
     let first = Place {
         at,
         to: past(p.to, 2),
     };
     put_number(room, p.to, number);
-    entries(false, row, number, s, first, room)
+    entries(false, table, number, s, first, room)
 }
 
 // The top loop is turned as one entry of TOT: it has no entries, so that its row gives them no fields. A loop is so turned from one
@@ -129,7 +122,7 @@ pub fn top_loop(forth: bool, top: bool, s: &[u8], p: Place, room: &mut [u8]) -> 
     ensures { Turned (top_if forth top) (top_if (not forth) top) s.now p room.old result room.new }
 {
     if top {
-        return entries(forth, TOT, 1, s, p, room);
+        return entries(forth, Table::Tot, 1, s, p, room);
     }
     p
 }

@@ -1,14 +1,13 @@
 // Document 01, "Content sheets": a sheet becomes a section, and a section a sheet.
 #![tactic(auto)]
 
+ghost use Rattle.std.specs.Prelude.{◌≡◌};
 ghost use Rattle.turn.specs.Promise.{ToSection, ToSheet};
+ghost use Rattle.turn.specs.declared.SectionRefusal.TheVariants as section;
+ghost use Rattle.turn.specs.declared.SheetRefusal.TheVariants as sheet;
 
 use section::judge::judge;
-use sheet::Judged;
-use tables::row_of;
-use verdict::{Verdict, is_accepted};
-use whole::{write_accepted, write_section};
-use wire::numbers::byte_at;
+use whole::{write_section, write_sheet};
 
 mod bodies;
 mod counts;
@@ -18,67 +17,59 @@ mod heads;
 mod pieces;
 mod whole;
 
-// What turning a sheet into a section answers.
-#[derive(Clone, Copy)]
-pub enum SectionAnswer {
-    // The section's bytes, at the room's start.
-    Wrote(usize),
+// Why no section was made of a sheet.
+#[derive(Clone, Copy, PartialEq, Eq, Debug)]
+pub enum SectionRefusal {
     // 21: room under 4,096.
     Room,
-    // 22: the sheet ends early.
-    Early,
-    // 23: table_id unknown.
-    Unknown,
-    // 24: a field too large, or the section number above the last.
-    Wide,
-    // 25: bytes after the sheet.
-    After,
-    // 26: section_length would pass its row.
-    Long,
+    // 22 to 26.
+    Sheet(sheet::Refusal),
 }
 
-// What turning a section into a sheet answers.
-#[derive(Clone, Copy)]
-pub enum SheetAnswer {
-    // The sheet's bytes, at the room's start.
-    Wrote(usize),
+impl From<sheet::Refusal> for SectionRefusal {
+    ghost from_gives = { λ r refusal. refusal ≡ section.Sheet r };
+
+    fn from(refusal: sheet::Refusal) -> SectionRefusal {
+        SectionRefusal::Sheet(refusal)
+    }
+}
+
+// Why no sheet was made of a section.
+#[derive(Clone, Copy, PartialEq, Eq)]
+pub enum SheetRefusal {
     // 21: room under 5,120.
     Room,
     // 1 to 10.
-    Refused(Verdict),
+    Section(verdict::Refusal),
 }
 
-pub fn to_section(sheet: &[u8], room: &mut [u8]) -> SectionAnswer
+impl From<verdict::Refusal> for SheetRefusal {
+    ghost from_gives = { λ r refusal. refusal ≡ sheet.Section r };
+
+    fn from(refusal: verdict::Refusal) -> SheetRefusal {
+        SheetRefusal::Section(refusal)
+    }
+}
+
+// The section is at the room's start; this is its size.
+pub fn to_section(sheet: &[u8], room: &mut [u8]) -> Result<usize, SectionRefusal>
     ensures { ToSection sheet.now room.old result room.new }
 {
     if room.len() < 4096 {
-        return SectionAnswer::Room;
+        return Err(SectionRefusal::Room);
     }
-    let judged = sheet::judge(sheet);
-    match judged {
-        Judged::Fits(n) => {
-            write_section(sheet, n, row_of(byte_at(sheet, 0)), room);
-            SectionAnswer::Wrote(forms::past(n, 3))
-        }
-        Judged::Early => SectionAnswer::Early,
-        Judged::Unknown => SectionAnswer::Unknown,
-        Judged::Wide => SectionAnswer::Wide,
-        Judged::After => SectionAnswer::After,
-        Judged::Long => SectionAnswer::Long,
-    }
+    let n = sheet::judge(sheet)?;
+    write_section(sheet, n, room);
+    Ok(forms::past(n, 3))
 }
 
-pub fn to_sheet(section: &[u8], room: &mut [u8]) -> SheetAnswer
+// The sheet is at the room's start; this is its size.
+pub fn to_sheet(section: &[u8], room: &mut [u8]) -> Result<usize, SheetRefusal>
     ensures { ToSheet section.now room.old result room.new }
 {
     if room.len() < 5120 {
-        return SheetAnswer::Room;
+        return Err(SheetRefusal::Room);
     }
-    let verdict = judge(section);
-    let accepted = is_accepted(verdict);
-    let n = write_accepted(accepted, section, room);
-    if accepted {
-        return SheetAnswer::Wrote(n);
-    }
-    SheetAnswer::Refused(verdict)
+    judge(section)?;
+    Ok(write_sheet(section, room))
 }

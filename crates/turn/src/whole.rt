@@ -1,11 +1,12 @@
 // A whole section or sheet, at the room's start.
-ghost use Rattle.std.specs.Prelude.{◌≡◌, ◌-◌};
-ghost use Rattle.turn.specs.Inner.Bodies.{crc_size, leading_of, begun, sealed, SectionWritten, SheetWritten, AcceptedWritten};
+ghost use Rattle.std.specs.Prelude.{◌≡◌, ◌-◌, get_or};
+ghost use Rattle.tables.specs.Tables.{row_of};
+ghost use Rattle.turn.specs.Inner.Bodies.{crc_size, leading_of, begun, sealed, SectionWritten, SheetWritten};
 
-use crate::bodies::{body_back, body_forth, is_one};
+use crate::bodies::{body_back, body_forth};
 use crate::descriptors::put_number;
 use forms::{Place, past, put_byte};
-use tables::{UNKNOWN, row_at, row_of};
+use tables::table_of;
 use wire::less;
 use wire::numbers::byte_at;
 use wire::parts::part;
@@ -14,20 +15,14 @@ use wire::parts::part;
 fn leading(syntax: usize) -> usize
     ensures { result ≡ leading_of syntax }
 {
-    if is_one(syntax) {
-        return 0xF000;
-    }
-    0x7000
+    if syntax == 1 { 0xF000 } else { 0x7000 }
 }
 
 // Where the CRC_32 stands, or the end, where the table has none.
 fn body_end(length: usize, crc: usize) -> usize
     ensures { result ≡ length - crc_size crc }
 {
-    if is_one(crc) {
-        return less(length, 4);
-    }
-    length
+    if crc == 1 { less(length, 4) } else { length }
 }
 
 // The table_id, and section_length with the bits before it.
@@ -42,7 +37,7 @@ fn begin(room: &mut [u8], id: u8, syntax: usize, n: usize)
 fn seal(room: &mut [u8], end: usize, crc: usize)
     ensures { room.new ≡ sealed room.old end crc }
 {
-    if is_one(crc) {
+    if crc == 1 {
         let register = crc::crc32(part(room, 0, end)) as usize;
         put_number(room, end, register / 65536);
         put_number(room, past(end, 2), register % 65536);
@@ -50,39 +45,31 @@ fn seal(room: &mut [u8], end: usize, crc: usize)
 }
 
 // The section of a sheet that was judged; n is its section_length.
-pub fn write_section(sheet: &[u8], n: usize, number: usize, room: &mut [u8])
-    ensures { SectionWritten sheet.now n number room.old room.new }
+pub fn write_section(sheet: &[u8], n: usize, room: &mut [u8])
+    ensures { SectionWritten sheet.now n (row_of (get_or sheet.now 0 0)) room.old room.new }
 {
-    if UNKNOWN <= number {
+    let id = byte_at(sheet, 0);
+    let Some(table) = table_of(id) else {
         return;
-    }
-    let row = row_at(number);
+    };
+    let row = table.row();
     let end = body_end(past(n, 3), row.crc);
-    begin(room, byte_at(sheet, 0), row.syntax, n);
-    body_forth(number, sheet, Place { at: 1, to: 3 }, end, room);
+    begin(room, id, row.syntax, n);
+    body_forth(table, sheet, Place { at: 1, to: 3 }, end, room);
     seal(room, end, row.crc);
 }
 
 // The sheet of a section that was judged, and its length.
-fn write_sheet(section: &[u8], number: usize, room: &mut [u8]) -> usize
-    ensures { SheetWritten section.now number room.old result room.new }
+pub fn write_sheet(section: &[u8], room: &mut [u8]) -> usize
+    ensures { SheetWritten section.now (row_of (get_or section.now 0 0)) room.old result room.new }
 {
-    if UNKNOWN <= number {
+    let id = byte_at(section, 0);
+    let Some(table) = table_of(id) else {
         return 0;
-    }
-    let row = row_at(number);
+    };
+    let row = table.row();
     let end = body_end(section.len(), row.crc);
-    put_byte(room, 0, byte_at(section, 0));
-    let q = body_back(number, section, Place { at: 3, to: 1 }, end, room);
+    put_byte(room, 0, id);
+    let q = body_back(table, section, Place { at: 3, to: 1 }, end, room);
     q.to
-}
-
-// The same where the section was accepted; otherwise nothing is written.
-pub fn write_accepted(accepted: bool, section: &[u8], room: &mut [u8]) -> usize
-    ensures { AcceptedWritten accepted section.now room.old result room.new }
-{
-    if accepted {
-        return write_sheet(section, row_of(byte_at(section, 0)), room);
-    }
-    0
 }

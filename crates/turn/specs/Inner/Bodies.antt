@@ -1,7 +1,6 @@
 -- What the functions that turn whole tables promise each other.
-use Rattle.std.specs.Prelude.{ℕ, ◌/◌, ◌%◌, ◌≤◌, ◌≡◌, List, [], ◌∷◌, Bool, true, false, not, length, get_or, take, eqb, if◌then◌else◌}
+use Rattle.std.specs.Prelude.{ℕ, ◌/◌, ◌%◌, ◌≤◌, ◌≡◌, List, [], ◌∷◌, Bool, not, length, take, eqb, if◌then◌else◌}
 use Rattle.wire.specs.Reading.{value}
-use Rattle.tables.specs.Tables.{row_of}
 use Rattle.verdict.specs.Verdict as verdict
 use Rattle.section.specs.Reading.{judged}
 use Rattle.crc.specs.Crc.{crc}
@@ -47,8 +46,3 @@ pub record SectionWritten (s : List ℕ) (n row : ℕ) (o o' : List ℕ) : Type 
 pub record SheetWritten (s : List ℕ) (row : ℕ) (o : List ℕ) (r : ℕ) (o' : List ℕ) : Type 0 where
   pub written : (c : Content) → judged s ≡ verdict.accepted → content_of s ≡ value c → row ≡ row_in c → 5120 ≤ length o
       → (o' ≡ put o 0 (sheet_of c)) × (r ≡ length (sheet_of c))
-
--- the same of a section that was accepted; of another nothing is written
-pub record AcceptedWritten (accepted : Bool) (s o : List ℕ) (r : ℕ) (o' : List ℕ) : Type 0 where
-  pub written : accepted ≡ true → SheetWritten s (row_of (get_or s 0 0)) o r o'
-  pub kept : accepted ≡ false → o' ≡ o

@@ -4,14 +4,14 @@ use Rattle.turn.proofs.CountLaws.{size_begins, size_on, size_ends}
 use borrow.Author.Rules.{rules}
 use Rattle.turn.proofs.counts.descriptors_size.Goals as goal
 
-pub loop-left-init : goal.loop-left-init
-loop-left-init c = search size_begins
+pub loop-init : goal.loop-init
+loop-init c = search size_begins
 
 pub overflow_add-wide : goal.overflow_add-wide
 overflow_add-wide c = omega (arith, c.wide.ensures.small)
 
-pub loop-left-preserved : goal.loop-left-preserved
-loop-left-preserved c = search size_on
+pub loop-preserved : goal.loop-preserved
+loop-preserved c = search size_on
 
 pub returns : goal.returns
 returns c = search (size_ends, rules)
