@@ -3,8 +3,6 @@ ghost use Rattle.std.specs.Prelude.{◌≡◌};
 ghost use Rattle.search.specs.Search.{sought};
 ghost use Rattle.cabinet.specs.Search.{search_says};
 
-use search::Found;
-
 #[repr(C)]
 #[derive(Clone, Copy)]
 pub struct SearchAnswer {
@@ -24,19 +22,15 @@ pub extern "C" fn lohitunga_search(section: &[u8], tag: u8) -> SearchAnswer
     ensures { result ≡ search_says (sought section.now tag) }
 {
     match search::search(section, tag) {
-        Found::Hit {
-            number,
-            start,
-            size,
-        } => SearchAnswer {
+        Ok(Some(hit)) => SearchAnswer {
             number: 0,
             place: 0,
             found: 1,
-            entry: number,
-            start,
-            size,
+            entry: hit.number,
+            start: hit.start,
+            size: hit.size,
         },
-        Found::Nothing => SearchAnswer {
+        Ok(None) => SearchAnswer {
             number: 0,
             place: 0,
             found: 0,
@@ -44,9 +38,9 @@ pub extern "C" fn lohitunga_search(section: &[u8], tag: u8) -> SearchAnswer
             start: 0,
             size: 0,
         },
-        Found::Refused(verdict) => SearchAnswer {
-            number: verdict::number(verdict) as u32,
-            place: verdict::place(verdict),
+        Err(refusal) => SearchAnswer {
+            number: verdict::number(Err(refusal)) as u32,
+            place: verdict::place(Err(refusal)),
             found: 0,
             entry: 0,
             start: 0,

@@ -3,7 +3,7 @@ ghost use Rattle.std.specs.Prelude.{◌≡◌};
 ghost use Rattle.loops.specs.Descriptors.{step_at};
 ghost use Rattle.cabinet.specs.Walk.{walk_says};
 
-use loops::walk::{Step, step_from};
+use loops::walk::step_from;
 
 #[repr(C)]
 #[derive(Clone, Copy)]
@@ -26,18 +26,17 @@ pub extern "C" fn lohitunga_walk(bytes: &[u8], at: usize) -> WalkAnswer
 {
     let stepped = step_from(bytes, at);
     let next = stepped.at;
-    let step = stepped.step;
-    match step {
-        Step::Descriptor { tag, start, size } => WalkAnswer {
+    match stepped.step {
+        Ok(Some(d)) => WalkAnswer {
             number: 0,
             place: 0,
             descriptor: 1,
-            tag,
-            start,
-            size,
+            tag: d.tag,
+            start: d.start,
+            size: d.size,
             next,
         },
-        Step::End => WalkAnswer {
+        Ok(None) => WalkAnswer {
             number: 0,
             place: 0,
             descriptor: 0,
@@ -46,9 +45,9 @@ pub extern "C" fn lohitunga_walk(bytes: &[u8], at: usize) -> WalkAnswer
             size: 0,
             next,
         },
-        Step::Cut(place) => WalkAnswer {
+        Err(cut) => WalkAnswer {
             number: 9,
-            place,
+            place: cut.0,
             descriptor: 0,
             tag: 0,
             start: 0,
