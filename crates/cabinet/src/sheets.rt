@@ -4,6 +4,9 @@ ghost use Rattle.turn.specs.Turn.{to_section, to_sheet, answer, roomAfter};
 ghost use Rattle.turn.specs.Answers.{toldSheet, toldSection};
 ghost use Rattle.cabinet.specs.Sheets.{sheet_says, section_says};
 
+use sheet::Refusal;
+use turn::{SectionRefusal, SheetRefusal};
+
 #[repr(C)]
 #[derive(Clone, Copy)]
 pub struct SheetAnswer {
@@ -19,53 +22,58 @@ pub struct SectionAnswer {
     pub size: usize,
 }
 
-fn sheet_told(a: turn::SheetAnswer) -> SheetAnswer
-    ensures { result ≡ sheet_says (toldSheet a) }
+fn sheet_refused(refusal: SheetRefusal) -> SheetAnswer
+    ensures { result ≡ sheet_says (toldSheet (Err refusal)) }
 {
-    match a {
-        turn::SheetAnswer::Wrote(n) => SheetAnswer {
-            number: 0,
-            place: 0,
-            size: n,
-        },
-        turn::SheetAnswer::Room => SheetAnswer {
+    match refusal {
+        SheetRefusal::Room => SheetAnswer {
             number: 21,
             place: 0,
             size: 0,
         },
-        turn::SheetAnswer::Refused(v) => SheetAnswer {
-            number: verdict::number(v) as u32,
-            place: verdict::place(v),
+        SheetRefusal::Section(refusal) => SheetAnswer {
+            number: verdict::number(Err(refusal)) as u32,
+            place: verdict::place(Err(refusal)),
             size: 0,
         },
     }
 }
 
-fn section_number(a: turn::SectionAnswer) -> u32
-    ensures { result ≡ (section_says (toldSection a)).number }
+fn sheet_told(a: Result<usize, SheetRefusal>) -> SheetAnswer
+    ensures { result ≡ sheet_says (toldSheet a) }
 {
     match a {
-        turn::SectionAnswer::Wrote(_) => 0,
-        turn::SectionAnswer::Room => 21,
-        turn::SectionAnswer::Early => 22,
-        turn::SectionAnswer::Unknown => 23,
-        turn::SectionAnswer::Wide => 24,
-        turn::SectionAnswer::After => 25,
-        turn::SectionAnswer::Long => 26,
+        Ok(size) => SheetAnswer {
+            number: 0,
+            place: 0,
+            size,
+        },
+        Err(refusal) => sheet_refused(refusal),
     }
 }
 
-fn section_size(a: turn::SectionAnswer) -> usize
-    ensures { result ≡ (section_says (toldSection a)).size }
+fn section_number(refusal: SectionRefusal) -> u32
+    ensures { result ≡ (section_says (toldSection (Err refusal))).number }
+{
+    match refusal {
+        SectionRefusal::Room => 21,
+        SectionRefusal::Sheet(Refusal::Early) => 22,
+        SectionRefusal::Sheet(Refusal::Unknown) => 23,
+        SectionRefusal::Sheet(Refusal::Wide) => 24,
+        SectionRefusal::Sheet(Refusal::After) => 25,
+        SectionRefusal::Sheet(Refusal::Long) => 26,
+    }
+}
+
+fn section_told(a: Result<usize, SectionRefusal>) -> SectionAnswer
+    ensures { result ≡ section_says (toldSection a) }
 {
     match a {
-        turn::SectionAnswer::Wrote(n) => n,
-        turn::SectionAnswer::Room => 0,
-        turn::SectionAnswer::Early => 0,
-        turn::SectionAnswer::Unknown => 0,
-        turn::SectionAnswer::Wide => 0,
-        turn::SectionAnswer::After => 0,
-        turn::SectionAnswer::Long => 0,
+        Ok(size) => SectionAnswer { number: 0, size },
+        Err(refusal) => SectionAnswer {
+            number: section_number(refusal),
+            size: 0,
+        },
     }
 }
 
@@ -74,8 +82,7 @@ pub extern "C" fn lohitunga_to_sheet(section: &[u8], room: &mut [u8]) -> SheetAn
     ensures { (result ≡ sheet_says (answer (to_sheet (length room.old) section.now)))
         × (room.new ≡ roomAfter room.old (to_sheet (length room.old) section.now)) }
 {
-    let a = turn::to_sheet(section, room);
-    sheet_told(a)
+    sheet_told(turn::to_sheet(section, room))
 }
 
 #[unsafe(no_mangle)]
@@ -83,9 +90,5 @@ pub extern "C" fn lohitunga_to_section(sheet: &[u8], room: &mut [u8]) -> Section
     ensures { (result ≡ section_says (answer (to_section (length room.old) sheet.now)))
         × (room.new ≡ roomAfter room.old (to_section (length room.old) sheet.now)) }
 {
-    let a = turn::to_section(sheet, room);
-    SectionAnswer {
-        number: section_number(a),
-        size: section_size(a),
-    }
+    section_told(turn::to_section(sheet, room))
 }
