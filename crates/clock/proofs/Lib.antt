@@ -4,3 +4,4 @@ pub mod Exactly
 pub mod FirstWrong
 pub mod Reported
 pub mod Unique
+pub mod SignedMinutes
