@@ -1,5 +1,5 @@
 -- Contracts among this crate's own functions: nothing that a caller must believe.
-use Rattle.std.specs.Prelude.{◌≡◌, List, [], ◌∷◌, ℕ, ◌+◌, ◌≤◌, ◌<◌, length, drop, if◌then◌else◌, Option, None, Some, is_some}
+use Rattle.std.specs.Prelude.{◌≡◌, List, [], ◌∷◌, ℕ, ◌+◌, ◌≤◌, ◌<◌, length, drop, if◌then◌else◌, Option, None, Some}
 use Rattle.writer.specs.Layout as Layout
 use Rattle.writer.specs.Layout.{turn_of, behind, turns_from, payload_of}
 use Rattle.writer.specs.Packets.{packet_of}
@@ -16,23 +16,10 @@ ahead_of a = record { left = a.left; waiting = a.waiting.now }
 abbrev pub turn_said : Layout.Turn → Turn
 turn_said t = record { pointer = if t.start then Some t.left else None; bytes = t.bytes }
 
--- and the flag where it has a pointer
-abbrev pub begun_left : Option ℕ → ℕ
-begun_left None = 0
-begun_left (Some p) = p
-
-abbrev pub turn_as : Turn → Layout.Turn
-turn_as t = record { start = is_some t.pointer; left = begun_left t.pointer; bytes = t.bytes }
-
 -- the pointer's byte
 abbrev pub pointed_at : Option ℕ → List ℕ
 pointed_at None = []
 pointed_at (Some p) = p ∷ []
-
--- a packet's bytes are there, and it has place for them
-pub record Fits (t : Turn) (bytes : ℕ) : Type 0 where
-  pub there : t.bytes ≤ bytes
-  pub in_payload : t.bytes + length (pointed_at t.pointer) ≤ 184
 
 -- some packets more: they are the first of the turns from a on
 pub record Leaps (a : Ahead) (l : Leap) : Type 0 where

@@ -2,11 +2,11 @@
 ghost use Rattle.std.specs.Prelude.{◌≡◌, true, false, ◌+◌, ◌-◌, ◌*◌, ◌≤◌, ◌<◌, length, take, drop, replicate};
 ghost use mathlib.Core.List.{◌++◌, flatten};
 ghost use Rattle.copy.specs.Laid.{over, laid};
-ghost use Rattle.writer.specs.Layout.{payload_of, laid_out, turns_from};
+ghost use Rattle.writer.specs.Layout.{turn_of, payload_of, laid_out, turns_from};
 ghost use Rattle.writer.specs.Packets.{header_of, packet_of, packets_from};
-ghost use Rattle.writer.specs.Inner.{ahead_of, turn_as, pointed_at, Fits, Puts};
+ghost use Rattle.writer.specs.Inner.{ahead_of, pointed_at, Puts};
 
-use crate::layout::{Ahead, Turn};
+use crate::layout::Ahead;
 use crate::stream::Stream;
 use copy::copy;
 
@@ -30,15 +30,18 @@ fn fill(rest: &mut [u8])
     rest.fill(0xFF);
 }
 
-// A packet with the first of the bytes.
-fn put_packet(packet: &mut [u8], stream: Stream, t: Turn, bytes: &[u8])
-    requires { (length packet.old ≡ 188) × Fits t (length bytes.now) }
-    ensures { packet.new ≡ packet_of stream.pid stream.counter (payload_of (turn_as t) bytes.now) }
+// A packet with the first of the bytes that are ahead; it tells how many they are.
+fn put_packet(packet: &mut [u8], stream: Stream, a: Ahead) -> usize
+    requires { length packet.old ≡ 188 }
+    ensures { (packet.new ≡ packet_of stream.pid stream.counter (payload_of (turn_of (ahead_of a.entry)) a.entry.bytes.now))
+        × (result ≡ (turn_of (ahead_of a.entry)).bytes) }
 {
+    let t = a.next_turn();
     packet[..4].copy_from_slice(&stream.header(t.pointer.is_some()));
     let from = put_pointer(packet, t.pointer);
-    copy(bytes, 0, t.bytes, packet, from);
+    copy(a.bytes, 0, t.bytes, packet, from);
     fill(&mut packet[from + t.bytes..]);
+    t.bytes
 }
 
 // One that the section begun fills.
@@ -59,9 +62,8 @@ fn put_next<'a>(packet: &mut [u8], stream: Stream, a: Ahead<'a>) -> Ahead<'a>
         put_full(packet, stream, a.bytes);
         return a.open_next(184);
     }
-    let t = a.next_turn();
-    put_packet(packet, stream, t, a.bytes);
-    a.open_next(t.bytes)
+    let bytes = put_packet(packet, stream, a);
+    a.open_next(bytes)
 }
 
 // Packet after packet, until every byte of the sections is out.
