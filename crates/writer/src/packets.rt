@@ -1,5 +1,5 @@
 // The packets, one after another, in the room.
-ghost use Rattle.std.specs.Prelude.{◌≡◌, true, false, ◌+◌, ◌-◌, ◌*◌, ◌≤◌, ◌<◌, length, take, drop, replicate};
+ghost use Rattle.std.specs.Prelude.{◌≡◌, false, ◌+◌, ◌-◌, ◌*◌, ◌≤◌, ◌<◌, length, take, replicate};
 ghost use mathlib.Core.List.{◌++◌, flatten};
 ghost use Rattle.copy.specs.Laid.{over, laid};
 ghost use Rattle.writer.specs.Layout.{turn_of, payload_of, laid_out, turns_from};
