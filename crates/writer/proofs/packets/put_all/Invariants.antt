@@ -23,8 +23,10 @@ pub record Placed (all room₀ room : List ℕ) (pid counter : ℕ) (a : Ahead) 
   pub to-come : comingFrom pid counter a ≡ drop at all
 
 abbrev pub invariant-loop-a : goal.invariant-loop-a
-invariant-loop-a l = Placed (comingFrom l.fn.first.pid l.fn.first.counter l.all) l.initial.room l.room l.fn.first.pid l.stream.counter l.a l.at
-    × (l.stream.pid ≡ l.fn.first.pid)
+invariant-loop-a l =
+    let pid : ℕ = l.fn.first.pid in
+    let all : List ℕ = comingFrom pid l.fn.first.counter l.all in
+    Placed all l.initial.room l.room pid l.stream.counter l.a l.at × (l.stream.pid ≡ pid)
 
 abbrev pub decreases-loop-a : goal.decreases-loop-a
 decreases-loop-a l = length l.a.bytes.now
