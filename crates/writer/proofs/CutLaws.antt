@@ -3,7 +3,7 @@
 use mathlib.Core.Path.{◌≡◌, refl, sym, ap, ◌∙◌}
 use mathlib.Core.Bool.{Bool, true, false, not, ◌&&◌, false≢true}
 use mathlib.Core.List.{List, [], ◌∷◌, ◌++◌, map, flatten}
-use Prim.Native.Nat.{ℕ, ◌+◌, ◌≤◌, ◌<◌}
+use Prim.Native.Nat.{ℕ, ◌≤◌, ◌<◌}
 use native.Mathlib.Omega.{arith}
 use lib.ListN.{length, take, drop, get_or, length-drop, take-append-drop}
 use lib.Seq.{length-take-le}
@@ -12,7 +12,6 @@ use borrow.Author.Tests.{leb-true, eqb-true, le-leb, lt-leb, eq-eqb}
 use Rattle.wire.specs.Sections.{total_of}
 use Rattle.writer.specs.Cut.{sendable, cut_by, fit}
 use Rattle.writer.specs.Layout.{sum}
-use Rattle.writer.specs.Inner.{Few}
 
 -- ---- one section
 
@@ -113,10 +112,3 @@ fit_sum [] bytes e = ap length (no_bytes bytes e)
 fit_sum (size ∷ sizes) bytes e =
     let f = fit_parts size sizes bytes e in
     omega (arith, f.there, fit_sum sizes (drop size bytes) f.others, length-drop size bytes)
-
-pub fit_few : (sizes bytes : List ℕ) → fit sizes bytes ≡ true → Few sizes
-fit_few [] bytes e = tt
-fit_few (size ∷ sizes) bytes e =
-    let f = fit_parts size sizes bytes e in
-    let few = (goes_parts (take size bytes) f.goes).limit in
-    (omega (arith, few, length-take-le size bytes f.there), fit_few sizes (drop size bytes) f.others)

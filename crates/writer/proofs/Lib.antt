@@ -4,5 +4,4 @@ pub mod SizeLaws
 pub mod CutLaws
 pub mod PayloadLaws
 pub mod RoomLaws
-pub mod StepLaws
 pub mod Outcomes

@@ -4,10 +4,14 @@
 mod cut;
 mod layout;
 mod packets;
+mod stream;
 
 ghost use Rattle.std.specs.Prelude.{◌≡◌};
 ghost use Rattle.writer.specs.Answer.{number_of, came};
 ghost use Rattle.writer.specs.Written.{written};
+
+use layout::Ahead;
+use stream::Stream;
 
 #[derive(Clone, Copy, PartialEq, Eq)]
 pub enum Refusal {
@@ -39,13 +43,19 @@ pub fn write(pid: u16, counter: u8, sections: &[u8], sizes: &[usize], room: &mut
     if 8191 < pid || 15 < counter {
         return Err(Refusal::BadStart);
     }
+    let stream = Stream { pid, counter };
     if !cut::fits(sections, sizes) {
         return Err(Refusal::BadSection);
     }
-    let n = layout::count(sections.len(), sizes);
+    let ahead = Ahead {
+        left: 0,
+        waiting: sizes,
+        bytes: sections,
+    };
+    let n = ahead.count();
     if room.len() / 188 < n {
         return Err(Refusal::Room);
     }
-    packets::put_all(pid, counter, sections, sizes, room);
+    packets::put_all(stream, ahead, room);
     Ok(n)
 }
