@@ -1,6 +1,6 @@
 -- The refusals' numbers, and parts of the caller's bytes.
 use Rattle.std.specs.Prelude.{List, ℕ, ◌+◌, take, drop, Result as Returned, Ok, Err}
-use Rattle.core.specs.Borrow.{Bor}
+use Rattle.std.specs.Borrow.{Bor}
 use Rattle.wire.specs.Reading.{value, refused}
 use Rattle.clock.specs.Fault as fault
 use Rattle.layout.specs.declared.Refusal.{Refusal}
