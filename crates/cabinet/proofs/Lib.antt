@@ -3,5 +3,5 @@ pub mod TableLaws
 pub mod FlatMarks
 pub mod Outcomes
 pub mod SheetNumbers
-pub mod HeadParts
 pub mod RollTaken
+pub mod OpenSays

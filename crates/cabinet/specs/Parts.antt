@@ -1,5 +1,5 @@
 -- What the parts of a section say in numbers: each id under its name in its table, and 0 for what the table does not have.
-use Rattle.std.specs.Prelude.{ℕ, Bool, List, get_or, if◌then◌else◌}
+use Rattle.std.specs.Prelude.{ℕ, Bool, List, Option, Some, None, get_or, if◌then◌else◌}
 use Rattle.verdict.specs.Verdict.{is_accepted, number_of, place_of}
 use Rattle.tables.specs.Tables.{NIT, SDT, BAT, EIT, is_numbered, row_of}
 use Rattle.section.specs.Reading.{judged}
@@ -87,9 +87,14 @@ open_says s = record {
   entries = says (entries_in s);
 }
 
--- a section of a room, and what is left
-abbrev pub section_says : Section → SectionStep
-section_says x = record { found = bit x.found; section = says x.whole; rest = says x.rest }
+-- in the place of a part where there is none
+abbrev pub no_part : Part
+no_part = record { start = 0; size = 0 }
+
+-- a section of a room, and what is left; where r has none, r is left
+abbrev pub section_says : Part → Option Section → SectionStep
+section_says r (Some x) = record { found = 1; section = says x.whole; rest = says x.rest }
+section_says r None = record { found = 0; section = no_part; rest = r }
 
 -- the id of an entry of a table in the row r
 abbrev pub id_if : List ℕ → ℕ → beneath.Part → ℕ
@@ -100,9 +105,9 @@ unfoldable pub stream_in : List ℕ → beneath.Part → ℕ
 stream_in s f = if is_of NIT s then id_in s f else id_if s BAT f
 
 -- an entry of s, and what is left
-abbrev pub entry_says : List ℕ → Entry → EntryStep
-entry_says s x = record {
-  found = bit x.found;
+abbrev pub one_entry_says : List ℕ → Entry → EntryStep
+one_entry_says s x = record {
+  found = 1;
   service_id = id_if s SDT x.fixed;
   event_id = id_if s EIT x.fixed;
   transport_stream_id = stream_in s x.fixed;
@@ -114,6 +119,23 @@ entry_says s x = record {
   rest = says x.rest;
 }
 
--- a descriptor, and what is left
-abbrev pub descriptor_says : Descriptor → DescriptorStep
-descriptor_says x = record { found = bit x.found; tag = x.tag; descriptor = says x.whole; body = says x.body; rest = says x.rest }
+-- the same; where r has none, r is left
+abbrev pub entry_says : List ℕ → Part → Option Entry → EntryStep
+entry_says s r (Some x) = one_entry_says s x
+entry_says s r None = record {
+  found = 0;
+  service_id = 0;
+  event_id = 0;
+  transport_stream_id = 0;
+  original_network_id = 0;
+  fixed = no_part;
+  start_time = no_part;
+  duration = no_part;
+  descriptors = no_part;
+  rest = r;
+}
+
+-- a descriptor, and what is left; where r has none, r is left
+abbrev pub descriptor_says : Part → Option Descriptor → DescriptorStep
+descriptor_says r (Some x) = record { found = 1; tag = x.tag; descriptor = says x.whole; body = says x.body; rest = says x.rest }
+descriptor_says r None = record { found = 0; tag = 0; descriptor = no_part; body = no_part; rest = r }

@@ -1,12 +1,13 @@
 // The parts of a section, and the sections of a room.
 ghost use Rattle.std.specs.Prelude.{◌≡◌};
-ghost use Rattle.parts.specs.Names.{time_from, duration_from};
+ghost use Rattle.tables.specs.Tables.{place};
+ghost use Rattle.parts.specs.Names.{is_of, time_from, duration_from};
 ghost use Rattle.parts.specs.Room.{next_section};
 ghost use Rattle.parts.specs.Entries.{next_entry};
 ghost use Rattle.parts.specs.Descriptors.{next_descriptor};
 ghost use Rattle.cabinet.specs.Clock.{time_answer, duration_answer};
-ghost use Rattle.cabinet.specs.Parts.{only, part_in, says, transport_in, extension_if, numbered, bare, head_of, head_if, open_says};
-ghost use Rattle.cabinet.specs.Parts.{section_says, id_if, stream_in, entry_says, descriptor_says};
+ghost use Rattle.cabinet.specs.Parts.{only, part_in, says, transport_in, extension_if, numbered, head_of, open_says};
+ghost use Rattle.cabinet.specs.Parts.{section_says, id_if, stream_in, one_entry_says, entry_says, descriptor_says};
 
 use crate::moments::{duration_answer, time_answer};
 use crate::numbers::of_flag;
@@ -14,16 +15,16 @@ use crate::text_readings::Part;
 use crate::times::{DurationAnswer, TimeAnswer};
 use head::sub_tables::sub_table_of;
 use parts::descriptors::next_descriptor;
-use parts::entries::next_entry;
+use parts::entries::{Entry, next_entry};
 use parts::names;
 use parts::opening::open;
 use parts::room::next_section;
-use tables::{BAT, EIT, NIT, SDT, is_numbered, row_of};
+use tables::{Table, is_numbered, table_of};
 use wire::numbers::byte_at;
 
 // What stands before the loops and entries, by name; 0 for what the table does not have.
 #[repr(C)]
-#[derive(Clone, Copy)]
+#[derive(Clone, Copy, Default)]
 pub struct Head {
     pub table_id: u8,
     pub network_id: u16,
@@ -38,7 +39,7 @@ pub struct Head {
 }
 
 #[repr(C)]
-#[derive(Clone, Copy)]
+#[derive(Clone, Copy, Default)]
 pub struct OpenAnswer {
     pub number: u32,
     pub place: usize,
@@ -49,7 +50,7 @@ pub struct OpenAnswer {
 }
 
 #[repr(C)]
-#[derive(Clone, Copy)]
+#[derive(Clone, Copy, Default)]
 pub struct SectionStep {
     // 1 for a section.
     pub found: u8,
@@ -58,7 +59,7 @@ pub struct SectionStep {
 }
 
 #[repr(C)]
-#[derive(Clone, Copy)]
+#[derive(Clone, Copy, Default)]
 pub struct EntryStep {
     // 1 for an entry.
     pub found: u8,
@@ -74,7 +75,7 @@ pub struct EntryStep {
 }
 
 #[repr(C)]
-#[derive(Clone, Copy)]
+#[derive(Clone, Copy, Default)]
 pub struct DescriptorStep {
     // 1 for a descriptor.
     pub found: u8,
@@ -109,24 +110,29 @@ fn part_says(part: parts::Part) -> Part
     }
 }
 
+// Whether a section is of this table.
+fn is_of(section: &[u8], table: Table) -> bool
+    ensures { result ≡ is_of (place table) section.now }
+{
+    table_of(byte_at(section, 0)) == Some(table)
+}
+
 // SDT's is its extension.
+#[tactic(auto, unfolding(crate::specs::Parts::transport_in))]
 fn transport_in(section: &[u8]) -> u16
     ensures { result ≡ transport_in section.now }
 {
-    if row_of(byte_at(section, 0)) == SDT {
+    if is_of(section, Table::Sdt) {
         return head::extension_of(section);
     }
     sub_table_of(section).transport_stream_id
 }
 
-// The extension of a table in this row; 0 for another.
-fn extension_if(section: &[u8], row: usize) -> u16
-    ensures { result ≡ extension_if section.now row }
+// The extension of a section of this table; 0 for another.
+fn extension_if(section: &[u8], table: Table) -> u16
+    ensures { result ≡ extension_if section.now (place table) }
 {
-    only_if(
-        row_of(byte_at(section, 0)) == row,
-        head::extension_of(section),
-    )
+    only_if(is_of(section, table), head::extension_of(section))
 }
 
 // A head with extension, version and section numbers.
@@ -135,9 +141,9 @@ fn numbered_head(section: &[u8]) -> Head
 {
     Head {
         table_id: byte_at(section, 0),
-        network_id: extension_if(section, NIT),
-        bouquet_id: extension_if(section, BAT),
-        service_id: extension_if(section, EIT),
+        network_id: extension_if(section, Table::Nit),
+        bouquet_id: extension_if(section, Table::Bat),
+        service_id: extension_if(section, Table::Eit),
         transport_stream_id: transport_in(section),
         original_network_id: sub_table_of(section).original_network_id,
         version_number: head::version_of(section),
@@ -147,139 +153,126 @@ fn numbered_head(section: &[u8]) -> Head
     }
 }
 
-// A head of which nothing but the table_id counts.
-fn bare_head(table_id: u8) -> Head
-    ensures { result ≡ bare table_id }
-{
-    Head {
-        table_id,
-        network_id: 0,
-        bouquet_id: 0,
-        service_id: 0,
-        transport_stream_id: 0,
-        original_network_id: 0,
-        version_number: 0,
-        current_next_indicator: 0,
-        section_number: 0,
-        last_section_number: 0,
-    }
-}
-
+// Of TDT and TOT nothing but the table_id counts.
+#[tactic(auto, unfolding(crate::specs::Parts::head_of))]
 fn head_of(section: &[u8]) -> Head
     ensures { result ≡ head_of section.now }
 {
     let table_id = byte_at(section, 0);
-    if is_numbered(row_of(table_id)) {
+    if is_numbered(table_of(table_id)) {
         return numbered_head(section);
     }
-    bare_head(table_id)
+    Head {
+        table_id,
+        ..Head::default()
+    }
 }
 
 // Of a section that is refused nothing is told.
-fn head_if(accepted: bool, section: &[u8]) -> Head
-    ensures { result ≡ head_if accepted section.now }
-{
-    if accepted {
-        return head_of(section);
-    }
-    bare_head(0)
-}
-
+#[tactic(auto, using(crate::proofs::OpenSays::accepted_says, crate::proofs::OpenSays::refused_says))]
 #[unsafe(no_mangle)]
 pub extern "C" fn lohitunga_open(section: &[u8]) -> OpenAnswer
     ensures { result ≡ open_says section.now }
 {
-    let opened = open(section);
-    let verdict = opened.verdict;
-    let utc_time = opened.utc_time;
-    let top = opened.top;
-    let entries = opened.entries;
-    OpenAnswer {
-        number: verdict::number(verdict) as u32,
-        place: verdict::place(verdict),
-        head: head_if(verdict::is_accepted(verdict), section),
-        utc_time: part_says(utc_time),
-        top: part_says(top),
-        entries: part_says(entries),
+    match open(section) {
+        Ok(opened) => OpenAnswer {
+            number: 0,
+            place: 0,
+            head: head_of(section),
+            utc_time: part_says(opened.utc_time),
+            top: part_says(opened.top),
+            entries: part_says(opened.entries),
+        },
+        Err(refusal) => OpenAnswer {
+            number: verdict::number(Err(refusal)) as u32,
+            place: verdict::place(Err(refusal)),
+            ..OpenAnswer::default()
+        },
     }
 }
 
 #[unsafe(no_mangle)]
 pub extern "C" fn lohitunga_next_section(room: &[u8], rest: Part) -> SectionStep
-    ensures { result ≡ section_says (next_section room.now (part_in rest)) }
+    ensures { result ≡ section_says rest (next_section room.now (part_in rest)) }
 {
-    let next = next_section(room, part_in(rest));
-    let whole = next.whole;
-    let behind = next.rest;
-    SectionStep {
-        found: of_flag(next.found),
-        section: part_says(whole),
-        rest: part_says(behind),
+    match next_section(room, part_in(rest)) {
+        Some(next) => SectionStep {
+            found: 1,
+            section: part_says(next.whole),
+            rest: part_says(next.rest),
+        },
+        None => SectionStep {
+            rest,
+            ..SectionStep::default()
+        },
     }
 }
 
-// The id of an entry of a table in this row; 0 for another.
-fn id_if(section: &[u8], row: usize, fixed: parts::Part) -> u16
-    ensures { result ≡ id_if section.now row fixed }
+// The id of an entry of this table; 0 for another.
+fn id_if(section: &[u8], table: Table, fixed: parts::Part) -> u16
+    ensures { result ≡ id_if section.now (place table) fixed }
 {
-    only_if(
-        row_of(byte_at(section, 0)) == row,
-        names::id_in(section, fixed),
-    )
+    only_if(is_of(section, table), names::id_in(section, fixed))
 }
 
 // The transport_stream_id of an entry of NIT or BAT; 0 for another.
+#[tactic(auto, unfolding(crate::specs::Parts::stream_in))]
 fn stream_in(section: &[u8], fixed: parts::Part) -> u16
     ensures { result ≡ stream_in section.now fixed }
 {
-    let row = row_of(byte_at(section, 0));
-    if row == NIT {
+    if is_of(section, Table::Nit) {
         return names::id_in(section, fixed);
     }
-    only_if(row == BAT, names::id_in(section, fixed))
+    id_if(section, Table::Bat, fixed)
 }
 
-fn entry_says(section: &[u8], next: parts::entries::Entry) -> EntryStep
-    ensures { result ≡ entry_says section.now next }
+fn entry_says(section: &[u8], entry: Entry) -> EntryStep
+    ensures { result ≡ one_entry_says section.now entry }
 {
-    let fixed = next.fixed;
-    let descriptors = next.descriptors;
-    let rest = next.rest;
+    let fixed = entry.fixed;
     EntryStep {
-        found: of_flag(next.found),
-        service_id: id_if(section, SDT, fixed),
-        event_id: id_if(section, EIT, fixed),
+        found: 1,
+        service_id: id_if(section, Table::Sdt, fixed),
+        event_id: id_if(section, Table::Eit, fixed),
         transport_stream_id: stream_in(section, fixed),
         original_network_id: names::network_in(section, fixed),
         fixed: part_says(fixed),
         start_time: part_says(names::start_in(section, fixed)),
         duration: part_says(names::duration_in(section, fixed)),
-        descriptors: part_says(descriptors),
-        rest: part_says(rest),
+        descriptors: part_says(entry.descriptors),
+        rest: part_says(entry.rest),
     }
 }
 
 #[unsafe(no_mangle)]
 pub extern "C" fn lohitunga_next_entry(section: &[u8], rest: Part) -> EntryStep
-    ensures { result ≡ entry_says section.now (next_entry section.now (part_in rest)) }
+    ensures { result ≡ entry_says section.now rest (next_entry section.now (part_in rest)) }
 {
-    entry_says(section, next_entry(section, part_in(rest)))
+    match next_entry(section, part_in(rest)) {
+        Some(entry) => entry_says(section, entry),
+        None => EntryStep {
+            rest,
+            ..EntryStep::default()
+        },
+    }
 }
 
 #[unsafe(no_mangle)]
 pub extern "C" fn lohitunga_next_descriptor(section: &[u8], rest: Part) -> DescriptorStep
-    ensures { result ≡ descriptor_says (next_descriptor section.now (part_in rest)) }
+    ensures { result ≡ descriptor_says rest (next_descriptor section.now (part_in rest)) }
 {
-    let next = next_descriptor(section, part_in(rest));
-    let whole = next.whole;
-    let body = next.body;
-    let behind = next.rest;
-    DescriptorStep {
-        found: of_flag(next.found),
-        tag: next.tag,
-        descriptor: part_says(whole),
-        body: part_says(body),
-        rest: part_says(behind),
+    match next_descriptor(section, part_in(rest)) {
+        Some(next) => DescriptorStep {
+            found: 1,
+            tag: next.tag,
+            descriptor: part_says(next.whole),
+            body: part_says(next.body),
+            rest: part_says(next.rest),
+        },
+        None => DescriptorStep {
+            rest,
+            ..DescriptorStep::default()
+        },
     }
 }
 

@@ -20,21 +20,21 @@ pub extern "C" fn lohitunga_open(section: &[u8]) -> OpenAnswer
 
 #[unsafe(no_mangle)]
 pub extern "C" fn lohitunga_next_section(room: &[u8], rest: Part) -> SectionStep
-    ensures { result ≡ section_says (next_section room.now (part_in rest)) }
+    ensures { result ≡ section_says rest (next_section room.now (part_in rest)) }
 {
     cabinet::section_parts::lohitunga_next_section(room, rest)
 }
 
 #[unsafe(no_mangle)]
 pub extern "C" fn lohitunga_next_entry(section: &[u8], rest: Part) -> EntryStep
-    ensures { result ≡ entry_says section.now (next_entry section.now (part_in rest)) }
+    ensures { result ≡ entry_says section.now rest (next_entry section.now (part_in rest)) }
 {
     cabinet::section_parts::lohitunga_next_entry(section, rest)
 }
 
 #[unsafe(no_mangle)]
 pub extern "C" fn lohitunga_next_descriptor(section: &[u8], rest: Part) -> DescriptorStep
-    ensures { result ≡ descriptor_says (next_descriptor section.now (part_in rest)) }
+    ensures { result ≡ descriptor_says rest (next_descriptor section.now (part_in rest)) }
 {
     cabinet::section_parts::lohitunga_next_descriptor(section, rest)
 }
