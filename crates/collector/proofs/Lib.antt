@@ -2,7 +2,8 @@
 pub mod Counters
 pub mod MarkLaws
 pub mod ByteRuns
-pub mod HoldThenPacket
+pub mod Laying
+pub mod Headers
 pub mod SectionLoop
 pub mod StretchInHand
 pub mod Simulation

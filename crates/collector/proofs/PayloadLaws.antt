@@ -1,6 +1,6 @@
 -- A packet's payload, from the code's answers for its stretches to its story. What a whole section comes to is left open,
 -- but where the size of what comes out is bounded: that goes by the bytes that are delivered.
-use Rattle.std.proofs.Common.{◌≡◌, ℕ, ◌+◌, ◌-◌, ◌<◌, ◌≤◌, Bool, true, false, not, List, [], ◌∷◌, ◌++◌, map, length, get_or, take, drop, sym, refl, ap, ◌∙◌, subst, append_assoc, append-nil, map-id, add-zero, add-one, arith, length-append, length-drop, take_all, drop-cons, drop-drop}
+use Rattle.std.proofs.Common.{◌≡◌, ℕ, ◌+◌, ◌-◌, ◌<◌, ◌≤◌, Bool, true, false, not, List, [], ◌∷◌, ◌++◌, map, length, get_or, take, drop, sym, refl, ap, ◌∙◌, subst, append_assoc, append-nil, map-id, add-zero, arith, length-append, length-drop, get_or-drop, take_all, drop-cons, drop-drop}
 use mathlib.Core.Bool.{false≢true}
 use mathlib.Core.List.{flatten}
 use lib.Seq.{take-append_seam, drop-append-add}
@@ -11,9 +11,8 @@ use Rattle.copy.specs.Laid.{over}
 use Rattle.collector.specs.Rules.{Kind, accepted, rejected, Fate, pointer, broken, done, in-hand, Story, same_fate, bytes_of, count_of, hand_of, marked, given, broken_off, holding, kind_of, joined, plain, goesOn, sections_in, started, payload}
 use Rattle.collector.specs.Judged.{by_judge, delivered_of, rejected_of, last_number}
 use Rattle.collector.specs.Inner.Stretch.{gain_of, Ends, Small, both_of}
-use Rattle.collector.specs.Inner.Payload.{Fit, front_of}
+use Rattle.collector.specs.Inner.Payload.{Fit, front_rest, front_bytes}
 use Rattle.collector.specs.declared.stretch.Gain.{Gain}
-use Rattle.collector.specs.declared.payload.Front.{Front}
 use Rattle.collector.proofs.Counters.{one_of, rest_apart, gain_with_lem, small_by}
 use Rattle.collector.proofs.MarkLaws.{flatten_append, bytes_of_more, settled_hand}
 use Rattle.collector.proofs.SectionLoop.{ends_as}
@@ -53,15 +52,17 @@ one p f = length (if same_fate f (done pointer) then p ∷ [] else [])
 
 -- the stretch that goes to the section in hand is in the packet
 pub front_in : (start : Bool) {n : ℕ} {hold out packet : List ℕ} {from : ℕ} → Fit n hold out packet from start
-    → (f : Front) → f ≡ front_of start packet from → (from ≤ f.from) × (f.from + f.bytes ≤ length packet)
-front_in true x f e =
-    let at = ap (λ (z : Front). z.from) e in
-    let long = ap (λ (z : Front). z.bytes) e in
-    (omega arith, omega (arith, x.points refl))
-front_in false x f e =
-    let at = ap (λ (z : Front). z.from) e in
-    let long = ap (λ (z : Front). z.bytes) e in
-    (omega arith, omega (arith, x.from_within))
+    → (rest : List ℕ) → rest ≡ front_rest start (drop from packet) → (m : ℕ) → m ≡ front_bytes start (drop from packet)
+    → (m ≤ length rest) × (from + length rest ≤ length packet)
+front_in true {packet = packet} {from = from} x rest e m w =
+    let long : length rest ≡ length packet - from - 1 =
+    ap length e ∙ length-drop 1 (drop from packet) ∙ ap (λ (k : ℕ). k - 1) (length-drop from packet) in
+    let at : m ≡ get_or packet from 0 =
+    w ∙ get_or-drop from packet 0 0 ∙ ap (λ (i : ℕ). get_or packet i 0) (add-zero from) in
+    (omega (arith, long, at, x.points refl), omega (arith, long, x.from_within))
+front_in false {packet = packet} {from = from} x rest e m w =
+    let long : length rest ≡ length packet - from = ap length e ∙ length-drop from packet in
+    (omega (arith, w, ap length e), omega (arith, long, x.from_within))
 
 -- ---- whatever a whole section comes to
 
@@ -220,68 +221,59 @@ module _ (p : ℕ) (h l l₂ : List ℕ) where
 
 -- ---- the payload in the packet
 
-module _ (hold out packet : List ℕ) (n from was : ℕ) where
+module _ (hold out bs : List ℕ) (n was : ℕ) where
   abbrev taken : Bool → Story ℕ
-  taken start = payload by_judge plain start (holding (take n hold)) (drop from packet)
+  taken start = payload by_judge plain start (holding (take n hold)) bs
 
-  ends-start : from < length packet → (p : ℕ) → p ≡ get_or packet from 0 → (hold₁ out₁ hold₂ out₂ : List ℕ) (a b : Gain)
-      → Ends (front by_judge (take n hold) (take p (drop (from + 1) packet))) was hold out 0 hold₁ out₁ a
-      → Ends (back by_judge (drop (from + 1 + p) packet)) a.rejection hold₁ out₁ a.bytes hold₂ out₂ b
+  ends-start : 0 < length bs → (hold₁ out₁ hold₂ out₂ : List ℕ) (a b : Gain)
+      → Ends (front by_judge (take n hold) (take (get_or bs 0 0) (drop 1 bs))) was hold out 0 hold₁ out₁ a
+      → Ends (back by_judge (drop (get_or bs 0 0) (drop 1 bs))) a.rejection hold₁ out₁ a.bytes hold₂ out₂ b
       → (r : Gain) → r ≡ both_of a b → Ends (taken true) was hold out 0 hold₂ out₂ r
-  ends-start k p e hold₁ out₁ hold₂ out₂ a b x y r w =
-      let bs : List ℕ = drop (from + 1) packet in
-      let cons : drop from packet ≡ p ∷ bs =
-      drop-cons packet from 0 k
-      ∙ ap (λ (z : ℕ). get_or packet from 0 ∷ drop z packet) (sym (add-one from))
-      ∙ ap (λ (z : ℕ). z ∷ bs) (sym e) in
-      let y' : Ends (back by_judge (drop p bs)) a.rejection hold₁ out₁ a.bytes hold₂ out₂ b =
-      subst (λ (z : List ℕ). Ends (back by_judge z) a.rejection hold₁ out₁ a.bytes hold₂ out₂ b)
-      (sym (drop-drop p (from + 1) packet)) y in
+  ends-start k hold₁ out₁ hold₂ out₂ a b x y r w =
+      let p : ℕ = get_or bs 0 0 in
+      let l : List ℕ = drop 1 bs in
       subst (Ends (taken true) was hold out 0 hold₂ out₂) (sym w)
-      (ends_as (whole by_judge p (take n hold) (take p bs) (drop p bs))
-      (ap (started by_judge plain (holding (take n hold))) cons)
-      (ends_both p (take n hold) (take p bs) (drop p bs) was hold out hold₁ out₁ hold₂ out₂ a b x y'))
+      (ends_as (whole by_judge p (take n hold) (take p l) (drop p l))
+      (ap (started by_judge plain (holding (take n hold))) (drop-cons bs 0 0 k))
+      (ends_both p (take n hold) (take p l) (drop p l) was hold out hold₁ out₁ hold₂ out₂ a b x y))
 
   ends_on : (hold₁ out₁ : List ℕ) (a : Gain)
-      → Ends (goesOn by_judge plain (holding (take n hold)) (take (length packet - from) (drop from packet))) was hold
-      out 0
-      hold₁ out₁ a
+      → Ends (goesOn by_judge plain (holding (take n hold)) (take (length bs) bs)) was hold out 0 hold₁ out₁ a
       → Ends (taken false) was hold out 0 hold₁ out₁ a
   ends_on hold₁ out₁ a x =
-      let all : take (length packet - from) (drop from packet) ≡ drop from packet =
-      take_all (length packet - from) (drop from packet) (omega (arith, length-drop from packet)) in
-      ends_as (goesOn by_judge plain (holding (take n hold)) (take (length packet - from) (drop from packet)))
-      (ap (goesOn by_judge plain (holding (take n hold))) (sym all)) x
+      ends_as (goesOn by_judge plain (holding (take n hold)) (take (length bs) bs))
+      (ap (goesOn by_judge plain (holding (take n hold))) (sym (take_all (length bs) bs (omega arith)))) x
 
-  abbrev first : Bool → Front → Story ℕ
-  first start f = gone by_judge (not start) (take n hold) (take f.bytes (drop f.from packet))
-
-  first_as : (start : Bool) (f : Front) → f ≡ front_of start packet from → {hold₁ out₁ : List ℕ} {a : Gain}
-      → Ends (first start f) was hold out 0 hold₁ out₁ a
-      → Ends (first start (front_of start packet from)) was hold out 0 hold₁ out₁ a
-  first_as start f e x = ends_as (first start f) (ap (first start) (sym e)) x
+  -- the stretch that goes to the section in hand
+  first_as : (start : Bool) (rest : List ℕ) → rest ≡ front_rest start bs → (m : ℕ) → m ≡ front_bytes start bs
+      → {hold₁ out₁ : List ℕ} {a : Gain} → Ends (gone by_judge (not start) (take n hold) (take m rest)) was hold out 0 hold₁ out₁ a
+      → Ends (gone by_judge (not start) (take n hold) (take (front_bytes start bs) (front_rest start bs))) was hold out 0 hold₁ out₁ a
+  first_as start rest e m f x =
+      ends_as (gone by_judge (not start) (take n hold) (take m rest))
+      (λ i. gone by_judge (not start) (take n hold) (take (sym f i) (sym e i))) x
 
   -- with the start flag sections follow where that stretch ends
-  pub carry-start : (start : Bool) → start ≡ true → from < length packet → (f : Front) → f ≡ front_of start packet from
-      → (hold₁ out₁ hold₂ out₂ : List ℕ) (a b : Gain)
-      → Ends (first start f) was hold out 0 hold₁ out₁ a
-      → Ends (back by_judge (drop (f.from + f.bytes) packet)) a.rejection hold₁ out₁ a.bytes hold₂ out₂ b
+  pub carry-start : (start : Bool) → start ≡ true → 0 < length bs → (rest : List ℕ) → rest ≡ front_rest start bs → (m : ℕ)
+      → m ≡ front_bytes start bs → (hold₁ out₁ hold₂ out₂ : List ℕ) (a b : Gain)
+      → Ends (gone by_judge (not start) (take n hold) (take m rest)) was hold out 0 hold₁ out₁ a
+      → Ends (back by_judge (take (length rest - m) (drop m rest))) a.rejection hold₁ out₁ a.bytes hold₂ out₂ b
       → (r : Gain) → r ≡ both_of a b → Ends (taken start) was hold out 0 hold₂ out₂ r
-  carry-start true t k f e hold₁ out₁ hold₂ out₂ a b x y r w =
-      ends-start k (get_or packet from 0) refl hold₁ out₁ hold₂ out₂ a b (first_as true f e x)
-      (subst
-      (λ (z : Front). Ends (back by_judge (drop (z.from + z.bytes) packet)) a.rejection hold₁ out₁ a.bytes
-      hold₂ out₂ b)
-      e y)
+  carry-start true t k rest e m f hold₁ out₁ hold₂ out₂ a b x y r w =
+      let all : take (length rest - m) (drop m rest) ≡ drop m rest =
+      take_all (length rest - m) (drop m rest) (omega (arith, length-drop m rest)) in
+      ends-start k hold₁ out₁ hold₂ out₂ a b (first_as true rest e m f x)
+      (ends_as (back by_judge (take (length rest - m) (drop m rest)))
+      (ap (back by_judge) (sym (all ∙ (λ i. drop (f i) (e i))))) y)
       r w
-  carry-start false t k f e hold₁ out₁ hold₂ out₂ a b x y r w = absurd (false≢true t)
+  carry-start false t k rest e m f hold₁ out₁ hold₂ out₂ a b x y r w = absurd (false≢true t)
 
   -- without it that stretch is all
-  pub carry_on : (start : Bool) → start ≡ false → (f : Front) → f ≡ front_of start packet from
-      → (hold₁ out₁ : List ℕ) (a : Gain) → Ends (first start f) was hold out 0 hold₁ out₁ a
+  pub carry_on : (start : Bool) → start ≡ false → (rest : List ℕ) → rest ≡ front_rest start bs → (m : ℕ) → m ≡ front_bytes start bs
+      → (hold₁ out₁ : List ℕ) (a : Gain)
+      → Ends (gone by_judge (not start) (take n hold) (take m rest)) was hold out 0 hold₁ out₁ a
       → Ends (taken start) was hold out 0 hold₁ out₁ a
-  carry_on true t f e hold₁ out₁ a x = absurd (false≢true (sym t))
-  carry_on false t f e hold₁ out₁ a x = ends_on hold₁ out₁ a (first_as false f e x)
+  carry_on true t rest e m f hold₁ out₁ a x = absurd (false≢true (sym t))
+  carry_on false t rest e m f hold₁ out₁ a x = ends_on hold₁ out₁ a (first_as false rest e m f x)
 
 -- ---- what the code counts is no more than the bytes that it saw
 

@@ -1,7 +1,6 @@
 -- The turns of the loop over the sections of a stretch: the story for whatever a whole section comes to, and the answer by the judge.
-use Rattle.std.proofs.Common.{◌≡◌, ℕ, zero, suc, ◌+◌, ◌-◌, ◌<◌, ◌≤◌, Bool, true, false, eqb, List, [], ◌∷◌, ◌++◌, length, get_or, take, drop, sym, refl, ap, ◌∙◌, subst, ⊎_elim, append_assoc, append-nil, arith, length-append, length-drop, drop_of_length-le, length-take-le, take_all, drop-cons, drop-drop, eq-eqb, ne_eqb}
+use Rattle.std.proofs.Common.{◌≡◌, ℕ, zero, suc, ◌+◌, ◌-◌, ◌<◌, ◌≤◌, Bool, true, false, eqb, List, [], ◌∷◌, ◌++◌, length, get_or, take, drop, sym, refl, ap, ◌∙◌, subst, ⊎_elim, append_assoc, append-nil, arith, length-append, length-drop, drop_of_length-le, length-take-le, take_all, drop-cons, eq-eqb, ne_eqb}
 use mathlib.Core.List.{flatten}
-use lib.Seq.{paste}
 use Rattle.std.specs.Prelude.{if◌then◌else◌}
 use Rattle.wire.specs.Sections.{total_of}
 use Rattle.copy.specs.Laid.{over, laid}
@@ -295,40 +294,36 @@ handed_long out at s w = by (is_accepted (judged s))
     by true = laid_long out at s w
     by false = refl
 
--- ---- where the loop stands: the sections secs came, up to index i of the packet; the accepted ones are in out
+-- ---- where the loop stands: the sections secs came, and rest is what is left of the part; the accepted ones are in out
 
-pub record Reached (packet : List ℕ) (from was : ℕ) (hold₀ out₀ : List ℕ) (at : ℕ) (hold out : List ℕ) (i : ℕ)
-    (g : Gain)
+pub record Reached (part : List ℕ) (was : ℕ) (hold₀ out₀ : List ℕ) (at : ℕ) (hold out rest : List ℕ) (g : Gain)
     : Type 0 where
   pub secs : List (List ℕ)
-  pub inside_packet : i ≤ length packet
   pub gain : g ≡ gained was secs
   pub few : g.sections ≤ g.bytes
-  pub passed : from + (g.bytes + g.rejected) ≤ i
-  pub fits : at + g.bytes + (length packet - i) ≤ length out₀
+  pub passed : g.bytes + g.rejected + length rest ≤ length part
+  pub fits : at + g.bytes + length rest ≤ length out₀
   pub long : length out ≡ length out₀
   pub the_hold : hold ≡ hold₀
   pub hold_long : length hold ≡ length hold₀
   pub the_out : out ≡ laid out₀ at (flatten (parted accepted secs))
-  pub so_far : sections_in by_judge plain (holding []) (drop from packet)
-      ≡ sections_in by_judge plain (made by_judge secs) (drop i packet)
+  pub so_far : sections_in by_judge plain (holding []) part
+      ≡ sections_in by_judge plain (made by_judge secs) rest
 
 -- at the start no section has come
 pub nothing_gained : (was : ℕ) → nothing was ≡ gained was []
 unfolding flatten
 nothing_gained was = refl
 
-pub none_yet : (packet : List ℕ) (from was : ℕ) (hold out : List ℕ) (at : ℕ) (g : Gain) → g ≡ nothing was
-    → from ≤ length packet
-    → at + (length packet - from) ≤ length out → Reached packet from was hold out at hold out from g
+pub none_yet : (part : List ℕ) (was : ℕ) (hold out : List ℕ) (at : ℕ) (g : Gain) → g ≡ nothing was
+    → at + length part ≤ length out → Reached part was hold out at hold out part g
 unfolding flatten
-none_yet packet from was hold out at g e k w =
+none_yet part was hold out at g e w =
     let no_bytes : g.bytes ≡ 0 = ap (λ (z : Gain). z.bytes) e in
     let no-sections : g.sections ≡ 0 = ap (λ (z : Gain). z.sections) e in
     let none_rejected : g.rejected ≡ 0 = ap (λ (z : Gain). z.rejected) e in
     record {
       secs = [];
-      inside_packet = k;
       gain = e;
       few = omega (arith, no_bytes, no-sections);
       passed = omega (arith, no_bytes, none_rejected);
@@ -339,13 +334,6 @@ none_yet packet from was hold out at g e k w =
       the_out = laid_none out at;
       so_far = refl;
     }
-
-look_here : (p : List ℕ) (i : ℕ) (r r' : Look) → i < length p → LookSays (take (length p - i) (drop i p)) r → r ≡ r'
-    → LookSays (get_or p i 0 ∷ drop (suc i) p) r'
-look_here p i r r' k says e =
-    subst (λ (l : List ℕ). LookSays l r')
-    (take_all (length p - i) (drop i p) (omega (arith, length-drop i p)) ∙ drop-cons p i 0 k)
-    (subst (LookSays (take (length p - i) (drop i p))) e says)
 
 -- an answer with the bytes of a stretch's end
 abbrev pub with_hand : Gain → ℕ → Gain
@@ -387,109 +375,115 @@ with_skipping g m = record {
   skipping = m;
 }
 
-module _ {p : List ℕ} {from was : ℕ} {hold₀ out₀ : List ℕ} {at : ℕ} {hold out : List ℕ} {i : ℕ} {g : Gain}
-    (x : Reached p from was hold₀ out₀ at hold out i g) where
+module _ {part : List ℕ} {was : ℕ} {hold₀ out₀ : List ℕ} {at : ℕ} {hold out rest : List ℕ} {g : Gain}
+    (x : Reached part was hold₀ out₀ at hold out rest g) where
   abbrev End : List ℕ → Gain → Type 0
-  End hold' r = Ends (sections_in by_judge plain (holding []) (drop from p)) was hold₀ out₀ at hold' out r
+  End hold' r = Ends (sections_in by_judge plain (holding []) part) was hold₀ out₀ at hold' out r
 
   -- an answer that is made of what the sections came to
   of_gained : (f : Gain → Gain) (hold' : List ℕ) → End hold' (f (gained was x.secs)) → End hold' (f g)
   of_gained f hold' e = subst (λ (z : Gain). End hold' (f z)) (sym x.gain) e
 
-  pub end_all : length p ≤ i → End hold g
+  pub end_all : length rest ≤ 0 → End hold g
   end_all k =
       of_gained (λ z. z) hold
       (ends_as (all (done filler) [] (made by_judge x.secs))
       (x.so_far
-      ∙ ap (sections_in by_judge plain (made by_judge x.secs)) (drop_of_length-le p k)
+      ∙ ap (sections_in by_judge plain (made by_judge x.secs)) (drop_of_length-le rest k)
       ∙ sym (all_none (done filler) (made by_judge x.secs)))
       (ends_made (done filler) was x.secs [] hold₀ out₀ at hold out 0 refl x.the_hold x.the_out))
 
-  module _ (k : i < length p) where
+  module _ (k : 0 < length rest) where
     abbrev b : ℕ
-    b = get_or p i 0
+    b = get_or rest 0 0
 
-    abbrev rest : List ℕ
-    rest = drop (suc i) p
+    abbrev tail : List ℕ
+    tail = drop 1 rest
 
-    cons : drop i p ≡ b ∷ rest
-    cons = drop-cons p i 0 k
+    cons : rest ≡ b ∷ tail
+    cons = drop-cons rest 0 0 k
 
-    now_here : sections_in by_judge plain (holding []) (drop from p)
-        ≡ sections_in by_judge plain (made by_judge x.secs) (b ∷ rest)
+    now_here : sections_in by_judge plain (holding []) part
+        ≡ sections_in by_judge plain (made by_judge x.secs) (b ∷ tail)
     now_here = x.so_far ∙ ap (sections_in by_judge plain (made by_judge x.secs)) cons
 
-    long_here : length p - i ≡ length (b ∷ rest)
-    long_here = omega (arith, length-drop (suc i) p)
+    long_here : length rest ≡ length (b ∷ tail)
+    long_here = ap length cons
 
-    pub end_filler : b ≡ 255 → End hold (with_filling g (length p - i))
+    pub end_filler : b ≡ 255 → End hold (with_filling g (length rest))
     end_filler e =
-        of_gained (λ z. with_filling z (length p - i)) hold
-        (ends_as (all (done filler) (b ∷ rest) (made by_judge x.secs))
-        (now_here ∙ turn_filler by_judge x.secs b rest (eq-eqb b 255 e))
-        (ends_made (done filler) was x.secs (b ∷ rest) hold₀ out₀ at hold out (length p - i) long_here x.the_hold
+        of_gained (λ z. with_filling z (length rest)) hold
+        (ends_as (all (done filler) (b ∷ tail) (made by_judge x.secs))
+        (now_here ∙ turn_filler by_judge x.secs b tail (eq-eqb b 255 e))
+        (ends_made (done filler) was x.secs (b ∷ tail) hold₀ out₀ at hold out (length rest) long_here x.the_hold
         x.the_out))
 
-    module _ (other : b ≡ 255 → ⊥) (r : Look) (says : LookSays (take (length p - i) (drop i p)) r) where
-      pub end_over : r ≡ Over → End hold (with_breaking g (length p - i))
+    module _ (other : b ≡ 255 → ⊥) (r : Look) (says : LookSays rest r) where
+      look_here : (r' : Look) → r ≡ r' → LookSays (b ∷ tail) r'
+      look_here r' e = subst (λ (l : List ℕ). LookSays l r') cons (subst (LookSays rest) e says)
+
+      pub end_over : r ≡ Over → End hold (with_breaking g (length rest))
       end_over e =
-          of_gained (λ z. with_breaking z (length p - i)) hold
-          (ends_as (all (done broken) (b ∷ rest) (made by_judge x.secs))
-          (now_here ∙ turn_over by_judge x.secs b rest (ne_eqb b 255 other) (look_here p i r Over k says e))
-          (ends_made (done broken) was x.secs (b ∷ rest) hold₀ out₀ at hold out (length p - i) long_here
+          of_gained (λ z. with_breaking z (length rest)) hold
+          (ends_as (all (done broken) (b ∷ tail) (made by_judge x.secs))
+          (now_here ∙ turn_over by_judge x.secs b tail (ne_eqb b 255 other) (look_here Over e))
+          (ends_made (done broken) was x.secs (b ∷ tail) hold₀ out₀ at hold out (length rest) long_here
           x.the_hold
           x.the_out))
 
-      pub end_going : r ≡ Going → (hold' : List ℕ) → hold' ≡ paste hold 0 (drop i p) (length p - i)
-          → End hold' (with_hand g (length p - i))
+      pub end_going : r ≡ Going → (hold' : List ℕ) → hold' ≡ laid hold 0 rest
+          → End hold' (with_hand g (length rest))
       end_going e hold' w =
-          let l : List ℕ = b ∷ rest in
-          let taken : take (length p - i) (drop i p) ≡ l =
-          take_all (length p - i) (drop i p) (omega (arith, length-drop i p)) ∙ cons in
-          let from_zero : 0 + (length p - i) ≡ length l = omega (arith, long_here) in
+          let l : List ℕ = b ∷ tail in
           let kept : hold' ≡ over l hold₀ =
           w
-          ∙ ap (λ (z : List ℕ). z ++ drop (0 + (length p - i)) hold) taken
-          ∙ ap (λ (m : ℕ). l ++ drop m hold) from_zero
-          ∙ ap (λ (z : List ℕ). over l z) x.the_hold in
-          of_gained (λ z. with_hand z (length p - i)) hold'
+          ∙ ap (λ (m : ℕ). rest ++ drop m hold) (omega arith)
+          ∙ (λ j. over (cons j) (x.the_hold j)) in
+          of_gained (λ z. with_hand z (length rest)) hold'
           (ends_as (all in-hand l (made by_judge x.secs))
-          (now_here ∙ turn_going by_judge x.secs b rest (ne_eqb b 255 other) (look_here p i r Going k says e))
-          (ends_made in-hand was x.secs l hold₀ out₀ at hold' out (length p - i) long_here kept x.the_out))
+          (now_here ∙ turn_going by_judge x.secs b tail (ne_eqb b 255 other) (look_here Going e))
+          (ends_made in-hand was x.secs l hold₀ out₀ at hold' out (length rest) long_here kept x.the_out))
 
       module _ (t : ℕ) (e : r ≡ Whole t) where
-        said : LookSays (b ∷ rest) (Whole t)
-        said = look_here p i r (Whole t) k says e
+        said : LookSays (b ∷ tail) (Whole t)
+        said = look_here (Whole t) e
 
-        pub whole_in : (3 ≤ t) × (t ≤ length p - i)
+        pub whole_in : (3 ≤ t) × (t ≤ length rest)
         whole_in = (omega (arith, said.1), omega (arith, said.3, long_here))
 
         abbrev s : List ℕ
-        s = take t (drop i p)
+        s = take t rest
 
         s_long : t ≡ length s
-        s_long = sym (length-take-le t (drop i p) (omega (arith, whole_in, length-drop i p)))
+        s_long = sym (length-take-le t rest (omega (arith, whole_in)))
+
+        left : length (drop t rest) ≡ length rest - t
+        left = length-drop t rest
+
+        -- what is left behind the section
+        behind : take (length rest - t) (drop t rest) ≡ drop t rest
+        behind = take_all (length rest - t) (drop t rest) (omega (arith, left))
 
         pub again : at ≤ length out₀ → (number : ℕ) → number ≡ number_of (judged s) → (g' : Gain)
             → g' ≡ with_section g t number
             → (out' : List ℕ) → out' ≡ handedOut out (at + g.bytes) s
-            → Reached p from was hold₀ out₀ at hold out' (i + t) g'
+            → Reached part was hold₀ out₀ at hold out' (take (length rest - t) (drop t rest)) g'
         again fits number ne g' ge out' oe =
             let one : OneMore g t number g' =
             subst (OneMore g t number) (sym ge)
             (one_more g t number (omega (arith, whole_in)) x.few (eqb number 0)) in
             let place : at + g.bytes ≡ at + length (flatten (parted accepted x.secs)) =
             ap (λ (z : Gain). at + z.bytes) x.gain in
-            record {
+            subst (λ (l : List ℕ). Reached part was hold₀ out₀ at hold out' l g') (sym behind)
+            (record {
               secs = x.secs ++ (s ∷ []);
-              inside_packet = omega (arith, whole_in, x.inside_packet);
               gain =
                   ge
                   ∙ (λ j. with_section (x.gain j) (s_long j) (ne j))
                   ∙ gained_more was x.secs s;
               few = one.0;
-              passed = omega (arith, one, x.passed);
-              fits = omega (arith, one, whole_in, x.fits);
+              passed = omega (arith, one, whole_in, left, x.passed);
+              fits = omega (arith, one, whole_in, left, x.fits);
               long =
                   ap length oe
                   ∙ handed_long out (at + g.bytes) s (omega (arith, whole_in, s_long, x.fits, x.long))
@@ -497,8 +491,7 @@ module _ {p : List ℕ} {from was : ℕ} {hold₀ out₀ : List ℕ} {at : ℕ} 
               the_hold = x.the_hold;
               hold_long = x.hold_long;
               the_out = oe ∙ (λ j. handedOut (x.the_out j) (place j) s) ∙ handed_more out₀ at x.secs s fits;
-              so_far = now_here ∙ turn_whole by_judge x.secs b rest t (ne_eqb b 255 other) said
+              so_far = now_here ∙ turn_whole by_judge x.secs b tail t (ne_eqb b 255 other) said
                   ∙ ap (λ (z : List ℕ). sections_in by_judge plain (made by_judge (x.secs ++ (take t z ∷ []))) (drop t z))
-                  (sym cons)
-                  ∙ ap (sections_in by_judge plain (made by_judge (x.secs ++ (s ∷ [])))) (drop-drop t i p);
-            }
+                  (sym cons);
+            })

@@ -1,7 +1,7 @@
 -- A stretch that goes to the section in hand: its story for whatever a whole section comes to, and the answer by the judge.
-use Rattle.std.proofs.Common.{◌≡◌, ℕ, ◌+◌, ◌-◌, ◌<◌, ◌≤◌, Bool, true, false, List, [], ◌∷◌, ◌++◌, length, take, drop, sym, refl, ap, ◌∙◌, subst, ⊎_elim, arith, length-drop, length-take-le, take-take}
+use Rattle.std.proofs.Common.{◌≡◌, ℕ, ◌+◌, ◌-◌, ◌<◌, ◌≤◌, Bool, true, false, List, [], ◌∷◌, ◌++◌, length, take, drop, sym, refl, ap, ◌∙◌, subst, ⊎_elim, arith, length-append, length-drop, length-take-le, take-take}
 use mathlib.Core.List.{flatten}
-use lib.Seq.{paste, take-append-add}
+use lib.Seq.{take-append-add}
 use Rattle.std.specs.Prelude.{if◌then◌else◌}
 use Rattle.wire.specs.Sections.{total_of, Unfinished}
 use Rattle.copy.specs.Laid.{over, laid}
@@ -18,7 +18,7 @@ use Rattle.collector.specs.declared.stretch.Gain.{Gain}
 use Rattle.collector.proofs.MarkLaws.{settled_append, settled_marked}
 use Rattle.collector.proofs.Parted.{parted, handed_more}
 use Rattle.collector.proofs.ByteRuns.{place, all, all_append, lt_or_ge, total_prefix, pass, grow_short, grow_going, law_over, law_whole}
-use Rattle.collector.proofs.HoldThenPacket.{seam_length}
+use Rattle.collector.proofs.Laying.{laid_part}
 use Rattle.collector.proofs.SectionLoop.{ends_as, answer_of, gained, wholes, wholes_settled, made, made_more, made_broken, rest_of, ends_made, gained_more, nothing_gained, with_hand, with_breaking, with_filling, with_skipping}
 
 -- ---- the story of a stretch that begins with bytes in hand
@@ -50,20 +50,20 @@ module _ (comes : List ℕ → Kind) where
 
 -- ---- what the code finds
 
--- the n bytes in hand and the m bytes of the packet from index from on are there, and what is in hand can stand
-pub record Given (hold p : List ℕ) (n from m : ℕ) : Type 0 where
+-- the n bytes in hand and the first m of the packet's are there, and what is in hand can stand
+pub record Given (hold p : List ℕ) (n m : ℕ) : Type 0 where
   pub in_hold : n ≤ length hold
-  pub in_packet : from + m ≤ length p
+  pub in_packet : m ≤ length p
   pub stands : Unfinished (take n hold)
 
 -- g: an answer for nothing yet
-module _ {hold p : List ℕ} {n from m : ℕ} (x : Given hold p n from m) (out : List ℕ) (keep : Bool) (was : ℕ) (g : Gain)
+module _ {hold p : List ℕ} {n m : ℕ} (x : Given hold p n m) (out : List ℕ) (keep : Bool) (was : ℕ) (g : Gain)
     (ge : g ≡ nothing was) where
   abbrev h : List ℕ
   h = take n hold
 
   abbrev l : List ℕ
-  l = take m (drop from p)
+  l = take m p
 
   abbrev End : List ℕ → List ℕ → Gain → Type 0
   End hold' out' r = Ends (joined keep (goesOn by_judge plain (holding h) l)) was hold out 0 hold' out' r
@@ -72,10 +72,10 @@ module _ {hold p : List ℕ} {n from m : ℕ} (x : Given hold p n from m) (out :
   h_long = length-take-le n hold x.in_hold
 
   l_long : m ≡ length l
-  l_long = sym (length-take-le m (drop from p) (omega (arith, x.in_packet, length-drop from p)))
+  l_long = sym (length-take-le m p x.in_packet)
 
   both_long : n + m ≡ length (h ++ l)
-  both_long = sym (seam_length hold n p from m x.in_hold x.in_packet)
+  both_long = omega (arith, length-append h l, h_long, l_long)
 
   -- out is as it was where no section is finished
   out_same : out ≡ laid out 0 (flatten (parted accepted []))
@@ -140,12 +140,12 @@ module _ {hold p : List ℕ} {n from m : ℕ} (x : Given hold p n from m) (out :
         ⊎_elim (λ w. omega (arith, both_long)) (λ w. omega (arith, both_long, w.1, w.2))
         (subst (LookSays (h ++ l)) e says)
 
-    pub end_kept : keep ≡ true → r ≡ Going → (hold' : List ℕ) → hold' ≡ paste hold n (drop from p) m
+    pub end_kept : keep ≡ true → r ≡ Going → (hold' : List ℕ) → hold' ≡ laid hold n l
         → End hold' out (with_hand g (n + m))
     end_kept k e hold' w =
         end_one in-hand (h ++ l) (ap (λ (z : Bool). joined z (goesOn by_judge plain (holding h) l)) k ∙ going_is e) hold'
         (n + m) both_long
-        (w ∙ ap (λ (z : ℕ). (h ++ l) ++ drop z hold) both_long) (λ z. with_hand z (n + m)) refl
+        (w ∙ laid_part hold n p m x.in_packet ∙ ap (λ (z : ℕ). (h ++ l) ++ drop z hold) both_long) (λ z. with_hand z (n + m)) refl
 
     pub end_dropped : keep ≡ false → r ≡ Going → End hold out (with_breaking g (n + m))
     end_dropped k e =
@@ -218,14 +218,14 @@ module _ {hold p : List ℕ} {n from m : ℕ} (x : Given hold p n from m) (out :
           (pass by_judge (outside filling) (outside filling) (done filler) (λ b s. refl) (made by_judge (s ∷ []))
           (drop k l))
 
-      pub end_whole : (number : ℕ) → number ≡ number_of (judged (h ++ take k (drop from p))) → (hold' : List ℕ)
+      pub end_whole : (number : ℕ) → number ≡ number_of (judged (h ++ take k p)) → (hold' : List ℕ)
           → hold' ≡ hold
-          → (out' : List ℕ) → out' ≡ handedOut out 0 (h ++ take k (drop from p)) → (g' : Gain)
+          → (out' : List ℕ) → out' ≡ handedOut out 0 (h ++ take k p) → (g' : Gain)
           → g' ≡ with_section g t number
           → End hold' out' (with_filling g' (m - k))
       end_whole number ne hold' he out' oe g' we =
-          let taken : take k (drop from p) ≡ take k l = sym (take-take k m (drop from p) (omega (arith, whole_in))) in
-          let same : h ++ take k (drop from p) ≡ s = ap (λ (z : List ℕ). h ++ z) taken in
+          let taken : take k p ≡ take k l = sym (take-take k m p (omega (arith, whole_in))) in
+          let same : h ++ take k p ≡ s = ap (λ (z : List ℕ). h ++ z) taken in
           let now : g' ≡ gained was (s ∷ []) =
           we
           ∙ (λ i. with_section ((ge ∙ nothing_gained was) i) (s_long i)

@@ -1,38 +1,28 @@
 // Bytes that move between the packet, the hold and the out room.
-ghost use Rattle.std.specs.Prelude.{◌≡◌, ◌+◌, ◌≤◌, length, drop};
-ghost use Rattle.std.proofs.Math.Seq.{paste};
+ghost use Rattle.std.specs.Prelude.{◌≡◌, ◌+◌, ◌≤◌, length};
+ghost use Rattle.copy.specs.Laid.{laid};
 
 use copy::copy;
 
-// Copies src[from..from+n] to dst[at..at+n]; dst's other bytes stay.
-pub fn copy_at(src: &[u8], from: usize, n: usize, dst: &mut [u8], at: usize)
-    requires { (from + n ≤ length src.now) × (at + n ≤ length dst.old) }
-    ensures { dst.new ≡ paste dst.old at (drop from src.now) n }
+// Copies all of part to room[at..]; the room's other bytes stay.
+#[tactic(auto, using(crate::proofs::Laying::copied_all))]
+pub fn lay(part: &[u8], room: &mut [u8], at: usize)
+    requires { at + length part.now ≤ length room.old }
+    ensures { room.new ≡ laid room.old at part.now }
 {
-    copy(src, from, n, dst, at);
+    copy(part, 0, part.len(), room, at);
 }
 
-// The same, of a packet's payload: mostly it is all of the 184 bytes, and a copy of a size that the compiler knows takes no
-// loop. This and the next are each called at one place alone, so that the compiler makes them part of their caller.
-pub fn copy_payload(src: &[u8], from: usize, n: usize, dst: &mut [u8], at: usize)
-    requires { (from + n ≤ length src.now) × (at + n ≤ length dst.old) }
-    ensures { dst.new ≡ paste dst.old at (drop from src.now) n }
+// The same of a part that is mostly N bytes long: a copy of a size that the compiler knows takes no loop. For each N it is
+// called at one place alone, so that the compiler makes it part of its caller.
+#[tactic(auto, using(crate::proofs::Laying::copied_all))]
+pub fn lay_mostly<const N: usize>(part: &[u8], room: &mut [u8], at: usize)
+    requires { at + length part.now ≤ length room.old }
+    ensures { room.new ≡ laid room.old at part.now }
 {
-    if n == 184 {
-        copy_at(src, from, 184, dst, at);
+    if part.len() == N {
+        copy(part, 0, N, room, at);
         return;
     }
-    copy_at(src, from, n, dst, at);
-}
-
-// The same, of the packet behind its pointer: mostly 183 bytes.
-pub fn copy_behind(src: &[u8], from: usize, n: usize, dst: &mut [u8], at: usize)
-    requires { (from + n ≤ length src.now) × (at + n ≤ length dst.old) }
-    ensures { dst.new ≡ paste dst.old at (drop from src.now) n }
-{
-    if n == 183 {
-        copy_at(src, from, 183, dst, at);
-        return;
-    }
-    copy_at(src, from, n, dst, at);
+    copy(part, 0, part.len(), room, at);
 }

@@ -3,34 +3,23 @@ ghost use Rattle.std.specs.Prelude.{◌≡◌, ◌<◌, length, take, drop};
 ghost use Rattle.collector.specs.Rules.{holding, payload, plain};
 ghost use Rattle.collector.specs.Judged.{by_judge};
 ghost use Rattle.collector.specs.Inner.Stretch.{Ends};
-ghost use Rattle.collector.specs.Inner.Payload.{Fit, front_of};
+ghost use Rattle.collector.specs.Inner.Payload.{Fit, front_rest, front_bytes};
 
 use crate::stretch;
 use crate::stretch::Gain;
 use packet::Payload;
 
-// The stretch that goes to the section in hand: packet[from..from+bytes].
-#[derive(Clone, Copy)]
-struct Front {
-    from: usize,
-    bytes: usize,
-}
-
-// "one pointer byte p. The next p bytes go as above"; without the start flag, all of the payload.
-fn front_of(packet: &[u8], from: usize, start: bool) -> Front
-    requires { from < length packet.now }
-    ensures { result ≡ front_of start packet.now from }
+// The stretch that goes to the section in hand: the first so many bytes of what is given with them. "one pointer byte p. The
+// next p bytes go as above"; without the start flag, all of the payload.
+fn front_of(payload: &[u8], start: bool) -> (&[u8], usize)
+    requires { 0 < length payload.now }
+    ensures rest { result.0.now ≡ front_rest start payload.now }
+    ensures bytes { result.1 ≡ front_bytes start payload.now }
 {
     if start {
-        return Front {
-            from: from + 1,
-            bytes: wire::wide(packet[from]),
-        };
+        return (&payload[1..], wire::wide(payload[0]));
     }
-    Front {
-        from,
-        bytes: packet.len() - from,
-    }
+    (payload, payload.len())
 }
 
 // The payload is packet[load.from..], and n bytes are in hand. "Start flag: one pointer byte p. The next p bytes go as above;
@@ -49,20 +38,11 @@ pub fn carry(
     ensures { Ends (payload by_judge plain load.start (holding (take n hold.old)) (drop load.from packet.now)) was
         hold.old out.old 0 hold.new out.new result }
 {
-    let front = front_of(packet, load.from, load.start);
-    let a = stretch::go_on(
-        hold,
-        n,
-        packet,
-        front.from,
-        front.bytes,
-        out,
-        !load.start,
-        was,
-    );
+    let (rest, m) = front_of(&packet[load.from..], load.start);
+    let a = stretch::go_on(hold, n, rest, m, out, !load.start, was);
     if load.start {
         let at = a.bytes;
-        let b = stretch::sections(packet, front.from + front.bytes, hold, out, at, a.rejection);
+        let b = stretch::sections(&rest[m..], hold, out, at, a.rejection);
         return stretch::both(a, b);
     }
     a

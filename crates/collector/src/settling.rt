@@ -1,5 +1,5 @@
 // What becomes of a whole section: the judge is asked, and what it accepts goes to the out room.
-ghost use Rattle.std.specs.Prelude.{◌≡◌, ◌+◌, ◌≤◌, ◌++◌, length, take, drop};
+ghost use Rattle.std.specs.Prelude.{◌≡◌, ◌+◌, ◌≤◌, ◌++◌, length, take};
 ghost use Rattle.verdict.specs.Verdict.{told};
 ghost use Rattle.section.specs.Reading.{judged};
 ghost use Rattle.collector.specs.Inner.Settling.{handedOut, window_at, laid_of};
@@ -8,14 +8,14 @@ use crate::bytes;
 use section::judge::judge;
 use verdict::Verdict;
 
-// The section bytes[from..from+t], judged where it lies, goes to out[at..] if it is accepted.
-pub fn settle(bytes: &[u8], from: usize, t: usize, out: &mut [u8], at: usize) -> Verdict
-    requires { (from + t ≤ length bytes.now) × (at + t ≤ length out.old) }
-    ensures value { told result ≡ judged (take t (drop from bytes.now)) }
-    ensures out_after { out.new ≡ handedOut out.old at (take t (drop from bytes.now)) }
+// The section, judged where it lies, goes to out[at..] if it is accepted.
+pub fn settle(section: &[u8], out: &mut [u8], at: usize) -> Verdict
+    requires { at + length section.now ≤ length out.old }
+    ensures value { told result ≡ judged section.now }
+    ensures out_after { out.new ≡ handedOut out.old at section.now }
 {
-    judge(&bytes[from..from + t])?;
-    bytes::copy_at(bytes, from, t, out, at);
+    judge(section)?;
+    bytes::lay(section, out, at);
     Ok(())
 }
 
@@ -42,29 +42,21 @@ fn laid_of(k: usize, left: usize, room: usize) -> usize
     if left <= room { left } else { k }
 }
 
-// The section whose first n bytes are in hand and whose last k are packet[from..from+k]. For the judge its end is laid
-// behind what is in hand, and the bytes that the hold had there are put back.
-pub fn settle_held(
-    hold: &mut [u8],
-    n: usize,
-    packet: &[u8],
-    from: usize,
-    k: usize,
-    out: &mut [u8],
-) -> Verdict
-    requires { (4096 ≤ length hold.old) × (n + k ≤ length hold.old) × (from + k ≤ length packet.now)
-        × (length packet.now ≤ 188) × (n + k ≤ length out.old) }
-    ensures value { told result ≡ judged (take n hold.old ++ take k (drop from packet.now)) }
+// The section whose first n bytes are in hand and whose last k are the first of rest, which is the packet from them on. For
+// the judge its end is laid behind what is in hand, and the bytes that the hold had there are put back.
+pub fn settle_held(hold: &mut [u8], n: usize, rest: &[u8], k: usize, out: &mut [u8]) -> Verdict
+    requires { (4096 ≤ length hold.old) × (n + k ≤ length hold.old) × (k ≤ length rest.now)
+        × (length rest.now ≤ 188) × (n + k ≤ length out.old) }
+    ensures value { told result ≡ judged (take n hold.old ++ take k rest.now) }
     ensures hold_unchanged { hold.new ≡ hold.old }
-    ensures out_after { out.new
-        ≡ handedOut out.old 0 (take n hold.old ++ take k (drop from packet.now)) }
+    ensures out_after { out.new ≡ handedOut out.old 0 (take n hold.old ++ take k rest.now) }
 {
     let at = window_at(n, hold.len());
     let mut window = [0u8; WINDOW];
-    bytes::copy_at(hold, at, WINDOW, &mut window, 0);
-    let laid = laid_of(k, packet.len() - from, at + WINDOW - n);
-    bytes::copy_behind(packet, from, laid, hold, n);
-    let verdict = settle(hold, 0, n + k, out, 0);
-    bytes::copy_at(&window, 0, WINDOW, hold, at);
+    bytes::lay(&hold[at..at + WINDOW], &mut window, 0);
+    let laid = laid_of(k, rest.len(), at + WINDOW - n);
+    bytes::lay_mostly::<183>(&rest[..laid], hold, n);
+    let verdict = settle(&hold[..n + k], out, 0);
+    bytes::lay(&window, hold, at);
     verdict
 }

@@ -1,5 +1,5 @@
 // Sections in a stretch of payload. Whole runs of bytes are looked at and copied at once: a section's header says where it ends.
-ghost use Rattle.std.specs.Prelude.{◌≡◌, ◌+◌, ◌-◌, ◌<◌, ◌≤◌, [], ◌++◌, length, take, drop, slice_index};
+ghost use Rattle.std.specs.Prelude.{◌≡◌, ◌+◌, ◌-◌, ◌<◌, ◌≤◌, [], ◌++◌, length, take, slice_index};
 ghost use Rattle.wire.specs.Bytes.{len12};
 ghost use Rattle.wire.specs.Sections.{Unfinished};
 ghost use Rattle.verdict.specs.Verdict.{number_of, told};
@@ -86,15 +86,16 @@ pub fn both(a: Gain, b: Gain) -> Gain
     }
 }
 
-// Byte i of the n bytes in hand with m bytes of the packet after them.
-fn byte_of(hold: &[u8], n: usize, packet: &[u8], from: usize, m: usize, i: usize) -> u8
-    requires { (n ≤ length hold.now) × (from + m ≤ length packet.now) × (i < n + m) }
-    ensures { result ≡ slice_index (take n hold.now ++ take m (drop from packet.now)) i }
+// Byte i of those in hand with the packet's after them.
+#[tactic(auto, using(crate::proofs::Headers::in_second))]
+fn byte_of(held: &[u8], part: &[u8], i: usize) -> u8
+    requires { i < length held.now + length part.now }
+    ensures { result ≡ slice_index (held.now ++ part.now) i }
 {
-    if i < n {
-        hold[i]
+    if i < held.len() {
+        held[i]
     } else {
-        packet[from + (i - n)]
+        part[i - held.len()]
     }
 }
 
@@ -118,96 +119,86 @@ fn sized(total: usize, size: usize) -> Look
     Look::Whole(total)
 }
 
-// The section that the n bytes in hand with m bytes of the packet begin with. No length is trusted before three bytes are
-// in. Mostly these are in hand, and then no byte is looked for in two places.
-fn looked(hold: &[u8], n: usize, packet: &[u8], from: usize, m: usize) -> Look
-    requires { (n ≤ length hold.now) × (from + m ≤ length packet.now) × (n < 4096) × (m < 4096) }
-    ensures { LookSays (take n hold.now ++ take m (drop from packet.now)) result }
+// The section that the bytes in hand with those of the packet after them begin with. No length is trusted before three
+// bytes are in. Mostly these are in hand, and then no byte is looked for in two places.
+#[tactic(auto, using(crate::proofs::Headers::says_short, crate::proofs::Headers::says_held, crate::proofs::Headers::says_sized))]
+fn looked(held: &[u8], part: &[u8]) -> Look
+    requires { (length held.now < 4096) × (length part.now < 4096) }
+    ensures { LookSays (held.now ++ part.now) result }
 {
-    let size = n + m;
+    let size = held.len() + part.len();
     if size < 3 {
         return Look::Going;
     }
-    if 2 < n {
-        return sized(total_of(hold[1], hold[2]), size);
+    if 2 < held.len() {
+        return sized(total_of(held[1], held[2]), size);
     }
-    let high = byte_of(hold, n, packet, from, m, 1);
-    let low = byte_of(hold, n, packet, from, m, 2);
+    let high = byte_of(held, part, 1);
+    let low = byte_of(held, part, 2);
     sized(total_of(high, low), size)
 }
 
-// "Then sections follow end to end", in packet[from..]; those that are accepted go to out[at..].
-pub fn sections(
-    packet: &[u8],
-    from: usize,
-    hold: &mut [u8],
-    out: &mut [u8],
-    at: usize,
-    was: u32,
-) -> Gain
-    requires { (from ≤ length packet.now) × (length packet.now ≤ 188)
-        × (188 ≤ length hold.old) × (at + (length packet.now - from) ≤ length out.old) }
-    ensures { Ends (sections_in by_judge plain (holding []) (drop from packet.now)) was
+// "Then sections follow end to end", in part; those that are accepted go to out[at..].
+pub fn sections(part: &[u8], hold: &mut [u8], out: &mut [u8], at: usize, was: u32) -> Gain
+    requires { (length part.now ≤ 188) × (188 ≤ length hold.old)
+        × (at + length part.now ≤ length out.old) }
+    ensures { Ends (sections_in by_judge plain (holding []) part.now) was
         hold.old out.old at hold.new out.new result }
 {
-    let mut i = from;
+    let mut rest = part;
     let mut g = none_yet(was);
-    while i < packet.len() {
-        let left = packet.len() - i;
-        if packet[i] == 255 {
-            g.filling = left;
+    while 0 < rest.len() {
+        if rest[0] == 255 {
+            g.filling = rest.len();
             return g;
         }
-        let look = looked(packet, 0, packet, i, left);
-        match look {
+        match looked(&[], rest) {
             Look::Going => {
-                bytes::copy_at(packet, i, left, hold, 0);
-                g.in_hand = left;
+                bytes::lay(rest, hold, 0);
+                g.in_hand = rest.len();
                 return g;
             }
             Look::Over => {
-                g.breaking = left;
+                g.breaking = rest.len();
                 return g;
             }
             Look::Whole(t) => {
-                let verdict = settle(packet, i, t, out, at + g.bytes);
+                let verdict = settle(&rest[..t], out, at + g.bytes);
                 g = with_section(g, t, verdict);
-                i += t;
+                rest = &rest[t..];
             }
         }
     }
     g
 }
 
-// "bytes go to the section in hand; after its end, filler"; with nothing in hand there is no section for them. The m bytes
-// are packet[from..from+m], n are in hand, and keep says whether a section that is still unfinished stays in hand.
+// "bytes go to the section in hand; after its end, filler"; with nothing in hand there is no section for them. They are the
+// first m of rest, which is the packet from them on; n are in hand, and keep says whether a section that is still unfinished
+// stays in hand.
 pub fn go_on(
     hold: &mut [u8],
     n: usize,
-    packet: &[u8],
-    from: usize,
+    rest: &[u8],
     m: usize,
     out: &mut [u8],
     keep: bool,
     was: u32,
 ) -> Gain
-    requires n_bound { (n < 4096) × (4096 ≤ length hold.old) × (from + m ≤ length packet.now)
-        × (length packet.now ≤ 188) × (4280 ≤ length out.old) }
+    requires n_bound { (n < 4096) × (4096 ≤ length hold.old) × (m ≤ length rest.now)
+        × (length rest.now ≤ 188) × (4280 ≤ length out.old) }
     requires unfinished { Unfinished (take n hold.old) }
-    ensures { Ends (joined keep (goesOn by_judge plain (holding (take n hold.old))
-        (take m (drop from packet.now)))) was
-        hold.old out.old 0 hold.new out.new result }
+    ensures { Ends (joined keep (goesOn by_judge plain (holding (take n hold.old)) (take m rest.now)))
+        was hold.old out.old 0 hold.new out.new result }
 {
     let mut r = none_yet(was);
     if n == 0 {
         r.skipping = m;
         return r;
     }
-    let look = looked(hold, n, packet, from, m);
-    match look {
+    match looked(&hold[..n], &rest[..m]) {
         Look::Going => {
             if keep {
-                bytes::copy_payload(packet, from, m, hold, n);
+                bytes::lay_mostly::<184>(&rest[..m], hold, n);
                 r.in_hand = n + m;
                 return r;
             }
@@ -219,7 +210,7 @@ pub fn go_on(
             r
         }
         Look::Whole(t) => {
-            let verdict = settle_held(hold, n, packet, from, t - n, out);
+            let verdict = settle_held(hold, n, rest, t - n, out);
             r = with_section(r, t, verdict);
             r.filling = m - (t - n);
             r

@@ -1,6 +1,5 @@
 -- What the functions of payload.rt say of their arguments and answers.
-use Rattle.std.specs.Prelude.{◌≡◌, ℕ, ◌+◌, ◌-◌, ◌<◌, ◌≤◌, Bool, true, false, List, length, take, slice_index}
-use Rattle.collector.specs.declared.payload.Front.{Front}
+use Rattle.std.specs.Prelude.{◌≡◌, ℕ, ◌+◌, ◌<◌, ◌≤◌, Bool, true, false, List, length, take, drop, slice_index}
 use Rattle.wire.specs.Sections.{Unfinished}
 
 -- what is known once a packet is judged to carry payload, with n bytes in hand: the rooms are large enough, the payload is there from index from
@@ -15,7 +14,11 @@ pub record Fit (n : ℕ) (hold out packet : List ℕ) (from : ℕ) (start : Bool
   pub stands : Unfinished (take n hold)
   pub points : start ≡ true → from + 1 + slice_index packet from < length packet
 
--- the stretch that goes to the section in hand: before the pointer's target, or all of the payload
-abbrev pub front_of : Bool → List ℕ → ℕ → Front
-front_of true packet from = record { from = from + 1; bytes = slice_index packet from }
-front_of false packet from = record { from = from; bytes = length packet - from }
+-- the stretch that goes to the section in hand, before the pointer's target or all of the payload: the first so many bytes of a rest of it
+abbrev pub front_rest : Bool → List ℕ → List ℕ
+front_rest true bs = drop 1 bs
+front_rest false bs = bs
+
+abbrev pub front_bytes : Bool → List ℕ → ℕ
+front_bytes true bs = slice_index bs 0
+front_bytes false bs = length bs
