@@ -90,6 +90,7 @@ impl<'a> Ahead<'a> {
     }
 
     // The packets that they take.
+    #[tactic(auto, using(crate::proofs::TurnLaws::turns_stop))]
     pub fn count(self) -> usize
         ensures { result ≡ length (turns_from (ahead_of self.entry)) }
     {
