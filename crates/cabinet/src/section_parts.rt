@@ -169,7 +169,6 @@ fn head_of(section: &[u8]) -> Head
 }
 
 // Of a section that is refused nothing is told.
-#[tactic(auto, using(crate::proofs::OpenSays::accepted_says, crate::proofs::OpenSays::refused_says))]
 #[unsafe(no_mangle)]
 pub extern "C" fn lohitunga_open(section: &[u8]) -> OpenAnswer
     ensures { result ≡ open_says section.now }

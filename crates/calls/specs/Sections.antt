@@ -21,13 +21,13 @@ abbrev pub PromisedOpen : List ℕ → OpenAnswer → Type 0
 PromisedOpen s a = a ≡ open_says s
 
 abbrev pub PromisedSection : List ℕ → Part → SectionStep → Type 0
-PromisedSection room rest a = a ≡ section_says (next_section room (part_in rest))
+PromisedSection room rest a = a ≡ section_says rest (next_section room (part_in rest))
 
 abbrev pub PromisedEntry : List ℕ → Part → EntryStep → Type 0
-PromisedEntry s rest a = a ≡ entry_says s (next_entry s (part_in rest))
+PromisedEntry s rest a = a ≡ entry_says s rest (next_entry s (part_in rest))
 
 abbrev pub PromisedDescriptor : List ℕ → Part → DescriptorStep → Type 0
-PromisedDescriptor s rest a = a ≡ descriptor_says (next_descriptor s (part_in rest))
+PromisedDescriptor s rest a = a ≡ descriptor_says rest (next_descriptor s (part_in rest))
 
 -- of any call, with any record, hold, out room and packet; `cut` is what demand 3 says of the sections that a call hands out
 abbrev pub HandsOutAll : Collector → Type 0
