@@ -3,41 +3,40 @@ use Rattle.std.proofs.Common.{◌≡◌, ℕ, ◌+◌, ◌-◌, ◌/◌, ◌%◌
 use mathlib.Core.Option.{some}
 use lib.Seq.{take-append-le}
 use borrow.Author.Tests.{lt-leb}
-use Rattle.std.specs.Prelude.{if◌then◌else◌}
-use Rattle.wire.proofs.IfLaws.{if-case, true_not_false}
-use Rattle.account.specs.Entered.{first_pid, fresh_account, Kept, kept_as, entered, entered_all, pieces}
-use Rattle.account.specs.Heard.{State, state_as, start_progress, account_for, to_front, waits, absorbed, finished, Fits, brought, heard_as, ended_by, ended_of}
+use Rattle.std.specs.Prelude.{Option, Some, None, Ok, if◌then◌else◌}
+use Rattle.wire.proofs.IfLaws.{if-case}
+use Rattle.account.specs.Entered.{first_pid, Kept, kept_as, entered, entered_all, pieces}
+use Rattle.account.specs.Heard.{State, state_as, start_progress, account_or, account_for, to_front, waits, absorbed, with_piece, last_piece, finished_as, finished, Fits, brought, heard_as, ended_of}
 use Rattle.account.specs.Input.{Heard, none_yet, one_more, last_read, OverAtTheEnd, account_of, rest_of, whole_account, end_of}
 use Rattle.account.specs.declared.progress.Progress.{Progress}
 use Rattle.account.specs.declared.progress.Stage.{Stage}
 use Rattle.account.specs.declared.progress.Stage.TheVariants.{Reading, Over}
-use Rattle.account.specs.declared.progress.Ended.TheVariants.{NoPackets}
-use Rattle.account.specs.declared.progress.Ended.TheVariants as Ended
+use Rattle.account.specs.declared.tally.Account.{Account}
 use Rattle.account.specs.declared.reading.Got.{Got}
 use Rattle.account.specs.declared.reading.Got.TheVariants.{Bytes, Again, End, Failed}
 use Rattle.account.proofs.Cuts.{pieces_front, pid_front, rest_more, account_more, account_none}
 use Rattle.account.proofs.Stands.{entering}
 
+-- the account of an input, none before its first packet
+abbrev so_far : List ℕ → List ℕ → List ℕ → Option Account
+so_far input hold out = if leb 188 (length input) then Some (account_of input hold out).account else None
+
+some_so_far : (input hold out : List ℕ) → 188 ≤ length input
+    → so_far input hold out ≡ Some (account_of input hold out).account
+some_so_far input hold out k =
+    ap (λ (t : Bool). if t then Some (account_of input hold out).account else None) (le-leb 188 (length input) k)
+
+none_so_far : (input hold out : List ℕ) → length input < 188 → so_far input hold out ≡ None
+none_so_far input hold out k =
+    ap (λ (t : Bool). if t then Some (account_of input hold out).account else None) (lt-leb 188 (length input) k)
+
 -- so far this input has come: its whole packets are entered, and what is left of it stands at the buffer's front
 record Reads (input hold₀ out₀ : List ℕ) (p : Progress) (buf hold out : List ℕ) : Type 0 where
-  begun : p.begun ≡ leb 188 (length input)
   left : p.left ≡ length input % 188
   rest : take p.left buf ≡ drop (length input - p.left) input
   the_hold : hold ≡ (account_of input hold₀ out₀).hold
   the_out : out ≡ (account_of input hold₀ out₀).out
-  the_account : p.begun ≡ true → p.account ≡ (account_of input hold₀ out₀).account
-
--- a test that two numbers pass alike
-same_leb : (k a b : ℕ) → (k ≤ a → k ≤ b) → (k ≤ b → k ≤ a) → leb k a ≡ leb k b
-same_leb k a b f g = by (leb k a) refl
-  where
-    by : (t : Bool) → leb k a ≡ t → leb k a ≡ leb k b
-    by true e = e ∙ sym (le-leb k b (f (leb-true k a e)))
-    by false e = e ∙ sym (lt-leb k b (below (leb k b) refl))
-      where
-        below : (t : Bool) → leb k b ≡ t → b < k
-        below true w = absurd (true_not_false (sym (sym e ∙ le-leb k a (g (leb-true k b w)))))
-        below false w = leb-false k b w
+  the_account : p.account ≡ so_far input hold₀ out₀
 
 -- n bytes of which l were left past the packets of i bytes leave what all of them leave
 left_more : (i l n t : ℕ) → l ≡ i % 188 → t ≡ i - l + n → n % 188 ≡ t % 188
@@ -58,18 +57,18 @@ module _ {input hold₀ out₀ : List ℕ} {p : Progress} {buf hold out : List �
     (x : Reads input hold₀ out₀ p buf hold out) where
   -- ---- begun, or not
 
-  has_begun : p.begun ≡ true → 188 ≤ length input
-  has_begun e = leb-true 188 (length input) (sym x.begun ∙ e)
+  has_begun : 188 ≤ length input → p.account ≡ Some (account_of input hold₀ out₀).account
+  has_begun k = x.the_account ∙ some_so_far input hold₀ out₀ k
 
-  not_begun : p.begun ≡ false → length input < 188
-  not_begun e = leb-false 188 (length input) (sym x.begun ∙ e)
+  not_begun : length input < 188 → p.account ≡ None
+  not_begun k = x.the_account ∙ none_so_far input hold₀ out₀ k
 
-  kept_begun : p.begun ≡ true → kept_as p.account hold out ≡ account_of input hold₀ out₀
-  kept_begun e = λ i. record { account = x.the_account e i; hold = x.the_hold i; out = x.the_out i }
+  kept_begun : kept_as (account_of input hold₀ out₀).account hold out ≡ account_of input hold₀ out₀
+  kept_begun = λ i. record { account = (account_of input hold₀ out₀).account; hold = x.the_hold i; out = x.the_out i }
 
-  kept_none : p.begun ≡ false → (hold ≡ hold₀) × (out ≡ out₀)
-  kept_none e =
-      let none = account_none input hold₀ out₀ (not_begun e) in
+  kept_none : length input < 188 → (hold ≡ hold₀) × (out ≡ out₀)
+  kept_none k =
+      let none = account_none input hold₀ out₀ k in
       (x.the_hold ∙ ap (λ (k : Kept). k.hold) none, x.the_out ∙ ap (λ (k : Kept). k.out) none)
 
   -- ---- the buffer's first n bytes have come
@@ -118,23 +117,26 @@ module _ {input hold₀ out₀ : List ℕ} {p : Progress} {buf hold out : List �
 
     -- ---- at least a packet has come
 
-    begins : (t : Bool) → p.begun ≡ t → 188 ≤ n
-        → entered_all (kept_as (if t then p.account else fresh_account (first_pid buf)) hold out) (pieces (n / 188) buf)
-        ≡ account_of (input ++ new) hold₀ out₀
+    begins : (t : Bool) → leb 188 (length input) ≡ t → 188 ≤ n
+        → entered_all (kept_as (account_for p buf) hold out) (pieces (n / 188) buf) ≡ account_of (input ++ new) hold₀ out₀
     begins true e k =
-        ap (entered_all (kept_as p.account hold out)) pieces_came
-        ∙ ap (λ (y : Kept). entered_all y (pieces (n / 188) (rest_of input ++ new))) (kept_begun e)
-        ∙ sym (goes_on (has_begun e))
+        let begun : 188 ≤ length input = leb-true 188 (length input) e in
+        ap (entered_all (kept_as (account_for p buf) hold out)) pieces_came
+        ∙ (λ i. entered_all (kept_as (account_or (has_begun begun i) (first_pid buf)) hold out)
+        (pieces (n / 188) (rest_of input ++ new)))
+        ∙ ap (λ (y : Kept). entered_all y (pieces (n / 188) (rest_of input ++ new))) kept_begun
+        ∙ sym (goes_on begun)
     begins false e k =
-        let all = all_new (not_begun e) in
+        let few : length input < 188 = leb-false 188 (length input) e in
+        let all = all_new few in
         let pid : first_pid buf ≡ first_pid (input ++ new) =
         ap first_pid (sym (take-append-drop n buf))
         ∙ pid_front (take n buf) (drop n buf) (omega (arith, n_long))
         ∙ ap first_pid all in
         let size : n ≡ length (input ++ new) = sym n_long ∙ ap length all in
-        ap (entered_all (kept_as (fresh_account (first_pid buf)) hold out))
-        (pieces_came ∙ ap (pieces (n / 188)) (sym came ∙ all))
-        ∙ (λ i. entered_all (kept_as (fresh_account (pid i)) ((kept_none e).0 i) ((kept_none e).1 i))
+        ap (entered_all (kept_as (account_for p buf) hold out)) (pieces_came ∙ ap (pieces (n / 188)) (sym came ∙ all))
+        ∙ (λ i. entered_all
+        (kept_as (account_or (not_begun few i) (pid i)) ((kept_none few).0 i) ((kept_none few).1 i))
         (pieces (size i / 188) (input ++ new)))
 
     abbrev ReadsAt : State → Type 0
@@ -144,13 +146,12 @@ module _ {input hold₀ out₀ : List ℕ} {p : Progress} {buf hold out : List �
     reads_long k =
         let kept : entered_all (kept_as (account_for p buf) hold out) (pieces (n / 188) buf)
         ≡ account_of (input ++ new) hold₀ out₀ =
-        begins p.begun refl k in
+        begins (leb 188 (length input)) refl k in
         let b : ℕ = n - n % 188 in
         let whole : b + n % 188 ≡ n = omega arith in
         let at : length (input ++ new) - n % 188 ≡ (length input - length input % 188) + b =
         omega (arith, total, x.left) in
         record {
-          begun = sym (le-leb 188 (length (input ++ new)) (omega (arith, total)));
           left = left_more (length input) p.left n (length (input ++ new)) x.left total;
           rest =
               front_moved (n - n % 188) (n % 188) buf (omega arith)
@@ -161,7 +162,9 @@ module _ {input hold₀ out₀ : List ℕ} {p : Progress} {buf hold out : List �
               ∙ ap (λ (z : ℕ). drop z (input ++ new)) (sym at);
           the_hold = ap (λ (y : Kept). y.hold) kept;
           the_out = ap (λ (y : Kept). y.out) kept;
-          the_account = λ _. ap (λ (y : Kept). y.account) kept;
+          the_account =
+              ap (λ (y : Kept). Some y.account) kept
+              ∙ sym (some_so_far (input ++ new) hold₀ out₀ (omega (arith, total)));
         }
 
     -- ---- less than a packet is there
@@ -171,37 +174,43 @@ module _ {input hold₀ out₀ : List ℕ} {p : Progress} {buf hold out : List �
         let none : n / 188 ≡ 0 = omega arith in
         goes_on w ∙ ap (λ (m : ℕ). entered_all (account_of input hold₀ out₀) (pieces m (rest_of input ++ new))) none
 
-    rooms : n < 188 → (t : Bool) → p.begun ≡ t
+    rooms : n < 188 → (t : Bool) → leb 188 (length input) ≡ t
         → (hold ≡ (account_of (input ++ new) hold₀ out₀).hold) × (out ≡ (account_of (input ++ new) hold₀ out₀).out)
+        × (p.account ≡ so_far (input ++ new) hold₀ out₀)
     rooms k true e =
-        let s = sym (stays k (has_begun e)) in
-        (x.the_hold ∙ ap (λ (y : Kept). y.hold) s, x.the_out ∙ ap (λ (y : Kept). y.out) s)
+        let begun : 188 ≤ length input = leb-true 188 (length input) e in
+        let s = sym (stays k begun) in (
+          x.the_hold ∙ ap (λ (y : Kept). y.hold) s,
+          x.the_out ∙ ap (λ (y : Kept). y.out) s,
+          has_begun begun
+              ∙ ap (λ (y : Kept). Some y.account) s
+              ∙ sym (some_so_far (input ++ new) hold₀ out₀ (omega (arith, total))),
+        )
     rooms k false e =
-        let few : length (input ++ new) < 188 = omega (arith, total, x.left, not_begun e) in
-        let s = sym (account_none (input ++ new) hold₀ out₀ few) in
-        ((kept_none e).0 ∙ ap (λ (y : Kept). y.hold) s, (kept_none e).1 ∙ ap (λ (y : Kept). y.out) s)
+        let short : length input < 188 = leb-false 188 (length input) e in
+        let few : length (input ++ new) < 188 = omega (arith, total, x.left) in
+        let s = sym (account_none (input ++ new) hold₀ out₀ few) in (
+          (kept_none short).0 ∙ ap (λ (y : Kept). y.hold) s,
+          (kept_none short).1 ∙ ap (λ (y : Kept). y.out) s,
+          not_begun short ∙ sym (none_so_far (input ++ new) hold₀ out₀ few),
+        )
 
     reads_short : n < 188 → ReadsAt (waits n (state_as p buf hold out))
     reads_short k =
         let at : length (input ++ new) - n ≡ length input - length input % 188 = omega (arith, total, x.left) in
-        let r = rooms k p.begun refl in
+        let r = rooms k (leb 188 (length input)) refl in
         record {
-          begun =
-              x.begun
-              ∙ same_leb 188 (length input) (length (input ++ new)) (λ w. omega (arith, total))
-              (λ w. omega (arith, total, x.left));
           left = omega (arith, total, x.left);
           rest = came ∙ sym (rest_more input new hold₀ out₀) ∙ ap (λ (z : ℕ). drop z (input ++ new)) (sym at);
           the_hold = r.0;
           the_out = r.1;
-          the_account = λ e. x.the_account e ∙ ap (λ (y : Kept). y.account) (sym (stays k (has_begun e)));
+          the_account = r.2;
         }
 
   -- ---- a read that brings nothing, and the end
 
   reads_again : (buf' : List ℕ) → take p.left buf' ≡ take p.left buf → Reads input hold₀ out₀ p buf' hold out
   reads_again buf' e = record {
-    begun = x.begun;
     left = x.left;
     rest = e ∙ x.rest;
     the_hold = x.the_hold;
@@ -211,65 +220,50 @@ module _ {input hold₀ out₀ : List ℕ} {p : Progress} {buf hold out : List �
 
   -- ---- the end of the input
 
-  abbrev same : Kept
-  same = kept_as p.account hold out
+  abbrev so_much : Kept
+  so_much = account_of input hold₀ out₀
 
-  abbrev piece : Kept
-  piece = entered same (take p.left buf)
-
-  ends_none : p.begun ≡ false → NoPackets ≡ end_of input hold₀ out₀
-  ends_none e =
-      ap (λ (t : Bool). if t then NoPackets else Ended.Account (whole_account input hold₀ out₀))
-      (sym (lt-ltb (length input) 188 (not_begun e)))
-
-  ends_as : p.begun ≡ true → Ended.Account (whole_account input hold₀ out₀) ≡ end_of input hold₀ out₀
-  ends_as e =
-      ap (λ (t : Bool). if t then NoPackets else Ended.Account (whole_account input hold₀ out₀))
-      (sym (le-ltb (length input) 188 (has_begun e)))
-
-  ends_whole : p.begun ≡ true → eqb p.left 0 ≡ true → same.account ≡ whole_account input hold₀ out₀
-  ends_whole e w =
-      x.the_account e
-      ∙ ap
-      (λ (t : Bool). if t then (account_of input hold₀ out₀).account else (entered (account_of input hold₀ out₀)
-      (rest_of input)).account)
-      (sym w ∙ ap (λ (n : ℕ). eqb n 0) x.left)
-
-  ends_cut : p.begun ≡ true → eqb p.left 0 ≡ false → piece.account ≡ whole_account input hold₀ out₀
-  ends_cut e w =
+  -- the piece that is left, if there is one, is the rest of the input
+  piece_entered : (with_piece p.left buf (kept_as so_much.account hold out)).account ≡ whole_account input hold₀ out₀
+  piece_entered =
       let rest : take p.left buf ≡ rest_of input =
       x.rest ∙ ap (λ (m : ℕ). drop (length input - m) input) x.left in
-      ap (λ (y : Kept). y.account)
-      (ap (λ (y : Kept). entered y (take p.left buf)) (kept_begun e)
-      ∙ ap (entered (account_of input hold₀ out₀)) rest)
-      ∙ ap
-      (λ (t : Bool). if t then (account_of input hold₀ out₀).account else (entered (account_of input hold₀ out₀)
-      (rest_of input)).account)
-      (sym w ∙ ap (λ (n : ℕ). eqb n 0) x.left)
+      (λ i. (if eqb (x.left i) 0 then kept_begun i else entered (kept_begun i) (rest i)).account)
+      ∙ out_of (eqb (length input % 188) 0)
+    where
+      out_of : (t : Bool) → (if t then so_much else entered so_much (rest_of input)).account
+          ≡ (if t then so_much.account else (entered so_much (rest_of input)).account)
+      out_of true = refl
+      out_of false = refl
 
   ends : ended_of (finished (state_as p buf hold out)).progress ≡ end_of input hold₀ out₀
-  ends = by p.begun (eqb p.left 0) refl refl
+  ends = by (leb 188 (length input)) refl
     where
-      by : (t u : Bool) → p.begun ≡ t → eqb p.left 0 ≡ u
+      by : (t : Bool) → leb 188 (length input) ≡ t
           → ended_of (finished (state_as p buf hold out)).progress ≡ end_of input hold₀ out₀
-      by true true e w = (λ i. ended_by Over (e i) (if e i then (if w i then same else piece) else same).account)
-          ∙ ap Ended.Account (ends_whole e w)
-          ∙ ends_as e
-      by true false e w = (λ i. ended_by Over (e i) (if e i then (if w i then same else piece) else same).account)
-          ∙ ap Ended.Account (ends_cut e w)
-          ∙ ends_as e
-      by false u e w = (λ i. ended_by Over (e i) (if e i then (if w i then same else piece) else same).account)
-          ∙ ends_none e
+      by true e =
+          let s : State = state_as p buf hold out in
+          let begun : 188 ≤ length input = leb-true 188 (length input) e in
+          (λ i. ended_of (finished_as s (last_piece (has_begun begun i) s)).progress)
+          ∙ ap (λ (a : Account). Ok (Some a)) piece_entered
+          ∙ ap (λ (t : Bool). if t then Ok None else Ok (Some (whole_account input hold₀ out₀)))
+          (sym (le-ltb (length input) 188 begun))
+      by false e =
+          let s : State = state_as p buf hold out in
+          let few : length input < 188 = leb-false 188 (length input) e in
+          (λ i. ended_of (finished_as s (last_piece (not_begun few i) s)).progress)
+          ∙ ap Ok (not_begun few)
+          ∙ ap (λ (t : Bool). if t then Ok None else Ok (Some (whole_account input hold₀ out₀)))
+          (sym (lt-ltb (length input) 188 few))
 
 -- before the first read
 reads_none : (hold out buf : List ℕ) → Reads [] hold out start_progress buf hold out
 reads_none hold out buf = record {
-  begun = refl;
   left = refl;
   rest = refl;
   the_hold = refl;
   the_out = refl;
-  the_account = λ e. absurd (true_not_false (sym e));
+  the_account = refl;
 }
 
 -- ---- all reads

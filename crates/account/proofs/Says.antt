@@ -4,7 +4,7 @@ use Rattle.std.proofs.Common.{◌≡◌, ℕ, zero, suc, ◌+◌, ◌-◌, ◌*�
 use mathlib.Core.List.{map-append, flatten}
 use lib.ListN.{length-map}
 use borrow.Author.Tests.{eqb-false}
-use Rattle.std.specs.Prelude.{if◌then◌else◌}
+use Rattle.std.specs.Prelude.{Some, None, Ok, if◌then◌else◌}
 use Rattle.wire.proofs.IfLaws.{if-case}
 use Rattle.packet.specs.Ruling.{Before, noneBefore, Carried, ruled_by}
 use Rattle.collector.specs.Rules.{Story}
@@ -23,8 +23,6 @@ use Rattle.account.specs.Lines.{packets_of, Cut, CutAt188, pid_in, lent, fares_i
 use Rattle.account.specs.declared.tally.Account.{Account}
 use Rattle.account.specs.declared.progress.Progress.{Progress}
 use Rattle.account.specs.declared.progress.Stage.TheVariants.{Over}
-use Rattle.account.specs.declared.progress.Ended.{Ended}
-use Rattle.account.specs.declared.progress.Ended.TheVariants.{NoPackets}
 use Rattle.account.proofs.Cuts.{entered_append, pid_front}
 use Rattle.account.proofs.Absorbed.{reads_end}
 use Rattle.account.proofs.RunOf.{calls_from, packets_are, runs, pid_stays, Tally, fares_by, tally_all, fares_are, taken_are}
@@ -205,8 +203,8 @@ module _ (input hold₀ out₀ : List ℕ) (enough : 188 ≤ length input) (hold
     run = run;
   }
 
-  whole_says : Says input (Ended.Account (whole_account input hold₀ out₀))
-  whole_says = subst (λ (a : Account). Says input (Ended.Account a)) (sym all_entered) (enough, is_run, lines)
+  whole_says : Says input (Ok (Some (whole_account input hold₀ out₀)))
+  whole_says = subst (λ (a : Account). Says input (Ok (Some a))) (sym all_entered) (enough, is_run, lines)
 
 -- ---- the program
 
@@ -217,7 +215,7 @@ rooms_are (one_more x w buf got l b) = rooms_are x
 
 end_says_lem : (input hold out : List ℕ) → length hold ≡ 4096 → length out ≡ 4280 → Says input (end_of input hold out)
 end_says_lem input hold out h o =
-    if-case (Says input) (ltb (length input) 188) {x = NoPackets} {y = Ended.Account (whole_account input hold out)}
+    if-case (Says input) (ltb (length input) 188) {x = Ok None} {y = Ok (Some (whole_account input hold out))}
     (λ e. ltb-true _ _ e) (λ e. whole_says input hold out (ltb-false _ _ e) h o)
 
 -- where reading is over, what the program says is so of the bytes that the reads brought

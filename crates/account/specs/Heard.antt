@@ -1,13 +1,13 @@
 -- What one read may come to, and what each outcome makes of all that is kept between reads: the progress, the buffer, the
 -- hold and the out room. Which bytes a read brings is the one thing that nothing here fixes.
-use Rattle.std.specs.Prelude.{◌≡◌, ℕ, zero, suc, ◌+◌, ◌-◌, ◌/◌, ◌%◌, ◌≤◌, min, Bool, true, false, List, ◌++◌, length, take, drop, ℤ, pos, negsuc, ◌==◌, nat_lt, if◌then◌else◌}
+use Rattle.std.specs.Prelude.{◌≡◌, ℕ, zero, suc, ◌+◌, ◌-◌, ◌/◌, ◌%◌, ◌≤◌, min, Bool, true, false, Option, Some, None, Result, Ok, Err, List, ◌++◌, length, take, drop, ℤ, pos, negsuc, ◌==◌, nat_lt, if◌then◌else◌}
 use Rattle.account.specs.Entered.{first_pid, fresh_account, Kept, kept_as, entered, entered_all, pieces}
 use Rattle.account.specs.declared.tally.Account.{Account}
 use Rattle.account.specs.declared.reading.Got.{Got}
 use Rattle.account.specs.declared.reading.Got.TheVariants.{Bytes, Again, End, Failed}
 use Rattle.account.specs.declared.progress.Progress.{Progress}
 use Rattle.account.specs.declared.progress.Stage.{Stage}
-use Rattle.account.specs.declared.progress.Ended.{Ended}
+use Rattle.account.specs.declared.progress.Failed as failure
 
 -- ---- what a read came to
 
@@ -57,16 +57,21 @@ pub record State : Type 0 where
 abbrev pub state_as : Progress → List ℕ → List ℕ → List ℕ → State
 state_as p buf hold out = record { progress = p; buf = buf; hold = hold; out = out }
 
-abbrev pub progress_as : Bool → ℕ → Account → Stage → Progress
-progress_as begun left a stage = record { begun = begun; left = left; account = a; stage = stage }
+abbrev pub progress_as : ℕ → Option Account → Stage → Progress
+progress_as left a stage = record { left = left; account = a; stage = stage }
 
 -- before the first read
 abbrev pub start_progress : Progress
-start_progress = progress_as false 0 (fresh_account 0) Stage.Reading
+start_progress = progress_as 0 None Stage.Reading
 
--- the account so far, or a fresh one for "the PID .. of the first" packet, which stands at the front of the bytes
+-- the account so far, or a fresh one for this PID
+abbrev pub account_or : Option Account → ℕ → Account
+account_or (Some a) pid = a
+account_or None pid = fresh_account pid
+
+-- "the PID .. of the first" packet, which stands at the front of the bytes
 abbrev pub account_for : Progress → List ℕ → Account
-account_for p bytes = if p.begun then p.account else fresh_account (first_pid bytes)
+account_for p bytes = account_or p.account (first_pid bytes)
 
 -- the n bytes from index from on, at the front; the bytes behind those stay
 abbrev pub to_front : List ℕ → ℕ → ℕ → List ℕ
@@ -74,12 +79,12 @@ to_front buf from n = take n (drop from buf) ++ drop n buf
 
 -- less than a packet is there: it stays where it is
 abbrev pub waits : ℕ → State → State
-waits n s = state_as (progress_as s.progress.begun n s.progress.account Stage.Reading) s.buf s.hold s.out
+waits n s = state_as (progress_as n s.progress.account Stage.Reading) s.buf s.hold s.out
 
 -- the whole packets among the first n bytes are entered, and what is left of them stands at the front
 abbrev pub moved : ℕ → List ℕ → Kept → State
 moved n buf k =
-    state_as (progress_as true (n % 188) k.account Stage.Reading) (to_front buf (n - n % 188) (n % 188)) k.hold k.out
+    state_as (progress_as (n % 188) (Some k.account) Stage.Reading) (to_front buf (n - n % 188) (n % 188)) k.hold k.out
 
 -- the buffer's first n bytes have come
 abbrev pub absorbed : ℕ → State → State
@@ -92,17 +97,21 @@ absorbed n s =
 abbrev pub with_piece : ℕ → List ℕ → Kept → Kept
 with_piece left buf k = if left == 0 then k else entered k (take left buf)
 
-abbrev pub last_piece : Progress → List ℕ → List ℕ → List ℕ → Kept
-last_piece p buf hold out =
-    if p.begun then with_piece p.left buf (kept_as p.account hold out) else kept_as p.account hold out
+-- the account and the rooms are these, and all else stays
+abbrev pub kept_in : State → Kept → State
+kept_in s k = state_as (progress_as s.progress.left (Some k.account) s.progress.stage) s.buf k.hold k.out
 
-abbrev pub finished_as : State → Kept → State
-finished_as s k =
-    state_as (progress_as s.progress.begun s.progress.left k.account Stage.Over) s.buf k.hold k.out
+-- before the first packet there is no account to enter a piece to
+abbrev pub last_piece : Option Account → State → State
+last_piece None s = s
+last_piece (Some a) s = kept_in s (with_piece s.progress.left s.buf (kept_as a s.hold s.out))
+
+abbrev pub finished_as : State → State → State
+finished_as s t = state_as (progress_as s.progress.left t.progress.account Stage.Over) s.buf t.hold t.out
 
 -- the input is at its end
 abbrev pub finished : State → State
-finished s = finished_as s (last_piece s.progress s.buf s.hold s.out)
+finished s = finished_as s (last_piece s.progress.account s)
 
 -- each outcome of a read, from the state with the buffer as the read left it
 abbrev pub heard_as : Got → State → State
@@ -110,7 +119,7 @@ heard_as (Bytes n) s = absorbed (s.progress.left + n) s
 heard_as Again s = s
 heard_as End s = finished s
 heard_as Failed s =
-    state_as (progress_as s.progress.begun s.progress.left s.progress.account Stage.Failed) s.buf s.hold s.out
+    state_as (progress_as s.progress.left s.progress.account Stage.Failed) s.buf s.hold s.out
 
 -- ---- when it is over
 
@@ -119,11 +128,15 @@ is_over Stage.Reading = false
 is_over Stage.Over = true
 is_over Stage.Failed = true
 
+-- no account where reading failed, or came to no end
+abbrev pub Ended : Type 0
+Ended = Result (Option Account) failure.Failed
+
 -- "input under 188 bytes prints only `no packets`"
-abbrev pub ended_by : Stage → Bool → Account → Ended
-ended_by Stage.Reading begun a = Ended.Failed
-ended_by Stage.Over begun a = if begun then Ended.Account a else Ended.NoPackets
-ended_by Stage.Failed begun a = Ended.Failed
+abbrev pub ended_by : Stage → Option Account → Ended
+ended_by Stage.Reading a = Err (record {})
+ended_by Stage.Over a = Ok a
+ended_by Stage.Failed a = Err (record {})
 
 abbrev pub ended_of : Progress → Ended
-ended_of p = ended_by p.stage p.begun p.account
+ended_of p = ended_by p.stage p.account

@@ -1,15 +1,13 @@
 -- The input as the reads brought it, one after the other.
-use Rattle.std.specs.Prelude.{◌≡◌, ℕ, suc, ◌-◌, ◌/◌, ◌%◌, ◌^◌, List, [], ◌++◌, length, drop, ◌==◌, nat_lt, if◌then◌else◌}
+use Rattle.std.specs.Prelude.{Some, None, Ok, ◌≡◌, ℕ, suc, ◌-◌, ◌/◌, ◌%◌, ◌^◌, List, [], ◌++◌, length, drop, ◌==◌, nat_lt, if◌then◌else◌}
 use Rattle.std.proofs.Math.Option.{Option, none, some}
 use Rattle.account.specs.Entered.{first_pid, fresh_account, Kept, kept_as, entered, entered_all, pieces}
-use Rattle.account.specs.Heard.{Behind, brought, State, state_as, start_progress, heard_as}
+use Rattle.account.specs.Heard.{Behind, brought, State, state_as, start_progress, heard_as, Ended}
 use Rattle.account.specs.declared.reading.Got.{Got}
 use Rattle.account.specs.declared.reading.Got.TheVariants.{End, Failed}
 use Rattle.account.specs.declared.progress.Progress.{Progress}
 use Rattle.account.specs.declared.progress.Stage.TheVariants.{Reading, Over}
 use Rattle.account.specs.declared.progress.Stage.TheVariants as Stage
-use Rattle.account.specs.declared.progress.Ended.{Ended}
-use Rattle.account.specs.declared.progress.Ended.TheVariants.{NoPackets}
 use Rattle.account.specs.declared.tally.Account.{Account}
 
 -- From the start, with a buffer of 65,536 bytes and rooms as small as the collector takes them: the bytes that the reads
@@ -62,4 +60,4 @@ whole_account input hold out =
 
 -- "input under 188 bytes prints only `no packets`"; else the account
 abbrev pub end_of : List ℕ → List ℕ → List ℕ → Ended
-end_of input hold out = if nat_lt (length input) 188 then NoPackets else Ended.Account (whole_account input hold out)
+end_of input hold out = if nat_lt (length input) 188 then Ok None else Ok (Some (whole_account input hold out))

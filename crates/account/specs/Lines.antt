@@ -1,6 +1,6 @@
 -- The account of an input from its bytes alone, by demand 3's statements: how each packet fares, and what becomes of each
 -- payload byte.
-use Rattle.std.specs.Prelude.{◌≡◌, ℕ, ◌+◌, ◌/◌, ◌%◌, ◌^◌, ◌<◌, ◌≤◌, List, [], ◌∷◌, ◌++◌, map, length, take, ◌≢◌, nat_eq, if◌then◌else◌}
+use Rattle.std.specs.Prelude.{Some, None, Ok, Err, ◌≡◌, ℕ, ◌+◌, ◌/◌, ◌%◌, ◌^◌, ◌<◌, ◌≤◌, List, [], ◌∷◌, ◌++◌, map, length, take, ◌≢◌, nat_eq, if◌then◌else◌}
 use mathlib.Core.List.{flatten}
 use Rattle.packet.specs.Header.{pid_of}
 use Rattle.packet.specs.Ruling.{noneBefore}
@@ -11,9 +11,9 @@ use Rattle.history.specs.History.{Byte, history_of}
 use Rattle.history.specs.Demand3.{delivered_in}
 use Rattle.history.specs.Run.{Promised, Call, Run, Fare, refused_by, repeated, taken, Lent, fares_from, ruled_taken}
 use Rattle.account.specs.Entered.{pieces}
+use Rattle.account.specs.Heard.{Ended}
 use Rattle.account.specs.Input.{rest_of}
 use Rattle.account.specs.declared.tally.Account.{Account}
-use Rattle.account.specs.declared.progress.Ended.{Ended}
 
 -- the packets of an input in order: each 188 bytes, and "a last piece under 188 bytes"
 abbrev pub packets_of : List ℕ → List (List ℕ)
@@ -100,6 +100,6 @@ pub record IsRun (input : List ℕ) (a : Account) : Type 0 where
 
 -- what the program says of an input that it has read to its end
 abbrev pub Says : List ℕ → Ended → Type 0
-Says input Ended.Failed = ⊥
-Says input Ended.NoPackets = length input < 188
-Says input (Ended.Account a) = (188 ≤ length input) × IsRun input a × Lines input a
+Says input (Err failed) = ⊥
+Says input (Ok None) = length input < 188
+Says input (Ok (Some a)) = (188 ≤ length input) × IsRun input a × Lines input a

@@ -7,7 +7,7 @@ mod progress;
 mod reading;
 mod tally;
 
-use progress::Ended;
+use progress::Failed;
 use std::io;
 use std::process::ExitCode;
 
@@ -18,14 +18,14 @@ fn main(rt: HostRuntime) -> io::Result<ExitCode> {
     let mut out = [0u8; 4280];
     let p = input::account_of(&mut source, &mut buf, &mut hold, &mut out);
     match progress::ending_of(p) {
-        Ended::Failed => {
+        Err(Failed) => {
             if let Some(e) = reading::failure_of(source) {
                 eprintln!(rt; "standard input: {e}")?;
             }
             return Ok(ExitCode::FAILURE);
         }
-        Ended::NoPackets => listing::no_packets(&rt)?,
-        Ended::Account(a) => listing::print(&rt, a)?,
+        Ok(None) => listing::no_packets(&rt)?,
+        Ok(Some(a)) => listing::print(&rt, a)?,
     }
     Ok(ExitCode::SUCCESS)
 }

@@ -2,20 +2,16 @@
 // read.
 ghost use Rattle.std.specs.Prelude.{◌≡◌, ◌+◌, ◌<◌, ◌≤◌, length};
 ghost use Rattle.account.specs.Entered.{first_pid, kept_as};
-ghost use Rattle.account.specs.Heard.{progress_as, start_progress, to_front, account_for, state_as, absorbed, last_piece, finished, heard_as, Fits, is_over, ended_of};
+ghost use Rattle.account.specs.Heard.{progress_as, start_progress, to_front, account_for, state_as, absorbed, with_piece, finished, heard_as, Fits, is_over, ended_of};
 ghost use Rattle.account.specs.declared.progress.Stage.TheVariants.{Reading};
 
 use crate::reading::{Got, OneRead};
 use crate::tally::Account;
 use crate::{reading, tally};
 
-// What reading came to: an error, fewer than 188 bytes in all, or the account.
+// No account: a read failed, or none met the end of the input.
 #[derive(Clone, Copy)]
-pub enum Ended {
-    Failed,
-    NoPackets,
-    Account(Account),
-}
+pub struct Failed;
 
 // Whether reading goes on, met the end of the input, or failed.
 #[derive(Clone, Copy, PartialEq, Eq)]
@@ -25,22 +21,20 @@ pub enum Stage {
     Failed,
 }
 
-// Whether a first packet came, the bytes at the front of the buffer that are not entered yet, the account, and the stage.
+// How many bytes at the front of the buffer are not entered yet, the account, none before the first packet, and the stage.
 // Only `start` and `heard` hand one out, so that reading can be over only because a read said so.
 #[derive(Clone, Copy)]
 pub struct Progress {
-    begun: bool,
     left: usize,
-    account: Account,
+    account: Option<Account>,
     stage: Stage,
 }
 
 // Reading goes on.
-fn going_on(begun: bool, left: usize, account: Account) -> Progress
-    ensures { result ≡ progress_as begun left account Reading }
+fn going_on(left: usize, account: Option<Account>) -> Progress
+    ensures { result ≡ progress_as left account Reading }
 {
     Progress {
-        begun,
         left,
         account,
         stage: Stage::Reading,
@@ -51,7 +45,7 @@ fn going_on(begun: bool, left: usize, account: Account) -> Progress
 pub fn start() -> Progress
     ensures { result ≡ start_progress }
 {
-    going_on(false, 0, tally::fresh(0))
+    going_on(0, None)
 }
 
 // The PID of the first 188 bytes, whatever they are.
@@ -76,10 +70,9 @@ fn account_for(p: Progress, bytes: &[u8]) -> Account
     requires { 188 ≤ length bytes.now }
     ensures { result ≡ account_for p bytes.now }
 {
-    if p.begun {
-        p.account
-    } else {
-        tally::fresh(first_pid(bytes))
+    match p.account {
+        Some(a) => a,
+        None => tally::fresh(first_pid(bytes)),
     }
 }
 
@@ -90,25 +83,25 @@ fn absorb(p: Progress, buf: &mut [u8], hold: &mut [u8], out: &mut [u8], n: usize
         ≡ absorbed n (state_as p buf.old hold.old out.old) }
 {
     if n < 188 {
-        return going_on(p.begun, n, p.account);
+        return going_on(n, p.account);
     }
     let a = account_for(p, buf);
     let account = tally::enter_all(a, hold, out, buf, n);
     let left = n % 188;
     to_front(buf, n - left, left);
-    going_on(true, left, account)
+    going_on(left, Some(account))
 }
 
 // "A last piece under 188 bytes counts as refused (41)"
-fn last_piece(p: Progress, buf: &[u8], hold: &mut [u8], out: &mut [u8]) -> Account
-    requires { p.left ≤ length buf.now }
+fn last_piece(a: Account, left: usize, buf: &[u8], hold: &mut [u8], out: &mut [u8]) -> Account
+    requires { left ≤ length buf.now }
     ensures { kept_as result hold.new out.new
-        ≡ last_piece p buf.now hold.old out.old }
+        ≡ with_piece left buf.now (kept_as a hold.old out.old) }
 {
-    if !p.begun || p.left == 0 {
-        return p.account;
+    if left == 0 {
+        return a;
     }
-    tally::enter(p.account, hold, out, &buf[..p.left])
+    tally::enter(a, hold, out, &buf[..left])
 }
 
 // The input is at its end.
@@ -117,7 +110,10 @@ fn finish(p: Progress, buf: &[u8], hold: &mut [u8], out: &mut [u8]) -> Progress
     ensures { state_as result buf.now hold.new out.new
         ≡ finished (state_as p buf.now hold.old out.old) }
 {
-    let account = last_piece(p, buf, hold, out);
+    let account = match p.account {
+        Some(a) => Some(last_piece(a, p.left, buf, hold, out)),
+        None => None,
+    };
     Progress {
         account,
         stage: Stage::Over,
@@ -162,12 +158,11 @@ pub fn is_over(p: Progress) -> bool
 }
 
 // "input under 188 bytes prints only `no packets`"
-pub fn ending_of(p: Progress) -> Ended
+pub fn ending_of(p: Progress) -> Result<Option<Account>, Failed>
     ensures { result ≡ ended_of p }
 {
     match p.stage {
-        Stage::Over if p.begun => Ended::Account(p.account),
-        Stage::Over => Ended::NoPackets,
-        Stage::Reading | Stage::Failed => Ended::Failed,
+        Stage::Over => Ok(p.account),
+        Stage::Reading | Stage::Failed => Err(Failed),
     }
 }

@@ -9,13 +9,13 @@ use Rattle.account.proofs.input.account_of.Goals.{After-read_behind-came}
 
 -- what the read says, at the place that was asked for
 behind : (r : After-read_behind-came)
-    → Behind r.loop-turns.p.left r.loop-turns.buf r.read_behind-came.new.buf r.read_behind-came.result.got
+    → Behind r.loop.p.left r.loop.buf r.read_behind-came.new.buf r.read_behind-came.result.got
 behind r =
-    subst (λ (n : ℕ). Behind n r.loop-turns.buf r.read_behind-came.new.buf r.read_behind-came.result.got) r.left_of.ensures
+    subst (λ (n : ℕ). Behind n r.loop.buf r.read_behind-came.new.buf r.read_behind-came.result.got) r.left_of.ensures
     r.read_behind-came.ensures
 
-pub loop-turns-init : goal.loop-turns-init
-loop-turns-init c =
+pub loop-init : goal.loop-init
+loop-init c =
     record {
       input = [];
       reads = 0;
@@ -30,7 +30,7 @@ loop-turns-init c =
 
 pub returns-then-is_over : goal.returns-then-is_over
 returns-then-is_over c =
-    let l = c.loop-turns in
+    let l = c.loop in
     record {
       input = l.invariant.input;
       reads = l.invariant.reads;
@@ -42,17 +42,17 @@ returns-then-is_over c =
 
 pub read_behind-came-requires : goal.read_behind-came-requires
 read_behind-came-requires c =
-    omega (arith, c.left_of.ensures, left_few c.loop-turns.invariant.heard, c.loop-turns.invariant.buf_long, c.requires.0)
+    omega (arith, c.left_of.ensures, left_few c.loop.invariant.heard, c.loop.invariant.buf_long, c.requires.0)
 
 pub heard-p-requires : goal.heard-p-requires
 heard-p-requires c =
     let r = (goal.at.heard-p-requires c).After-read_behind-came in
-    subst (Fits c.loop-turns.p.left c.read_behind-came.result.got) (sym c.read_behind-came.auto.buf) (behind r).fits
+    subst (Fits c.loop.p.left c.read_behind-came.result.got) (sym c.read_behind-came.auto.buf) (behind r).fits
 
-pub loop-turns-preserved : goal.loop-turns-preserved
-loop-turns-preserved c =
-    let r = (goal.at.loop-turns-preserved c).After-read_behind-came in
-    let l = c.loop-turns in
+pub loop-preserved : goal.loop-preserved
+loop-preserved c =
+    let r = (goal.at.loop-preserved c).After-read_behind-came in
+    let l = c.loop in
     record {
       input = l.invariant.input ++ brought l.p.left c.read_behind-came.new.buf c.read_behind-came.result.got;
       reads = suc l.invariant.reads;
@@ -70,12 +70,12 @@ loop-turns-preserved c =
 
 pub returns : goal.returns
 returns c =
-    let l = c.loop-turns in
+    let l = c.loop in
     record {
       input = l.invariant.input;
       reads = l.invariant.reads;
       state = state_as l.p l.buf l.hold l.out;
       heard = l.invariant.heard;
       progress_is = refl;
-      all_reads = λ e. omega (arith, l.invariant.count);
+      all_reads = λ e. omega (arith, l.invariant.count, c.loop-test.false);
     }
