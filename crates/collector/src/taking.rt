@@ -8,7 +8,7 @@ ghost use Rattle.collector.specs.Answer.{came};
 ghost use Rattle.collector.specs.Collected.{marked_by, outcome_after, outcome_of};
 ghost use Rattle.collector.specs.Inner.Stretch.{Small};
 ghost use Rattle.collector.specs.Inner.Payload.{Fit};
-ghost use Rattle.collector.specs.Inner.Taking.{kept_of, point_count, counted_of};
+ghost use Rattle.collector.specs.Inner.Taking.{kept_of, counted_of};
 
 use crate::stretch::Gain;
 use crate::{Passed, Record, Stepped, payload};
@@ -47,12 +47,6 @@ pub fn marked(rec: Record, splice: bool) -> Record
     }
 }
 
-fn point_count(start: bool) -> u32
-    ensures { result ≡ point_count start }
-{
-    if start { 1 } else { 0 }
-}
-
 // The record after a packet that is taken with payload, which ".. clears" the mark; broken bytes were in hand and are
 // broken off by a break in the counter or by the mark.
 fn counted(rec: Record, counter: u8, e: Gain, broken: usize, start: bool) -> Record
@@ -67,7 +61,7 @@ fn counted(rec: Record, counter: u8, e: Gain, broken: usize, start: bool) -> Rec
     Record {
         last: Some(counter),
         in_hand: e.in_hand,
-        pointer: rec.pointer.wrapping_add(point_count(start)),
+        pointer: rec.pointer.wrapping_add(u32::from(start)),
         accepted: rec.accepted.wrapping_add(accepted),
         rejected: rec.rejected.wrapping_add(rejected),
         broken: rec.broken.wrapping_add(lost),
