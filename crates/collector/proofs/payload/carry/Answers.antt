@@ -68,7 +68,16 @@ sections-b-requires c =
     let before : length (l k) ≡ size = l_long k in (
       omega (arith, i, behind),
       omega arith,
-      omega (arith, i, c.go_on-a.ensures.bytes, gone_bytes (not c.args.load.start) (h k) (l k), h_long k, before, behind, c.requires.from_past),
+      omega (
+        arith,
+        i,
+        c.go_on-a.ensures.bytes,
+        gone_bytes (not c.args.load.start) (h k) (l k),
+        h_long k,
+        before,
+        behind,
+        c.requires.from_past,
+      ),
     )
 
 pub both-requires : goal.both-requires
