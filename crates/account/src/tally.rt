@@ -68,11 +68,9 @@ pub fn enter_all(a: Account, hold: &mut [u8], out: &mut [u8], bytes: &[u8], n: u
         ≡ entered_all (kept_as a hold.old out.old) (pieces (n / 188) bytes.now) }
 {
     let mut b = a;
-    let mut i = 0;
-    while i + 188 <= n {
-        let e = i + 188;
-        b = enter(b, hold, out, &bytes[i..e]);
-        i = e;
+    let (packets, _) = bytes[..n].as_chunks::<188>();
+    for packet in packets {
+        b = enter(b, hold, out, packet);
     }
     b
 }

@@ -1,53 +1,40 @@
 -- `account::tally::enter_all` meets its contract: what is still to be entered leads from here to where it led from the start.
-use Rattle.std.proofs.Common.{◌≡◌, ℕ, suc, ◌+◌, ◌-◌, ◌/◌, ◌≤◌, List, take, drop, sym, ap, ◌∙◌, arith, drop-drop}
-use Rattle.account.specs.Entered.{Kept, kept_as, entered, entered_all, pieces}
-use Rattle.account.specs.declared.tally.Account.{Account}
-use Rattle.account.proofs.tally.enter_all.Invariants.{Going}
+use Rattle.std.proofs.Common.{◌≡◌, ℕ, zero, suc, ◌+◌, ◌/◌, ◌≤◌, List, ◌∷◌, length, take, drop, sym, refl, ap, ◌∙◌, arith, length-take-le, take-append-drop, drop_of_length-le}
+use Rattle.std.proofs.lemmas.List.{drop_more}
+use Rattle.std.specs.Simd.{first_chunks}
+use Rattle.account.specs.Entered.{Kept, kept_as, entered_all, pieces}
+use Rattle.account.proofs.Cuts.{pieces_front}
 use Rattle.account.proofs.tally.enter_all.Goals as goal
 
--- one packet more
-more : (k₀ : Kept) (bytes : List ℕ) (n : ℕ) (hold out : List ℕ) (b : Account) (i : ℕ) → Going k₀ bytes n hold out b i
-    → i + 188 ≤ n → (b' : Account) (hold' out' : List ℕ)
-    → kept_as b' hold' out' ≡ entered (kept_as b hold out) (take 188 (drop i bytes))
-    → Going k₀ bytes n hold' out' b' (i + 188)
-more k₀ bytes n hold out b i x k b' hold' out' e =
-    let one : (n - i) / 188 ≡ suc ((n - (i + 188)) / 188) = omega arith in
-    record {
-      few = k;
-      same =
-          x.same
-          ∙ ap (λ (m : ℕ). entered_all (kept_as b hold out) (pieces m (drop i bytes))) one
-          ∙ ap (λ (z : Kept). entered_all z (pieces ((n - (i + 188)) / 188) (drop 188 (drop i bytes)))) (sym e)
-          ∙ ap (λ (l : List ℕ). entered_all (kept_as b' hold' out') (pieces ((n - (i + 188)) / 188) l))
-          (drop-drop 188 i bytes);
-    }
+chunks_are : (k : ℕ) (l : List ℕ) → first_chunks 188 k l ≡ pieces k l
+chunks_are zero l = refl
+chunks_are (suc k) l = ap (λ (ps : List (List ℕ)). take 188 l ∷ ps) (chunks_are k (drop 188 l))
 
-pub loop-i-init : goal.loop-i-init
-loop-i-init c =
+-- the chunks of the first n bytes
+whole : (n : ℕ) (bytes : List ℕ) → n ≤ length bytes
+    → first_chunks 188 (length (take n bytes) / 188) (take n bytes) ≡ pieces (n / 188) bytes
+whole n bytes k =
+    let size : length (take n bytes) ≡ n = length-take-le n bytes k in
+    chunks_are (length (take n bytes) / 188) (take n bytes)
+    ∙ ap (λ (m : ℕ). pieces (m / 188) (take n bytes)) size
+    ∙ sym (pieces_front (n / 188) (take n bytes) (drop n bytes) (omega (arith, size)))
+    ∙ ap (pieces (n / 188)) (take-append-drop n bytes)
+
+pub loop-packet-init : goal.loop-packet-init
+loop-packet-init c =
     let a = c.args in
-    let all : a.n ≡ a.n - 0 = omega arith in
-    record {
-      few = omega arith;
-      same = ap (λ (m : ℕ). entered_all (kept_as a.a a.hold.now a.out.now) (pieces (m / 188) a.bytes.now)) all;
-    }
+    ap (entered_all (kept_as a.a a.hold.now a.out.now))
+    (sym (c.as_chunks.ensures.front ∙ whole a.n a.bytes.now c.requires))
 
-pub overflow_add-i : goal.overflow_add-i
-overflow_add-i c = omega (arith, c.loop-i.invariant.few)
-
-pub loop-i-preserved : goal.loop-i-preserved
-loop-i-preserved c =
-    let l = c.loop-i in
-    let one : l.i + 188 - l.i ≡ 188 = omega arith in
-    more (kept_as c.args.a c.args.hold.now c.args.out.now) c.args.bytes.now c.args.n l.hold l.out l.b l.i l.invariant
-    (omega arith) c.enter-b.result _ _
-    (c.enter-b.ensures ∙ ap (λ (m : ℕ). entered (kept_as l.b l.hold l.out) (take m (drop l.i c.args.bytes.now))) one)
+pub loop-packet-preserved : goal.loop-packet-preserved
+loop-packet-preserved c =
+    let l = c.loop-packet in
+    l.invariant
+    ∙ ap (entered_all (kept_as l.b l.hold l.out)) (drop_more c.as_chunks.result.0.now l.packet-index _ c.loop-packet-test.true)
+    ∙ ap (λ (k : Kept). entered_all k (drop (l.packet-index + 1) c.as_chunks.result.0.now)) (sym c.enter-b.ensures)
 
 pub returns : goal.returns
 returns c =
-    let a = c.args in
-    let none : (a.n - c.loop-i.i) / 188 ≡ 0 = omega arith in
-    sym (c.loop-i.invariant.same
-    ∙ ap
-    (λ (m : ℕ). entered_all (kept_as c.loop-i.b c.loop-i.hold c.loop-i.out)
-    (pieces m (drop c.loop-i.i a.bytes.now)))
-    none)
+    let l = c.loop-packet in
+    sym (l.invariant
+    ∙ ap (entered_all (kept_as l.b l.hold l.out)) (drop_of_length-le c.as_chunks.result.0.now (omega (arith, c.loop-packet-test.false))))
