@@ -30,7 +30,7 @@ pub struct Record {
 }
 
 #[repr(C)]
-#[derive(Clone, Copy)]
+#[derive(Clone, Copy, Default)]
 pub struct CollectAnswer {
     pub number: u32,
     // 1 for a repeated packet.
@@ -115,24 +115,20 @@ fn record_after(before: Record, rec: collector::Record) -> Record
 fn answer_says(answer: Answer) -> CollectAnswer
     ensures { result ≡ collect_says (told answer) }
 {
+    let none = CollectAnswer::default();
     match answer {
         Err(refusal) => CollectAnswer {
             number: refusal.number() as u32,
-            repeated: 0,
-            sections: 0,
-            size: 0,
+            ..none
         },
         Ok(Passed::Repeated) => CollectAnswer {
-            number: 0,
             repeated: 1,
-            sections: 0,
-            size: 0,
+            ..none
         },
         Ok(Passed::Taken { sections, bytes }) => CollectAnswer {
-            number: 0,
-            repeated: 0,
             sections,
             size: bytes,
+            ..none
         },
     }
 }

@@ -72,5 +72,5 @@ pub fn of_refusal(refusal: Refusal) -> u32
 pub fn of_flag(flag: bool) -> u8
     ensures { result ≡ bit flag }
 {
-    if flag { 1 } else { 0 }
+    u8::from(flag)
 }

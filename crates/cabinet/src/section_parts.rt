@@ -19,7 +19,7 @@ use parts::entries::{Entry, next_entry};
 use parts::names;
 use parts::opening::open;
 use parts::room::next_section;
-use tables::{Table, is_numbered, table_of};
+use tables::{Table, numbered, table_of};
 use wire::numbers::byte_at;
 
 // What stands before the loops and entries, by name; 0 for what the table does not have.
@@ -159,7 +159,7 @@ fn head_of(section: &[u8]) -> Head
     ensures { result ≡ head_of section.now }
 {
     let table_id = byte_at(section, 0);
-    if is_numbered(table_of(table_id)) {
+    if numbered(table_of(table_id)) {
         return numbered_head(section);
     }
     Head {

@@ -4,7 +4,7 @@ ghost use Rattle.search.specs.Search.{sought};
 ghost use Rattle.cabinet.specs.Search.{search_says};
 
 #[repr(C)]
-#[derive(Clone, Copy)]
+#[derive(Clone, Copy, Default)]
 pub struct SearchAnswer {
     pub number: u32,
     pub place: usize,
@@ -21,30 +21,20 @@ pub struct SearchAnswer {
 pub extern "C" fn lohitunga_search(section: &[u8], tag: u8) -> SearchAnswer
     ensures { result ≡ search_says (sought section.now tag) }
 {
+    let none = SearchAnswer::default();
     match search::search(section, tag) {
         Ok(Some(hit)) => SearchAnswer {
-            number: 0,
-            place: 0,
             found: 1,
             entry: hit.number,
             start: hit.start,
             size: hit.size,
+            ..none
         },
-        Ok(None) => SearchAnswer {
-            number: 0,
-            place: 0,
-            found: 0,
-            entry: 0,
-            start: 0,
-            size: 0,
-        },
+        Ok(None) => none,
         Err(refusal) => SearchAnswer {
             number: verdict::number(Err(refusal)) as u32,
             place: verdict::place(Err(refusal)),
-            found: 0,
-            entry: 0,
-            start: 0,
-            size: 0,
+            ..none
         },
     }
 }

@@ -6,7 +6,7 @@ ghost use Rattle.cabinet.specs.Walk.{walk_says};
 use loops::walk::step_from;
 
 #[repr(C)]
-#[derive(Clone, Copy)]
+#[derive(Clone, Copy, Default)]
 pub struct WalkAnswer {
     pub number: u32,
     pub place: usize,
@@ -25,34 +25,23 @@ pub extern "C" fn lohitunga_walk(bytes: &[u8], at: usize) -> WalkAnswer
     ensures { result ≡ walk_says at (step_at bytes.now at) }
 {
     let stepped = step_from(bytes, at);
-    let next = stepped.at;
+    let none = WalkAnswer {
+        next: stepped.at,
+        ..WalkAnswer::default()
+    };
     match stepped.step {
         Ok(Some(d)) => WalkAnswer {
-            number: 0,
-            place: 0,
             descriptor: 1,
             tag: d.tag,
             start: d.start,
             size: d.size,
-            next,
+            ..none
         },
-        Ok(None) => WalkAnswer {
-            number: 0,
-            place: 0,
-            descriptor: 0,
-            tag: 0,
-            start: 0,
-            size: 0,
-            next,
-        },
+        Ok(None) => none,
         Err(cut) => WalkAnswer {
             number: 9,
             place: cut.0,
-            descriptor: 0,
-            tag: 0,
-            start: 0,
-            size: 0,
-            next,
+            ..none
         },
     }
 }

@@ -5,3 +5,4 @@ pub mod FirstWrong
 pub mod Reported
 pub mod Unique
 pub mod SignedMinutes
+pub mod AnyAnswer

@@ -5,7 +5,7 @@
 ghost use Rattle.std.specs.Prelude.{◌≡◌};
 ghost use Rattle.head.specs.Head.{extension_in, version_in, is_current, number_in, last_in, has_no_sub_table};
 
-use tables::{is_numbered, table_of};
+use tables::{numbered, table_of};
 use wire::numbers::{byte_at, number16_at};
 
 pub mod sub_tables;
@@ -61,5 +61,5 @@ pub fn last_of(section: &[u8]) -> u8
 pub fn has_no_sub_table(section: &[u8]) -> bool
     ensures { result ≡ has_no_sub_table section.now }
 {
-    !is_numbered(table_of(byte_at(section, 0)))
+    !numbered(table_of(byte_at(section, 0)))
 }

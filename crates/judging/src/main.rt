@@ -33,12 +33,13 @@ fn tell_found(out: &mut impl Write, section: &[u8], tag: u8) -> io::Result<()> {
 
 fn tell(out: &mut impl Write, section: &[u8], tag: u8) -> io::Result<()> {
     let verdict = section::judge::judge(section);
-    if verdict::is_accepted(verdict) {
-        tell_found(out, section, tag)?;
-    } else {
-        word(out, b"refused")?;
-        number(out, wire::wide(verdict::number(verdict)))?;
-        number(out, verdict::place(verdict))?;
+    match verdict {
+        Ok(()) => tell_found(out, section, tag)?,
+        Err(_) => {
+            word(out, b"refused")?;
+            number(out, wire::wide(verdict::number(verdict)))?;
+            number(out, verdict::place(verdict))?;
+        }
     }
     word(out, b"\n")
 }

@@ -1,9 +1,10 @@
 // The tag and the length in front of a body. The body is what follows the first two bytes.
-ghost use Rattle.std.specs.Prelude.{◌≡◌};
+ghost use Rattle.std.specs.Prelude.{◌≡◌, length, drop};
 ghost use Rattle.layout.specs.Refusal.{lent, told};
 ghost use Rattle.layout.specs.Body.{framed, fixed};
 
 use super::Refusal;
+use wire::parts::after;
 use wire::wide;
 
 // 61, and 62 for the length byte.
@@ -38,4 +39,11 @@ pub fn sized(s: &[u8], tag: u8, n: usize) -> Result<&[u8], Refusal>
     } else {
         Err(Refusal::DoesNotFit)
     }
+}
+
+// How many bytes stand behind the first two, of any bytes.
+pub fn size(s: &[u8]) -> usize
+    ensures { result ≡ length (drop 2 s.now) }
+{
+    after(s, 2).len()
 }

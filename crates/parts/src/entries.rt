@@ -4,7 +4,7 @@ ghost use Rattle.tables.specs.Tables.{FixedTwo};
 ghost use Rattle.parts.specs.Entries.{entry_at, next_entry};
 
 use crate::{Part, is_within};
-use tables::{row_at, table_of};
+use tables::{row_for, table_of};
 
 #[derive(Clone, Copy)]
 pub struct Entry {
@@ -49,7 +49,7 @@ pub fn next_entry(section: &[u8], rest: Part) -> Option<Entry>
     ensures { result ≡ next_entry section.now rest }
 {
     if is_within(section, rest) {
-        let row = row_at(table_of(wire::numbers::byte_at(section, 0)));
+        let row = row_for(table_of(wire::numbers::byte_at(section, 0)));
         return entry_at(section, row.fixed, rest);
     }
     None

@@ -5,7 +5,7 @@ ghost use Rattle.parts.specs.Opening.{utc_of, top_of, entries_of, Opens};
 
 use crate::{Part, no_part};
 use section::judge::{before_crc, judge};
-use tables::{Row, Table, is_numbered, row_at, table_of};
+use tables::{Row, Table, numbered, row_for, table_of};
 use verdict::Refusal;
 
 #[derive(Clone, Copy)]
@@ -22,7 +22,7 @@ pub struct Opened {
 fn utc_of(table: Option<Table>) -> Part
     ensures { result ≡ utc_of (place_or_unknown table) }
 {
-    if is_numbered(table) {
+    if numbered(table) {
         return no_part();
     }
     Part { start: 3, size: 5 }
@@ -72,7 +72,7 @@ pub fn open(section: &[u8]) -> Result<Opened, Refusal>
 {
     judge(section)?;
     let table = table_of(wire::numbers::byte_at(section, 0));
-    let row = row_at(table);
+    let row = row_for(table);
     Ok(Opened {
         utc_time: utc_of(table),
         top: top_of(row, section),

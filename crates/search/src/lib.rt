@@ -11,7 +11,7 @@ ghost use Rattle.search.specs.Search.{none, told_hit, told_found, hit_in, hit_fr
 
 use loops::walk::step_at;
 use section::judge::{before_crc, judge};
-use tables::{Row, row_at, table_of};
+use tables::{Row, row_for, table_of};
 use verdict::Refusal;
 
 // A body by its loop's number, 0 for the top loop and else the entry's from 1, its place and its size.
@@ -105,7 +105,7 @@ pub fn search(section: &[u8], tag: u8) -> Found
     ensures { told_found result ≡ sought section.now tag }
 {
     judge(section)?;
-    let row = row_at(table_of(wire::numbers::byte_at(section, 0)));
+    let row = row_for(table_of(wire::numbers::byte_at(section, 0)));
     Ok(find_inside(row, before_crc(row, section), tag))
 }
 

@@ -53,7 +53,7 @@ fn held_by(row: [usize; 11], id: usize) -> bool
 }
 
 // The place of the row that has a table_id; past the last where none has.
-fn place_of(table_id: u8) -> usize
+pub fn row_of(table_id: u8) -> usize
     ensures { result ≡ row_of table_id }
 {
     let rows = ROWS;
@@ -69,11 +69,11 @@ fn place_of(table_id: u8) -> usize
 pub fn table_of(table_id: u8) -> Option<Table>
     ensures { place_or_unknown result ≡ row_of table_id }
 {
-    Table::at(place_of(table_id))
+    Table::at(row_of(table_id))
 }
 
-// NIT, SDT, BAT, EIT: tables with an extension, a version and section numbers.
-pub fn is_numbered(table: Option<Table>) -> bool
+// Whether there is a table, and it is numbered.
+pub fn numbered(table: Option<Table>) -> bool
     ensures { result ≡ is_numbered (place_or_unknown table) }
 {
     match table {
@@ -82,15 +82,29 @@ pub fn is_numbered(table: Option<Table>) -> bool
     }
 }
 
+// The same of the table whose row stands at a place.
+pub fn is_numbered(row: usize) -> bool
+    ensures { result ≡ is_numbered row }
+{
+    numbered(Table::at(row))
+}
+
 // What a table's row says beside its ids; zeros where there is none.
 #[tactic(auto, unfolding(crate::specs::Tables::cell))]
-pub fn row_at(table: Option<Table>) -> Row
+pub fn row_for(table: Option<Table>) -> Row
     ensures { result ≡ row_at (place_or_unknown table) }
 {
     match table {
         Some(table) => table.row(),
         None => beside_ids([0; 11]),
     }
+}
+
+// What the row at a place says; zeros past the last.
+pub fn row_at(i: usize) -> Row
+    ensures { result ≡ row_at i }
+{
+    row_for(Table::at(i))
 }
 
 fn beside_ids(row: [usize; 11]) -> Row
@@ -123,6 +137,7 @@ impl Table {
         }
     }
 
+    // NIT, SDT, BAT, EIT: tables with an extension, a version and section numbers.
     pub fn is_numbered(self) -> bool
         ensures { result ≡ is_numbered (place self) }
     {

@@ -15,17 +15,17 @@ use Rattle.search.proofs.search.Goals.{After-before_crc}
 -- The section is accepted, and its loops are those of its row.
 module _ (c : After-before_crc) where
   abbrev row : Row
-  row = c.row_at-row.result
+  row = c.row_for-row.result
 
   all_read : read c.args.section.now ≡ inside row row.before (drop row.before c.before_crc.result.now)
   all_read =
-      read_inside _ _ _ (c.row_at-row.ensures ∙ ap row_at (c.table_of.ensures ∙ ap row_of c.byte_at.ensures))
+      read_inside _ _ _ (c.row_for-row.ensures ∙ ap row_at (c.table_of.ensures ∙ ap row_of c.byte_at.ensures))
       c.before_crc.ensures (sym c.in_ok-judge.ensures)
 
 pub find_inside-requires : goal.find_inside-requires
 unfolding judged
 find_inside-requires c = (
-  subst (λ (r : Row). FixedTwo r.fixed) (sym c.row_at-row.ensures) (fixed_two _),
+  subst (λ (r : Row). FixedTwo r.fixed) (sym c.row_for-row.ensures) (fixed_two _),
   sym (ap answer (all_read (goal.at.find_inside-requires c).After-before_crc)) ∙ sym c.in_ok-judge.ensures,
 )
 

@@ -5,4 +5,4 @@ use Rattle.tables.proofs.RowLaws.{row_within}
 use Rattle.tables.proofs.table_of.Goals as goal
 
 pub returns : goal.returns
-returns c = c.at.ensures ∙ rw c.place_of.ensures (min-eq_left (row_within c.args.table_id))
+returns c = c.at.ensures ∙ rw c.row_of.ensures (min-eq_left (row_within c.args.table_id))

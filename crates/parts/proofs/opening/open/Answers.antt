@@ -3,7 +3,7 @@ use Rattle.parts.proofs.Fronts.{before_small}
 use Rattle.parts.proofs.opening.open.Goals as goal
 
 pub top_of-requires : goal.top_of-requires
-top_of-requires c = rw c.row_at-row.ensures (before_small _)
+top_of-requires c = rw c.row_for-row.ensures (before_small _)
 
 pub entries_of-requires : goal.entries_of-requires
-entries_of-requires c = rw c.row_at-row.ensures (before_small _)
+entries_of-requires c = rw c.row_for-row.ensures (before_small _)

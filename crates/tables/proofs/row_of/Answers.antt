@@ -1,10 +1,10 @@
--- `tables::place_of` meets its contract: the first row among those left is the first of all.
+-- `tables::row_of` meets its contract: the first row among those left is the first of all.
 use Prim.Native.Nat.{◌-◌}
 use mathlib.Core.Path.{◌≡◌, refl, ◌∙◌, sym}
 use native.Mathlib.Omega.{arith}
 use Rattle.tables.specs.Tables.{row_of}
 use Rattle.tables.proofs.FirstOf.{first_here, first_on, first_none}
-use Rattle.tables.proofs.place_of.Goals as goal
+use Rattle.tables.proofs.row_of.Goals as goal
 
 pub loop-i-init : goal.loop-i-init
 unfolding row_of
