@@ -5,10 +5,8 @@ use Prim.Native.Nat.{ℕ, ◌+◌, ◌-◌, ◌≤◌, ◌<◌}
 use native.Mathlib.Nat.{add_assoc}
 use native.Mathlib.Numerals.{add-one}
 use native.Mathlib.Omega.{arith}
-use borrow.Rule.Slice.PartMut.{put_mid}
 use lib.ListN.{length, take, drop, get_or, set, length-drop}
 use lib.Seq.{paste, paste-suc, get_or-drop, take-paste, drop-paste, take-take, take-add, take-append-add, drop-drop, length-take-le}
-use Rattle.std.proofs.lemmas.Slice.{put_mid-paste}
 
 -- one byte more
 pub one_more : (d dst src : List ℕ) (from at i : ℕ) → dst ≡ paste d at (drop from src) i → at + i < length d
@@ -19,13 +17,6 @@ one_more d dst src from at i e hd hs =
     ∙ ap (λ (v : ℕ). set (paste d at (drop from src) i) (at + i) v) (sym (get_or-drop from src i 0))
     ∙ paste-suc d at (drop from src) i 0 hd (omega (arith, length-drop from src))
     ∙ ap (paste d at (drop from src)) (sym (add-one i))
-
--- what stands in a part of d after a copy into it
-pub placed : (d s bytes : List ℕ) (at k n m : ℕ) → bytes ≡ take m s → k ≡ n → m ≡ n → n ≤ length s
-    → put_mid at k d bytes ≡ paste d at s n
-placed d s bytes at k n m e p q long =
-    put_mid-paste at k d bytes (take n s) n (e ∙ ap (λ (i : ℕ). take i s) q) (sym p) (sym (length-take-le n s long))
-    ∙ ap (λ (l : List ℕ). take at d ++ l ++ drop (at + n) d) (take-take n n s (omega arith))
 
 -- of a copy of i bytes, what stands before its byte j
 pub front : (d s : List ℕ) (at i j : ℕ) → at ≤ length d → i ≤ length s → j ≤ i

@@ -12,20 +12,20 @@ use Rattle.copy.proofs.Moves.{before, part}
 
 module _ (l : List ℕ) (from n to : ℕ) where
   module _ (low : to ≤ from) (fits : from + n ≤ length l) where
-    moves_down_yes : moves_down l from n to ≡ true
+    pub moves_down_yes : moves_down l from n to ≡ true
     unfolding moves_down
     moves_down_yes = rw (le-leb to from low, le-leb (from + n) (length l) fits)
 
-    moved_down_yes : moved_down l from n to ≡ paste l to (drop from l) n
+    pub moved_down_yes : moved_down l from n to ≡ paste l to (drop from l) n
     unfolding moved_down
     moved_down_yes = rw moves_down_yes
 
   module _ (high : from ≤ to) (fits : to + n ≤ length l) where
-    moves_up_yes : moves_up l from n to ≡ true
+    pub moves_up_yes : moves_up l from n to ≡ true
     unfolding moves_up
     moves_up_yes = rw (le-leb from to high, le-leb (to + n) (length l) fits)
 
-    moved_up_yes : movedUp l from n to ≡ paste l to (drop from l) n
+    pub moved_up_yes : movedUp l from n to ≡ paste l to (drop from l) n
     unfolding movedUp
     moved_up_yes = rw moves_up_yes
 

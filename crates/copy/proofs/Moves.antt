@@ -4,10 +4,9 @@ use mathlib.Core.List.{List, ◌++◌, append_assoc, append-nil}
 use Prim.Native.Nat.{ℕ, ◌+◌, ◌-◌, ◌≤◌}
 use native.Mathlib.Nat.{add_assoc}
 use native.Mathlib.Omega.{arith}
-use borrow.Rule.Slice.PartMut.{put_mid}
 use lib.ListN.{length, take, drop, replicate, length-drop, take-append-drop}
 use lib.Seq.{paste, take-paste, take-take, take-add, drop-drop, drop_at, drop-append-add, drop-append-le, length-take-le}
-use Rattle.copy.proofs.Blocks.{front, behind, placed, block_more}
+use Rattle.copy.proofs.Blocks.{front, behind, block_more}
 
 -- ---- through a room of their own: n bytes, read to its start and written from there
 
@@ -47,11 +46,11 @@ module _ (o : List ℕ) (from to : ℕ) (low : to ≤ from) where
       ∙ block_more o room o from to i i 32 (i + 32) is (omega arith) (omega arith) (omega arith) (omega arith) refl
 
   -- and the last one, which was read before any was written
-  pub down_ends : (room last : List ℕ) (i n k m : ℕ) → 32 ≤ n → from + n ≤ length o → i ≤ n → n - i ≤ 32
-      → room ≡ paste o to (drop from o) i → last ≡ take m (drop (from + (n - 32)) o) → k ≡ 32 → m ≡ 32
-      → put_mid (to + (n - 32)) k room last ≡ paste o to (drop from o) n
-  down_ends room last i n k m large fits le near is e p q =
-      placed room (drop (from + (n - 32)) o) last (to + (n - 32)) k 32 m e p q (omega (arith, length-drop (from + (n - 32)) o))
+  pub down_ends : (room last : List ℕ) (i n : ℕ) → 32 ≤ n → from + n ≤ length o → i ≤ n → n - i ≤ 32
+      → room ≡ paste o to (drop from o) i → last ≡ paste (replicate 32 0) 0 (drop (from + (n - 32)) o) 32
+      → paste room (to + (n - 32)) (drop 0 last) 32 ≡ paste o to (drop from o) n
+  down_ends room last i n large fits le near is e =
+      through_held o room last (from + (n - 32)) (to + (n - 32)) 32 32 (omega arith) e
       ∙ block_more o room o from to i (n - 32) 32 n is (omega arith) (omega arith) (omega arith) (omega arith) (omega arith)
 
 -- ---- up
@@ -155,13 +154,14 @@ module _ (o : List ℕ) (from to n : ℕ) (high : from ≤ to) (fits : to + n �
       ∙ up_more room i j (omega arith) (omega arith) (omega arith) le is
 
   -- and the first one, which was read before any was written
-  pub up_ends : (room first : List ℕ) (i k m : ℕ) → 32 ≤ n → i ≤ 32 → room ≡ paste o (to + i) (drop (from + i) o) (n - i)
-      → first ≡ take m (drop from o) → k ≡ 32 → m ≡ 32 → put_mid to k room first ≡ paste o to (drop from o) n
-  up_ends room first i k m large near is e p q =
+  pub up_ends : (room first : List ℕ) (i : ℕ) → 32 ≤ n → i ≤ 32 → room ≡ paste o (to + i) (drop (from + i) o) (n - i)
+      → first ≡ paste (replicate 32 0) 0 (drop from o) 32
+      → paste room to (drop 0 first) 32 ≡ paste o to (drop from o) n
+  up_ends room first i large near is e =
       let z : to + 0 ≡ to = omega arith in
       let w : from + 0 ≡ from = omega arith in
       let all : n - 0 ≡ n = omega arith in
-      placed room (drop from o) first to k 32 m e p q (omega (arith, length-drop from o))
+      through_held o room first from to 32 32 (omega arith) e
       ∙ ap (λ (j : ℕ). paste room j (drop from o) 32) (sym z)
       ∙ ap (λ (j : ℕ). paste room (to + 0) (drop j o) 32) (sym w)
       ∙ up_more room i 0 (omega arith) (omega arith) (omega arith) (omega arith) is

@@ -27,14 +27,14 @@ fn singly(src: &[u8], from: usize, n: usize, dst: &mut [u8], at: usize)
 }
 
 // A block of N. It is all read before any of it is written, so that the compiler may move it whole.
-#[tactic(auto, using(crate::proofs::Blocks::placed))]
+#[tactic(auto, using(crate::proofs::Moves::through_held))]
 fn block<const N: usize>(src: &[u8], from: usize, dst: &mut [u8], at: usize)
     requires { (from + N ≤ length src.now) × (at + N ≤ length dst.old) }
     ensures { dst.new ≡ paste dst.old at (drop from src.now) N }
 {
     let mut bytes = [0u8; N];
-    bytes.copy_from_slice(&src[from..from + N]);
-    dst[at..at + N].copy_from_slice(&bytes);
+    singly(src, from, N, &mut bytes, 0);
+    singly(&bytes, 0, N, dst, at);
 }
 
 // The last block ends where the bytes end, and may begin in the block before it.

@@ -24,11 +24,11 @@ pub fn down(room: &mut [u8], from: usize, n: usize, to: usize)
     ensures { room.new ≡ paste room.old to (drop from room.old) n }
 {
     let mut last = [0u8; 32];
-    last.copy_from_slice(&room[from + (n - 32)..from + n]);
+    singly(room, from + (n - 32), 32, &mut last, 0);
     for i in (0..n - 32).step_by(32) {
         few(room, from + i, 32, to + i);
     }
-    room[to + (n - 32)..to + n].copy_from_slice(&last);
+    singly(&last, 0, 32, room, to + (n - 32));
 }
 
 // Up, the last block first, and so the first one is read before any is written.
@@ -38,11 +38,11 @@ pub fn up(room: &mut [u8], from: usize, n: usize, to: usize)
     ensures { room.new ≡ paste room.old to (drop from room.old) n }
 {
     let mut first = [0u8; 32];
-    first.copy_from_slice(&room[from..from + 32]);
+    singly(room, from, 32, &mut first, 0);
     let mut i = n;
     while 32 < i {
         i -= 32;
         few(room, from + i, 32, to + i);
     }
-    room[to..to + 32].copy_from_slice(&first);
+    singly(&first, 0, 32, room, to);
 }

@@ -11,14 +11,14 @@ returns c =
     let a = c.args in
     let p = c.requires in
     let l = c.loop-i in
-    let last = c.copy_from_slice-2.ensures.after ∙ c.copy_from_slice.ensures.after in
-    elim c.loop-i-test.branch [
+    let last = c.singly.ensures in
+    c.singly-2.ensures
+    ∙ elim c.loop-i-test.branch [
       | else-loop-i-test w ↦
           rw w.room-is
-          (down_ends a.room.now a.from a.to p.1 l.room _ l.i a.n _ _ p.0 p.2 l.invariant.0 (omega arith) l.invariant.1 last
-          (omega arith) (omega arith))
+          (down_ends a.room.now a.from a.to p.1 l.room _ l.i a.n p.0 p.2 l.invariant.0 (omega arith) l.invariant.1 last)
       | then-loop-i-test+else-i-end-i-gt32 w ↦
           rw w.room-is
-          (down_ends a.room.now a.from a.to p.1 w.few.new.room _ (l.i + 32) a.n _ _ p.0 p.2 (omega arith) (omega arith)
-          (w.few.ensures ∙ down_on a.room.now a.from a.to p.1 l.room l.i (omega arith) l.invariant.1) last (omega arith) (omega arith))
+          (down_ends a.room.now a.from a.to p.1 w.few.new.room _ (l.i + 32) a.n p.0 p.2 (omega arith) (omega arith)
+          (w.few.ensures ∙ down_on a.room.now a.from a.to p.1 l.room l.i (omega arith) l.invariant.1) last)
     ]
