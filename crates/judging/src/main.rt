@@ -18,24 +18,18 @@ fn number(out: &mut impl Write, n: usize) -> io::Result<()> {
     write!(out, " {n}")
 }
 
-fn tell_found(out: &mut impl Write, section: &[u8], tag: u8) -> io::Result<()> {
+// The search judges the section, and refuses what the judge refuses.
+fn tell(out: &mut impl Write, section: &[u8], tag: u8) -> io::Result<()> {
     match search::search(section, tag) {
         Ok(Some(hit)) => {
             word(out, b"accepted, found")?;
             number(out, hit.number)?;
             number(out, hit.start)?;
-            number(out, hit.size)
+            number(out, hit.size)?;
         }
-        Ok(None) => word(out, b"accepted, none"),
-        Err(_) => word(out, b"refused by the search alone"),
-    }
-}
-
-fn tell(out: &mut impl Write, section: &[u8], tag: u8) -> io::Result<()> {
-    let verdict = section::judge::judge(section);
-    match verdict {
-        Ok(()) => tell_found(out, section, tag)?,
-        Err(_) => {
+        Ok(None) => word(out, b"accepted, none")?,
+        Err(refusal) => {
+            let verdict = Err(refusal);
             word(out, b"refused")?;
             number(out, wire::wide(verdict::number(verdict)))?;
             number(out, verdict::place(verdict))?;
