@@ -807,13 +807,13 @@ lohitunga_roll_answer lohitunga_roll_take(lohitunga_roll *roll, const uint8_t *s
 /* The stack that a call needs at most, in bytes below the caller's stack pointer, its return address included and that of memcpy and memset left out:
  *   lohitunga_roll_take                1,320
  *   lohitunga_collect                    712
- *   lohitunga_roll_ask                   648
  *   lohitunga_write_content              376
  *   lohitunga_write_local_time_offset    376
  *   lohitunga_write_parental_rating      376
  *   lohitunga_write_service_list         376
  *   lohitunga_to_section                 312
  *   lohitunga_to_sheet                   312
+ *   lohitunga_roll_ask                   304
  *   lohitunga_open                       264
  *   lohitunga_read_satellite             208
  *   lohitunga_search                     200
@@ -824,10 +824,9 @@ lohitunga_roll_answer lohitunga_roll_take(lohitunga_roll *roll, const uint8_t *s
  *   lohitunga_write_satellite            184
  *   lohitunga_write_terrestrial          184
  *   lohitunga_judge                      168
+ *   lohitunga_packets                    168
  *   lohitunga_write_short_event          168
- *   lohitunga_packets                    152
  *   lohitunga_write_service              152
- *   lohitunga_read_parental_rating       136
  *   lohitunga_read_service               136
  *   lohitunga_crc32                       56
  *   lohitunga_write_network_name          56

@@ -192,15 +192,14 @@ pub extern "C" fn lohitunga_read_parental_rating(
 ) -> ParentalRatingAnswer
     ensures { result ≡ parental_rating_answer (parental_rating descriptor.now index) }
 {
-    let none = ParentalRatingAnswer::default();
     match parental_rating::read(descriptor, index) {
         Ok(item) => ParentalRatingAnswer {
+            number: 0,
             item: parental_rating_of(item),
-            ..none
         },
         Err(why) => ParentalRatingAnswer {
             number: of_refusal(why),
-            ..none
+            item: ParentalRatingItem::default(),
         },
     }
 }

@@ -238,8 +238,8 @@ fn missing(
 }
 
 #[tactic(auto, using(crate::proofs::FlatMarks::marks_kept_all), unfolding(roll::specs::Roll::asked, crate::specs::Roll::roll_in))]
-fn asking(roll: Roll) -> RollAnswer
-    ensures { result ≡ roll_answer (asked (roll_in roll)) }
+fn asking(roll: &Roll) -> RollAnswer
+    ensures { result ≡ roll_answer (asked (roll_in roll.now)) }
 {
     if roll.begun != 0 {
         let flags = flags_in(&roll.came, true);
@@ -253,7 +253,7 @@ fn asking(roll: Roll) -> RollAnswer
 pub extern "C" fn lohitunga_roll_ask(roll: &Roll) -> RollAnswer
     ensures { result ≡ roll_answer (asked (roll_in roll.now)) }
 {
-    asking(*roll)
+    asking(roll)
 }
 
 // What the numbers keep beside the marks.
