@@ -15,9 +15,7 @@ returns-then-not-is_item c =
     c.if-not-is_item.true
 
 pub loop-i-preserved : goal.loop-i-preserved
-loop-i-preserved c =
-    row_passed _ _ _ _ _ c.loop-i.invariant c.loop-i-test.true c.sizes-k.ensures.row.0 c.after.ensures _ c.is_item.ensures
-    c.if-not-is_item.false
+loop-i-preserved c = search row_passed
 
 pub returns : goal.returns
 returns c = none_left _ _ _ _ c.loop-i.invariant (omega arith)
