@@ -33,6 +33,7 @@ fn year_length(year: u16) -> u16
     if is_leap(year) { 366 } else { 365 }
 }
 
+#[tactic(auto, using(crate::proofs::Months::by_the_list, crate::proofs::Months::a_day_more))]
 fn month_length(year: u16, month: u8) -> u16
     requires { (1 ≤ month) × (month ≤ 12) }
     ensures { result ≡ days_in year month }

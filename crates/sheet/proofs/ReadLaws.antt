@@ -95,11 +95,11 @@ follows_one f y (Ok b) h = cons_on f y [] refl h (follows_nil f)
 follows_one f y (Err e) h = cons_stopped f y [] refl (refl) h
 
 module _ {A : Type 0} (c : Form A) {s : List ℕ} {a : ℕ} where
-  follows_zero : Follows (times c 0) s a (Ok a)
+  pub follows_zero : Follows (times c 0) s a (Ok a)
   unfolding times_read
   follows_zero = nothing (times c 0) [] (λ s. refl)
 
-  follows_suc : (k : ℕ) {b : ℕ} {r : Reached} → Follows c s a (Ok b) → Follows (times c k) s b r
+  pub follows_suc : (k : ℕ) {b : ℕ} {r : Reached} → Follows c s a (Ok b) → Follows (times c k) s b r
       → Follows (times c (suc k)) s a r
   unfolding times_read
   follows_suc k = both c (times c k) (times c (suc k)) (λ b m. b ∷ m) (λ s. refl)

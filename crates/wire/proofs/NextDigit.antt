@@ -54,7 +54,7 @@ above_eight (suc m) i v h g =
     (eq-or-lt_of_le g)
 
 -- so that the first of the eight is at place n - 8
-eight : (n v : ℕ) → v < 2 ^ 32 → 8 ≤ n → bcd_of v n ≡ bcd_after (n - 8) 0 8 v
+pub eight : (n v : ℕ) → v < 2 ^ 32 → 8 ≤ n → bcd_of v n ≡ bcd_after (n - 8) 0 8 v
 unfolding bcd_of
 eight n v h g = let q : 0 + (n - 8) ≡ n - 8 = omega arith in above_eight n 0 v h g ∙ ap (λ (j : ℕ). bcd_after j 0 8 v) q
 

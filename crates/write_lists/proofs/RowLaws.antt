@@ -39,7 +39,7 @@ next_row k i zs = drop-drop k (k * i) zs ∙ ap (λ m. drop m zs) (sym (times_ne
 pub row_there : (k n i : ℕ) (zs : List ℤ) → k * n ≤ length zs → i < n → {j : ℕ} → j ≡ k → j * i ≤ length zs
 row_there k n i zs enough some e = rw e (omega (arith, mul-le-mul_left {m = i} {n = n} k (omega arith)))
 
-rows_behind : (k n : ℕ) (zs : List ℤ) → k * n ≤ length zs → 0 < n → k * (n - 1) ≤ length (drop k zs)
+pub rows_behind : (k n : ℕ) (zs : List ℤ) → k * n ≤ length zs → 0 < n → k * (n - 1) ≤ length (drop k zs)
 rows_behind k n zs enough some = omega (arith, times_first k n some, length-drop k zs)
 
 -- ---- are they items?
@@ -172,10 +172,10 @@ module _ (kind : Kind) where
         ∙ ahead.rest
 
     module _ (some : 0 < left) where
-      room_for : to + item_size kind ≤ length room
+      pub room_for : to + item_size kind ≤ length room
       room_for = omega (arith, ahead.fits, times_first (item_size kind) left some)
 
-      next_ahead : {room' : List ℕ} → room' ≡ put room to (bytes_or (piece_of kind row))
+      pub next_ahead : {room' : List ℕ} → room' ≡ put room to (bytes_or (piece_of kind row))
           → Ahead o all room' (drop (row_size kind) row) (left - 1) (to + item_size kind)
       next_ahead stored =
           let piece : List ℕ = bytes_or (piece_of kind row) in
